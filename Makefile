@@ -1,73 +1,80 @@
+# The SHA-256 of asm/PROVED.txt, which tools/generate writes here.
+PROVED = ddb820a960e605fef412ad37f1ce496345b7eed5ce0eda4d35a9a342d35b3def
 PREFIX ?= /usr/local
 LIBDIR ?= $(PREFIX)/lib
 INCLUDEDIR ?= $(PREFIX)/include
 MANDIR ?= $(PREFIX)/share/man
-DOCDIR = $(PREFIX)/share/doc/unix_path
-PROGRAM = crates/pathtool/out/pathtool
-LIBRARIES = $(if $(UNIX_PATH_LIB),$(dir $(UNIX_PATH_LIB)),crates/unix_path_c/out/)
-VERSION := $(shell sed -n 's/^.define UNIX_PATH_VERSION "\(.*\)"/\1/p' include/unix_path.h)
-MAJOR = $(firstword $(subst ., ,$(VERSION)))
-SHARED = libunix_path.so.$(VERSION).0
-SONAME = libunix_path.so.$(MAJOR)
-# What is put in place: with the program, with the library, and with both; and what was once put
-# there. What is filled in stands here as a file .in, and names no place but relative to its own.
-PROGRAM_FILES = $(PREFIX)/bin/pathtool $(MANDIR)/man1/pathtool.1
-FILLED = pkgconfig/unix_path.pc cmake/unix_path/unix_path-config.cmake \
-	cmake/unix_path/unix_path-config-version.cmake
-LIBRARY_FILES = $(INCLUDEDIR)/unix_path.h $(INCLUDEDIR)/unix_path.hpp \
-	$(addprefix $(LIBDIR)/,libunix_path.a $(FILLED))
-SHARED_FILES = $(addprefix $(LIBDIR)/,$(SHARED) $(SONAME) libunix_path.so)
-LICENCES = $(DOCDIR)/LICENSE-APACHE $(DOCDIR)/LICENSE-MIT
-FORMER_FILES = $(PREFIX)/lib/libunix_path_c.a $(PREFIX)/lib/pkgconfig/unix_path_shared.pc
-FILL = sed 's|@VERSION@|$(VERSION)|; s|@MAJOR@|$(MAJOR)|; s|@SHARED@|$(SHARED)|; \
-	s|@SONAME@|$(SONAME)|; s|@INCLUDE@|$(shell realpath -m --relative-to=$(LIBDIR) $(INCLUDEDIR))|'
+# rt proves and builds in crates/. If rt is missing, or UNIX_PATH_FROM is asm, the proved code of
+# asm/ is built in build/. UNIX_PATH_LIB names another archive; the other libraries are next to it.
+FROM := $(or $(UNIX_PATH_FROM),$(if $(shell command -v rt 2> /dev/null),rt,asm))
+ifeq ($(filter $(FROM),rt asm),)
+$(error UNIX_PATH_FROM is asm or rt, and not $(FROM))
+endif
+PROGRAM = $(if $(filter asm,$(FROM)),build,crates/pathtool/out)/pathtool
+BUILT = $(if $(filter asm,$(FROM)),build,crates/unix_path_c/out)/libunix_path.a
+LIBRARIES = $(dir $(or $(UNIX_PATH_LIB),$(BUILT)))
+# Tools find the program and the archive by these variables.
+OVER = UNIX_PATH_PROGRAM='$(abspath $(PROGRAM))' \
+	UNIX_PATH_LIB='$(abspath $(or $(UNIX_PATH_LIB),$(BUILT)))'
+INSTALL = PREFIX='$(PREFIX)' LIBDIR='$(LIBDIR)' INCLUDEDIR='$(INCLUDEDIR)' MANDIR='$(MANDIR)' \
+	DESTDIR='$(DESTDIR)' PROGRAM='$(PROGRAM)' LIBRARIES='$(LIBRARIES)' tools/install
 JOBS = crates/path_jobs/out/path_jobs
 SOURCES := $(shell find crates.txt crates -name out -prune -o \
 	\( -name '*.rt' -o -name '*.antt' -o -name crates.txt \) -print)
 
-.PHONY: help run check test lib test-faces install install_program install_library install_shared \
-	uninstall bench bench_tools count differential ends
+.PHONY: help run check test lib test-bindings install install_program install_library uninstall \
+	program_to_install library_to_install bench bench_tools count differential io-faults dist always
 
 help:
 	@echo 'make run           runs pathtool on standard input. Proves and builds it first'
-	@echo 'make check         proves every crate, some ten minutes; later only what changed'
-	@echo 'make test          the gate: every proof, test, wrong body and vector, from nothing;'
-	@echo '                   an hour; tools/gate_times.txt has its parts'
-	@echo 'make bench         times the calls and pathtool beside Rust. Beside other work, building'
-	@echo '                   both sides took 8 minutes, and timing them less than 12 more.'
+	@echo 'make check         proves every crate, in about ten minutes; later only what changed'
+	@echo 'make test          the full test suite: every proof, test, mutant and vector, from scratch;'
+	@echo '                   about an hour; tools/gate_times.txt has its parts'
+	@echo 'make bench         times the calls and pathtool, compared with Rust. During other work,'
+	@echo '                   building both sides took 8 minutes, and timing them less than 12.'
 	@echo '                   Proves and builds first; needs rustc. bench/calls/run lists its'
-	@echo '                   options, as in  make bench only=parts,eq corpus=deep reps=15'
+	@echo '                   options, for example  make bench only=parts,eq corpus=deep reps=15'
 	@echo 'make count         counts the instructions of the jobs, of pathtool and of the calls from'
-	@echo '                   C, half a minute, and compares them with bench/counts.txt.'
+	@echo '                   C in half a minute, and compares them with bench/counts.txt.'
 	@echo '                   Proves and builds first; needs valgrind and cc'
-	@echo 'make differential  asks pathtool and Rust the same random lines, a quarter of a minute'
-	@echo '                   for a million. Proves and builds first; needs rustc. Prints its'
-	@echo '                   seed, as in  make differential lines=1000000 seed=20'
-	@echo 'make ends          runs pathtool with ends that fail, little memory and large inputs.'
-	@echo '                   Proves and builds it first'
-	@echo 'make lib           builds the libraries for C, an archive and a shared one beside it, and'
-	@echo '                   prints where they stand. Proves them first'
-	@echo 'make test-faces    tries the calls from C and from Rust, and the examples over SQLite and'
+	@echo 'make differential  asks pathtool and Rust the same random lines, a million in a'
+	@echo '                   quarter of a minute. Proves and builds first; needs rustc. Prints its'
+	@echo '                   seed; for example  make differential lines=1000000 seed=20'
+	@echo 'make io-faults     runs pathtool with failing inputs and outputs, little memory and'
+	@echo '                   large inputs. Proves and builds it first'
+	@echo 'make lib           builds the libraries for C, an archive and a shared library, and'
+	@echo '                   prints the path. Proves them first'
+	@echo 'make test-bindings tests the calls from C and from Rust, and the examples with SQLite and'
 	@echo '                   etcd. Proves and builds the library first; needs cc, cargo for the'
 	@echo '                   calls from Rust, and for etcd pathtool, as make run builds it'
-	@echo 'make install       puts the program, its manual page, the libraries, their headers, their'
-	@echo '                   files for pkg-config and CMake, and the licences in place. Proves and'
-	@echo '                   builds first what was not proved from these sources; compares no times.'
-	@echo '                   install_program and install_library put one of the two, and'
-	@echo '                   make uninstall takes all away. The places are PREFIX (/usr/local),'
+	@echo 'make install       installs the program, its manual page, the libraries, their headers,'
+	@echo '                   their files for pkg-config and CMake, and the licences. Proves and'
+	@echo '                   builds first what was not proved from these sources; file times do'
+	@echo '                   not matter.'
+	@echo '                   install_program and install_library install one of the two, and'
+	@echo '                   make uninstall removes both. The directories are PREFIX (/usr/local),'
 	@echo '                   LIBDIR (PREFIX/lib), INCLUDEDIR (PREFIX/include) and MANDIR'
-	@echo '                   (PREFIX/share/man), all below DESTDIR, which stands in no file'
+	@echo '                   (PREFIX/share/man), all below DESTDIR, which no file contains'
+	@echo 'make dist          writes packages of the code in asm/ to dist/, in seconds. Needs'
+	@echo '                   Python 3.8 and gcc. tools/dist says more'
 	@echo
-	@echo 'A first proof of the program (run, bench, differential, ends, install_program) takes'
-	@echo 'four to seven minutes on four cores, and one of the library (lib, test-faces,'
+	@echo 'A first proof of the program (run, bench, differential, io-faults, install_program)'
+	@echo 'takes four to seven minutes on four cores, and one of the library (lib, test-bindings,'
 	@echo 'install_library) a little less; bench, count and install may prove a few crates more.'
-	@echo 'After that a change has its crate and those above it proved again.'
-	@echo 'Each needs rt, the command of the Rattle toolchain, in one of these versions:'
+	@echo 'After a change only its crate and the crates above it are proved again.'
+	@echo
+	@echo 'Without rt, or if UNIX_PATH_FROM is asm, nothing is proved: run, lib, install, io-faults,'
+	@echo 'differential and test-bindings build the proved code of asm/ with cc, in a second, and'
+	@echo 'test leaves out what needs rt. Everything else needs rt, the command of the Rattle'
+	@echo 'toolchain, in one of these versions:'
 	@sed 's/^/  /' rattle-toolchain
 
-# Proofs are told on standard error, so that standard output holds the answers alone.
-$(PROGRAM): $(SOURCES)
+# Proof progress goes to standard error, so that standard output has only the answers.
+crates/pathtool/out/pathtool: $(SOURCES)
 	@tools/build pathtool >&2
+
+build/pathtool: always
+	@tools/from_asm build
 
 run: $(PROGRAM)
 	@$(PROGRAM)
@@ -76,67 +83,64 @@ check:
 	@tools/prove
 
 test:
-	@tools/test
+	@tools/$(if $(filter asm,$(FROM)),test_without_rt,test)
 
-# The options of bench/calls/run that were given.
+# The options for bench/calls/run that were set.
 BENCH = $(foreach name,part only corpus reps folder,$(if $($(name)),'$(name)=$($(name))'))
 
 bench_tools:
 	@bench/calls/run --tools
 
-bench: bench_tools $(if $(filter face,$(part)),$(if $(UNIX_PATH_LIB),,lib),$(PROGRAM))
-	@bench/calls/run $(BENCH)
+bench: bench_tools $(if $(filter binding,$(part)),$(if $(UNIX_PATH_LIB),,lib),$(PROGRAM))
+	@$(OVER) bench/calls/run $(BENCH)
 
 $(JOBS): $(SOURCES)
 	@tools/build path_jobs >&2
 
 count: $(JOBS) $(PROGRAM) $(if $(UNIX_PATH_LIB),,lib)
-	@tools/count
+	@$(OVER) tools/count
 
 differential: $(PROGRAM)
-	@tools/differential $(if $(lines),'lines=$(lines)') $(if $(seed),'seed=$(seed)')
+	@$(OVER) tools/differential $(if $(lines),'lines=$(lines)') $(if $(seed),'seed=$(seed)')
 
-ends: $(PROGRAM)
-	@tools/ends
+io-faults: $(PROGRAM)
+	@$(OVER) tools/io_faults
 
 lib:
-	@tools/library
+	@$(if $(filter asm,$(FROM)),tools/from_asm build && echo $(BUILT),tools/library)
 
-test-faces: $(if $(UNIX_PATH_LIB),,lib)
-	@tools/test_faces
+test-bindings: $(if $(UNIX_PATH_LIB),,lib)
+	@$(OVER) tools/test_bindings
 
-install: install_program install_library
+install: program_to_install library_to_install
+	@$(INSTALL) program library
 
-# What is put in place was proved from the sources as they are: not files' times are compared, but
-# what they hold.
-install_program:
+install_program: program_to_install
+	@$(INSTALL) program
+
+install_library: library_to_install
+	@$(INSTALL) library
+
+uninstall:
+	@$(INSTALL) --remove
+
+dist:
+	@tools/dist
+
+# Everything that is installed was proved from the current sources. This is checked by the contents
+# of files, not by their times. What is built from asm/ is what was committed.
+ifeq ($(FROM),asm)
+program_to_install: $(PROGRAM)
+
+library_to_install: $(if $(UNIX_PATH_LIB),,$(PROGRAM))
+	@tools/from_asm check '$(LIBRARIES)'
+else
+program_to_install:
 	@tools/stamps.py check pathtool || tools/build pathtool >&2
 	@tools/stamps.py check pathtool
-	@install -D -m 755 -t $(DESTDIR)$(PREFIX)/bin $(PROGRAM)
-	@install -D -m 644 -t $(DESTDIR)$(MANDIR)/man1 man/pathtool.1
-	@install -D -m 644 -t $(DESTDIR)$(DOCDIR) LICENSE-APACHE LICENSE-MIT
-	@printf 'installed %s\n' $(addprefix $(DESTDIR),$(PROGRAM_FILES) $(LICENCES))
 
-install_library:
+library_to_install:
 	@$(if $(UNIX_PATH_LIB),,tools/library > /dev/null)
 	@tools/stamps.py check unix_path_c $(LIBRARIES) || \
 		{ echo '$(LIBRARIES) was not built from these sources' >&2; exit 1; }
-	@install -D -m 644 -t $(DESTDIR)$(INCLUDEDIR) include/unix_path.h include/unix_path.hpp
-	@install -D -m 644 -t $(DESTDIR)$(LIBDIR) $(LIBRARIES)libunix_path.a
-	@for file in $(FILLED); do \
-		$(FILL) $${file##*/}.in | install -D -m 644 /dev/stdin $(DESTDIR)$(LIBDIR)/$$file; done
-	@install -D -m 644 -t $(DESTDIR)$(DOCDIR) LICENSE-APACHE LICENSE-MIT
-	@printf 'installed %s\n' $(addprefix $(DESTDIR),$(LIBRARY_FILES) $(LICENCES))
-	@[ ! -e $(LIBRARIES)$(SHARED) ] || $(MAKE) -s install_shared
-
-# Where there is no cc, there is no shared library.
-install_shared:
-	@install -m 755 $(LIBRARIES)$(SHARED) $(DESTDIR)$(LIBDIR)
-	@ln -sf $(SHARED) $(DESTDIR)$(LIBDIR)/$(SONAME)
-	@ln -sf $(SONAME) $(DESTDIR)$(LIBDIR)/libunix_path.so
-	@printf 'installed %s\n' $(addprefix $(DESTDIR),$(SHARED_FILES))
-
-uninstall:
-	@rm -fv $(addprefix $(DESTDIR),$(PROGRAM_FILES) $(LIBRARY_FILES) $(SHARED_FILES) \
-		$(LICENCES) $(FORMER_FILES))
-	@rmdir $(DESTDIR)$(LIBDIR)/cmake/unix_path $(DESTDIR)$(DOCDIR) 2> /dev/null || true
+endif

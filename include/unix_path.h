@@ -1,82 +1,82 @@
 /* Unix paths as plain bytes: the calls of the library unix_path.
  *
- * A path is a pointer to its bytes and how many there are. It may hold any byte, NUL too, and
- * needs none behind it. Its parts are the root, a leading `.`, and then each name and each `..`;
- * paths are equal if their parts are. No file is touched, and `..` is a part like a name. Only
- * unix_path_resolved, unix_path_join_below, unix_path_way, unix_path_climbs and
- * unix_path_check_request let `..` undo the name before it.
+ * A path is a pointer to its bytes and their number. It may hold any byte, including NUL, and needs
+ * no NUL after it. Its components are the root, a leading `.`, and then each name and each `..`.
+ * Paths with the same components are equal. `..` is a component like a name, except in calls that
+ * resolve it. No file is touched.
  *
- * No call allocates, locks or reads global state, so all of them may be made in signal handlers and
- * from many threads. For example, with <stdio.h> and <string.h>:
+ * No call allocates, locks or reads global state, so all may be made in signal handlers and from
+ * many threads. This joins a request from outside so that it stays beneath a root, with <stdio.h>
+ * and <string.h>:
  *
  *     const char *root = "/srv", *request = "a/../b";
  *     char out[64];
- *     size_t room = sizeof out - 1;
- *     size_t length = unix_path_join_below(root, strlen(root), request, strlen(request), false,
- *                                          out, room);
+ *     size_t size = sizeof out - 1;
+ *     size_t length = unix_path_join_beneath(root, strlen(root), request, strlen(request), out,
+ *                                            size);
  *     if (!unix_path_is_length(length)) {
- *         puts("refused");
- *     } else if (length > room) {
+ *         puts(unix_path_error_name(length));
+ *     } else if (length > size) {
  *         puts("too long");
  *     } else {
  *         out[length] = '\0';
  *         puts(length == 0 ? "." : out);
  *     }
  *
- * It prints `/srv/b`. A server of files gives the path of a URL to unix_path_join_below with true
- * in the place of false, once that is decoded: no call here reads `%2e`. Then no request climbs,
- * since a `..` at the root stays there. A server that refuses such a request passes false, and the
- * path without its leading slashes. unix_path_error_name names an error.
+ * It prints `/srv/b`. For the request `../b` it would print UNIX_PATH_ESCAPES. A web server passes
+ * the decoded path of a URL to unix_path_join_in_root: no call decodes `%2e`. A table before
+ * unix_path_join_beneath compares the four joins.
  *
- * Link with what `pkg-config --libs unix_path` prints: the shared library, by -lunix_path. For the
- * archive add -static, or put -l:libunix_path.a in its place. A project of CMake finds the
- * package unix_path, with the targets unix_path::unix_path and, for the archive, unix_path::static.
- * The library needs nothing of the C library except memcpy, memmove, memset and memcmp.
+ * Link with what `pkg-config --libs unix_path` prints: -lunix_path, the shared library. For the
+ * archive add -static, or use -l:libunix_path.a instead. The CMake package unix_path has the
+ * targets unix_path::unix_path and, for the archive, unix_path::static. Of the C library only
+ * memcpy, memmove, memset and memcmp are needed.
  *
  * For every call:
- *  - It returns, whatever the bytes are, reads nothing but the bytes and records given to it, and
- *    keeps no pointer to them.
- *  - Lengths and places count bytes. A length is at most PTRDIFF_MAX.
- *  - A path of no bytes, and an out of no room, may have a null pointer; else no pointer is null.
- *    The calls of the library itself take none: a function of this header, which isn't proved,
- *    passes them another in its place. Without these functions, as through the library's symbols
- *    and where UNIX_PATH_EXPORTS_ONLY was defined before this file, no pointer is null at all.
- *    unix_path.hpp needs these functions.
- *  - What a call writes (walk, part, place, next, ancestor, chunk, out) overlaps nothing else that
- *    the call is given.
- *  - If a call answers false, the records that it would write to stay as they were.
  *
- * The calls with `out` return how many bytes their answer has. If that is at most out_length, the
- * answer stands at the beginning of out, and the bytes behind it stay as they were. Else nothing is
- * written, and a second call with room for as many bytes writes all of the answer. No answer ends
- * in a NUL: leave room for one and write it, as above, before an answer goes to the system, which
- * cuts it at each NUL byte that it holds. Each call below says whether its answer may hold one, and
- * unix_path_is_c_string whether it does.
+ *  - It returns, whatever the bytes are. It reads only the bytes and records passed to it, and
+ *    keeps no pointer.
+ *  - Lengths and indices count bytes. A length is at most PTRDIFF_MAX.
+ *  - No pointer may be null, except to a path of no bytes or an `out` of size 0. Functions of this
+ *    header replace such a null pointer before they make the call. These functions are not proved,
+ *    and unix_path.hpp needs them. A program that makes the calls without them, by the library's
+ *    symbols or with UNIX_PATH_EXPORTS_ONLY defined before this file, must pass no null pointer at
+ *    all.
+ *  - What a call writes (walk, part, span, next, ancestor, chunk, out) overlaps nothing else that
+ *    it is passed.
+ *  - If it returns false, the records that it would write are unchanged.
  *
- * An answer that is no length is an error, and then nothing is written:
+ * A call with `out` returns the length of its result. If that is at most out_length, the result is
+ * at the beginning of out, and the bytes after it are unchanged. Otherwise nothing is written, and
+ * a second call with an out of that length writes all of the result.
  *
- *     UNIX_PATH_SEPARATOR        unix_path_with_extension, unix_path_with_added_extension: the
- *                                extension has a slash
- *     UNIX_PATH_ESCAPES          unix_path_join_below: the request climbs; unix_path_join_verbatim:
- *                                it has a root or a `..`
- *     UNIX_PATH_NUL_IN_REQUEST   unix_path_join_below, unix_path_join_verbatim: the request has a
- *                                NUL byte
- *     UNIX_PATH_NOT_A_KEY        unix_path_from_key, unix_path_key_end: no path has this key
- *     UNIX_PATH_NO_END           unix_path_key_end: the key is empty, and every key in its range
- *     UNIX_PATH_NO_WAY           unix_path_way: no path without a root leads there
- *     UNIX_PATH_TOO_LONG         unix_path_to_string_lossy, unix_path_with_extension,
- *                                unix_path_with_added_extension, unix_path_join_below,
- *                                unix_path_join_verbatim, unix_path_way, unix_path_from_key: the
- *                                answer has more than PTRDIFF_MAX bytes
+ * No call appends a NUL: leave a byte for one and write it, as above, before a result goes to the
+ * system. The system cuts a path at its first NUL. The text before unix_path_join says which
+ * results may hold one, and unix_path_is_c_string whether one does. An empty path means the current
+ * directory: pass `.` to the system instead.
  *
- * All are greater than the length of any buffer, and unix_path_is_length tells them from lengths.
- * None is SIZE_MAX: one more than an error is no size that malloc gives.
+ * A call with `out` may also return an error code, for which unix_path_is_length is false. Then
+ * nothing is written:
  *
- * The attributes by which a compiler warns of a misuse are left out if UNIX_PATH_NO_ATTRIBUTES was
- * defined before this file, which needs C11 or C++11. If UNIX_PATH_EXPORTS_ONLY was, this file has
- * records, numbers and the calls' plain declarations alone, as tools want that read it for another
- * language.
- */
+ *     code                         the call returns it if and only if
+ *     UNIX_PATH_ESCAPES            _join_beneath: the request escapes (see unix_path_escapes);
+ *                                  _join_verbatim: the request has a root or any `..`
+ *     UNIX_PATH_NUL_IN_REQUEST     _join_beneath, _join_in_root, _join_verbatim: the request has
+ *                                  a NUL byte, and the code is not UNIX_PATH_ESCAPES
+ *     UNIX_PATH_SEPARATOR          _with_extension, _with_added_extension: the extension has a
+ *                                  slash
+ *     UNIX_PATH_NO_RELATIVE_PATH   _relative_path: no path without a root leads there
+ *     UNIX_PATH_NOT_A_KEY          _from_key, _key_range_end: no path has this key
+ *     UNIX_PATH_NO_END             _key_range_end: the key is empty
+ *     UNIX_PATH_TOO_LONG           all of these except _key_range_end, and _to_string_lossy: the
+ *                                  result has more than PTRDIFF_MAX bytes, as no buffer has
+ *
+ * All are greater than the length of any buffer. None is SIZE_MAX: a program that adds 1 to one by
+ * mistake does not ask malloc for 0 bytes.
+ *
+ * This file needs C11 or C++11. Defined before it, UNIX_PATH_NO_ATTRIBUTES leaves out the
+ * attributes by which compilers warn of misuses, and UNIX_PATH_EXPORTS_ONLY all except records,
+ * numbers and plain declarations, for tools that read it for another language. */
 #ifndef UNIX_PATH_H
 #define UNIX_PATH_H
 
@@ -84,13 +84,14 @@
 #include <stddef.h>
 #include <stdint.h>
 
-/* The version. While its first number stays, no call goes, and none changes its type or what it
- * answers, nor does a record or a number of this file: a program that was built with an older
- * version runs with the shared library of a newer one. A program isn't loaded with a shared library
- * that lacks one of its calls, nor with one whose first number is another. */
+/* The version. While its first number is the same, no call, record or number of this file is
+ * removed or changed, nor what a call returns: a program built with an older version runs with a
+ * newer shared library. A program is not loaded with a shared library that lacks one of its calls
+ * or has another first number. */
 #define UNIX_PATH_VERSION_MAJOR 1
 #define UNIX_PATH_VERSION_MINOR 1
 #define UNIX_PATH_VERSION "1.1"
+#define UNIX_PATH_VERSION_NUMBER 0x010100
 
 #if SIZE_MAX != UINT64_MAX
 #error "the library is for lengths of 64 bits"
@@ -100,35 +101,24 @@
 extern "C" {
 #endif
 
-/* What unix_path_with_extension and unix_path_with_added_extension answer if the extension has a
- * slash. */
+/* The error codes of the table above. */
 #define UNIX_PATH_SEPARATOR (SIZE_MAX - 6)
-/* What unix_path_join_below answers if the request climbs, and unix_path_join_verbatim if it has a
- * root or a `..`. */
 #define UNIX_PATH_ESCAPES (SIZE_MAX - 1)
-/* What unix_path_join_below and unix_path_join_verbatim answer if the request has a NUL byte and
- * isn't refused as UNIX_PATH_ESCAPES. */
 #define UNIX_PATH_NUL_IN_REQUEST (SIZE_MAX - 3)
-/* What unix_path_from_key and unix_path_key_end answer if the bytes are the key of no path. */
 #define UNIX_PATH_NOT_A_KEY (SIZE_MAX - 4)
-/* What unix_path_key_end answers to the empty key, whose range has all keys and no end. */
 #define UNIX_PATH_NO_END (SIZE_MAX - 5)
-/* What unix_path_way answers if no path without a root leads from the first path to the other. */
-#define UNIX_PATH_NO_WAY (SIZE_MAX - 7)
-/* What the calls named above answer in place of a length above PTRDIFF_MAX, which is SIZE_MAX / 2,
- * and which no buffer has. unix_path_key_end, the only other call that may refuse, has no answer
- * that is longer than what it is given. */
+#define UNIX_PATH_NO_RELATIVE_PATH (SIZE_MAX - 7)
+/* SIZE_MAX / 2 is PTRDIFF_MAX. */
 #define UNIX_PATH_TOO_LONG (SIZE_MAX / 2 + 1)
 
-/* What is left of a walk over a path: the bytes from front up to back. Nothing is left if front is
- * greater than back, or back is greater than the path's length: a record may hold anything. One
- * that no call wrote is safe too: its parts are the parts of its bytes as a path of their own, and
- * from 1 to 3 in `a/b` these are the root and `b`. */
+/* A walk over a path. Its rest is the bytes from index front up to back, as a path of their own:
+ * from 1 to 3 in `a/b`, the root and `b`. The rest is empty if front is greater than back, or if
+ * back is greater than the path's length. Any two numbers are safe, even if no call wrote them. */
 typedef struct {
     size_t front, back;
 } unix_path_walk;
 
-/* The kind of a part: no call gives another number. */
+/* The kinds of components. There are no others. */
 enum {
     UNIX_PATH_ROOT_DIR = 0,
     UNIX_PATH_CUR_DIR = 1,
@@ -136,7 +126,7 @@ enum {
     UNIX_PATH_NORMAL = 3
 };
 
-/* What unix_path_check_request returns: no other number. */
+/* The results of unix_path_check_request. There are no others. */
 enum {
     UNIX_PATH_REQUEST_OK = 0,
     UNIX_PATH_REQUEST_HAS_ROOT = 1,
@@ -144,25 +134,30 @@ enum {
     UNIX_PATH_REQUEST_HAS_NUL = 3
 };
 
-/* A part of a path: where its bytes begin in the path, how many they are, and its kind. */
+/* A component of a path: the index of its first byte, its length, and its kind. */
 typedef struct {
     size_t start, length;
     uint32_t kind;
 } unix_path_part;
 
-/* A place in a path: `length` bytes from `start` on, all inside the path. */
+/* A span of a path: the `length` bytes at index `start`, all inside the path. */
 typedef struct {
     size_t start, length;
-} unix_path_place;
+} unix_path_span;
 
-/* A chunk of a path: valid_length bytes of UTF-8 from `start` on, and behind them broken_length
- * bytes that are none. */
+/* A chunk of a path: valid_length bytes of valid UTF-8 at index `start`, and then broken_length
+ * invalid bytes, at most 3. Only the last chunk can have no invalid bytes. */
 typedef struct {
     size_t start, valid_length, broken_length;
 } unix_path_chunk;
 
-/* Walks. The parts taken in front, those that are left and those taken behind are the path's
- * parts, however the calls are mixed. This prints each part:
+/* Returns the version of the loaded library: 65536 * major + 256 * minor + patch. The library is
+ * older than this file if this number is less than UNIX_PATH_VERSION_NUMBER. */
+uint32_t unix_path_version(void);
+
+/* Walks. The components taken from the front, those of the rest, and those taken from the back are
+ * together the path's components, however the calls are mixed. A call that returns bool returns
+ * false if nothing is left. This prints each component:
  *
  *     unix_path_walk walk;
  *     unix_path_part part;
@@ -173,226 +168,256 @@ typedef struct {
  *     }
  */
 
-/* Begins a walk over the whole path, from 0 to the end of its last part. A record that holds 0 and
- * the path's length begins one too. */
+/* Begins a walk over the whole path, from 0 to the end of its last component. A record whose front
+ * is 0 and whose back is the path's length is such a walk too. */
 void unix_path_components(const void *path, size_t path_length, unix_path_walk *walk);
 
-/* Takes the first part that is left; false if none is. For `/a` it gives the root, which is the
- * byte `/`, then `a`. */
+/* Takes the first component of the rest. For `/a` it is the root, which is the byte `/`, and then
+ * `a`. */
 bool unix_path_next(const void *path, size_t path_length, unix_path_walk *walk,
                     unix_path_part *part);
 
-/* Takes the last part that is left; false if none is. For `/a` it gives `a`, then the root. */
+/* Takes the last component of the rest. For `/a` it is `a`, and then the root. */
 bool unix_path_next_back(const void *path, size_t path_length, unix_path_walk *walk,
                          unix_path_part *part);
 
-/* The place of the parts that are left, from the first to the end of the last. Of `a/./b/` it is
- * `a/./b` before any part is taken, and `b` after the first. */
+/* Writes the span of the rest, from its first component to the end of its last. For `a/./b/` it is
+ * `a/./b` at first, and `b` after one component is taken from the front. */
 void unix_path_as_path(const void *path, size_t path_length, const unix_path_walk *walk,
-                       unix_path_place *place);
+                       unix_path_span *span);
 
-/* Gives the next of the path's ancestors: the path itself, its parent, the parent of that, and so
- * on; false if none is left. next is how many bytes it has: the path's length for the first, and
- * SIZE_MAX once none is left. None is left either if next is any other number greater than the
- * path's length. For `../a` they are the path's first 4 bytes, then 2, then 0. */
+/* Writes the next ancestor: the path, its parent, the parent's parent, and so on. `next` is the
+ * length of the ancestor that this call writes. Set it to the path's length before the first call.
+ * It is SIZE_MAX once no ancestor is left. Any other number above the path's length also means that
+ * none is left. The ancestors of `../a` are its first 4, 2 and 0 bytes. */
 bool unix_path_next_ancestor(const void *path, size_t path_length, size_t *next,
-                             unix_path_place *ancestor);
+                             unix_path_span *ancestor);
 
-/* Gives the next chunk of the path: UTF-8 as far as it goes, and the broken bytes behind it, at
- * most 3, for which unix_path_to_string_lossy has one U+FFFD; false if none is left. next is where
- * it begins: 0 for the first, and the path's length once none is left. None is left either if next
- * is greater. Only the last chunk can have no broken bytes. For 61 FF 62 it gives `a` with FF, then
- * `b` with nothing. */
+/* Writes the next chunk: the longest run of valid UTF-8, and the invalid bytes after it, which
+ * unix_path_to_string_lossy replaces by one U+FFFD. `next` is the index of the chunk that this call
+ * writes. Set it to 0 before the first call. It is the path's length once no chunk is left. Any
+ * greater number also means that none is left. The chunks of 61 FF 62 are `a` with FF, and `b`
+ * without invalid bytes. */
 bool unix_path_next_chunk(const void *path, size_t path_length, size_t *next,
                           unix_path_chunk *chunk);
 
-/* Places. An answer of no bytes stands somewhere in the path. No NUL stands behind a place: copy
- * what goes to the system. A parent or a rest of no bytes stands for the current directory. */
+/* Calls that find a span of the path. An empty span may start anywhere in the path. A span is not
+ * followed by a NUL: copy it before it goes to the system. */
 
-/* The path without its last part; false for the root and for the empty path. It begins where the
- * path begins. Of `/a//b/` it is `/a`, and of `a` it is empty. */
-bool unix_path_parent(const void *path, size_t path_length, unix_path_place *place);
+/* Finds the parent: the path without its last component, as a prefix of the path. Returns false for
+ * the root and the empty path. For `/a//b/` it is `/a`, and for `a` it is empty. */
+bool unix_path_parent(const void *path, size_t path_length, unix_path_span *span);
 
-/* The last part if it is a name; else false. Of `a/b.txt/.` it is `b.txt`. */
-bool unix_path_file_name(const void *path, size_t path_length, unix_path_place *place);
+/* Finds the last component. Returns false if it is not a name. For `a/b.txt/.` it is `b.txt`. */
+bool unix_path_file_name(const void *path, size_t path_length, unix_path_span *span);
 
-/* The file name up to its last dot; all of it if that dot is its first byte or there is none.
- * False if there is no file name. Of `a.tar.gz` it is `a.tar`, and of `.a` it is `.a`. */
-bool unix_path_file_stem(const void *path, size_t path_length, unix_path_place *place);
+/* Finds the file name up to its last dot, or all of it if there is no dot. This call and the next
+ * two ignore a dot at the file name's beginning, and return false if there is no file name:
+ *
+ *     file name    file_stem    extension    file_prefix
+ *     a.tar.gz     a.tar        gz           a
+ *     .a.rs        .a           rs           .a
+ *     a.           a            (empty)      a
+ *     .a           .a           false        .a
+ */
+bool unix_path_file_stem(const void *path, size_t path_length, unix_path_span *span);
 
-/* The file name behind its last dot; false if that dot is its first byte, or there is no dot or no
- * file name. Of `a.tar.gz` it is `gz`, and of `a.` it has no bytes. */
-bool unix_path_extension(const void *path, size_t path_length, unix_path_place *place);
+/* Finds the file name after its last dot. Returns false if there is no dot. See
+ * unix_path_file_stem. */
+bool unix_path_extension(const void *path, size_t path_length, unix_path_span *span);
 
-/* The file name up to its first dot behind its first byte; all of it if there is none. False if
- * there is no file name. Of `a.tar.gz` it is `a`, and of `.a.rs` it is `.a`. */
-bool unix_path_file_prefix(const void *path, size_t path_length, unix_path_place *place);
+/* Finds the file name up to its first dot, or all of it if there is no dot. See
+ * unix_path_file_stem. */
+bool unix_path_file_prefix(const void *path, size_t path_length, unix_path_span *span);
 
-/* What follows base in the path; false if the path doesn't start with base. Of `/a//b/` and
- * `/a` it is `b`, and of `/dest/../etc` and `/dest` it is `../etc`: see unix_path_starts_with. */
+/* Finds what follows base. Returns false if the path does not start with base. For `/a//b/` and
+ * `/a` it is `b`, and for `/dest/../etc` and `/dest` it is `../etc`: see unix_path_starts_with. */
 bool unix_path_strip_prefix(const void *path, size_t path_length, const void *base,
-                            size_t base_length, unix_path_place *place);
+                            size_t base_length, unix_path_span *span);
 
-/* Questions. */
+/* Questions. `Returns true if` means if and only if. */
 
-/* Whether the parts of base begin those of path: `/etc/passwd` starts with `/etc/`, and not with
- * `/e`. `..` is a part like a name, so `/dest/../etc` starts with `/dest`: a join that starts with
- * its root may lead out of it. Join a path from outside by unix_path_join_below. */
+/* Returns true if the path begins with the components of base: `/etc/passwd` starts with `/etc/`,
+ * but not with `/e`. `/dest/../etc` starts with `/dest`: a join that starts with its root may still
+ * lead out of that root. Join a path from outside by unix_path_join_beneath. */
 bool unix_path_starts_with(const void *path, size_t path_length, const void *base,
                            size_t base_length);
 
-/* Whether the parts of child end those of path: `/etc/passwd` ends with `passwd`. */
+/* Returns true if the path ends with the components of child: `/etc/passwd` ends with `passwd`. */
 bool unix_path_ends_with(const void *path, size_t path_length, const void *child,
                          size_t child_length);
 
-/* Whether a and b have the same parts. `a/./b//` and `a/b` have, and `./a` and `a` haven't. */
+/* Returns true if a and b have the same components: `a/./b//` and `a/b`, but not `./a` and `a`. */
 bool unix_path_equal(const void *a, size_t a_length, const void *b, size_t b_length);
 
-/* The order by parts: -1, 0 or 1 if a is less than, equal to or greater than b. The root is
- * less than `.`, `.` is less than `..`, and `..` is less than a name; `a/b` is less than `a.b`. */
+/* Returns -1, 0 or 1 if a is less than, equal to or greater than b, by components: the root is less
+ * than `.`, `.` than `..`, and `..` than a name. `a/b` is less than `a.b`. */
 int32_t unix_path_compare(const void *a, size_t a_length, const void *b, size_t b_length);
 
-/* A number that is the same for equal paths, and in each run. It has no key: whoever chooses the
- * paths can find many that share a number. */
+/* Returns a hash of the path, the same for equal paths and in each run. It is unkeyed, so an
+ * attacker who chooses the paths can force collisions. */
 uint64_t unix_path_hash(const void *path, size_t path_length);
 
-/* Whether the bytes are UTF-8. */
+/* Returns true if the path is valid UTF-8. */
 bool unix_path_is_utf8(const void *path, size_t path_length);
 
-/* Whether unix_path_canonical gives the same bytes: true for `./a/b`, and false for `a//b`. */
+/* Returns true if unix_path_canonical writes the same bytes: for `./a/b`, but not for `a//b`. */
 bool unix_path_is_canonical(const void *path, size_t path_length);
 
-/* Whether the path has a root, so that its first byte is a slash. */
+/* Returns true if the path has a root: its first byte is a slash. */
 bool unix_path_is_absolute(const void *path, size_t path_length);
 
-/* Whether the path has a root or ever goes above where it starts, even if later names come down
- * again. True for `/a` and `a/../../b`, and false for `a/../b`. */
-bool unix_path_climbs(const void *path, size_t path_length);
+/* Returns true if the path escapes: it has a root, or goes above where it starts, even if later
+ * names come down again. True for `/a` and `a/../../b`; false for `a/../b`. */
+bool unix_path_escapes(const void *path, size_t path_length);
 
-/* Returns whether a path from outside is a request that stays below a root by names, or why it is
- * none: UNIX_PATH_REQUEST_HAS_ROOT if and only if it has a root; otherwise
- * UNIX_PATH_REQUEST_ESCAPES if and only if it climbs; otherwise UNIX_PATH_REQUEST_HAS_NUL if and
- * only if it has a NUL byte, at which a system call cuts it; otherwise UNIX_PATH_REQUEST_OK. */
+/* Checks a request for unix_path_join_beneath. Returns the first of these that holds:
+ *
+ *     UNIX_PATH_REQUEST_HAS_ROOT   it has a root
+ *     UNIX_PATH_REQUEST_ESCAPES    it escapes
+ *     UNIX_PATH_REQUEST_HAS_NUL    it has a NUL byte, at which a system call cuts it
+ *     UNIX_PATH_REQUEST_OK         none of these
+ *
+ * unix_path_join_in_root refuses only a NUL, and unix_path_join_verbatim each `..` too. */
 int32_t unix_path_check_request(const void *path, size_t path_length);
 
-/* The place just behind the last slash of the longest string that both begin with; 0 if that
- * string has none. It counts bytes, not parts. For `a/./b` and `a/b` it is 2. */
+/* Returns true if a request has no name, resolved as by unix_path_join_in_root: it is the root
+ * itself. True for `a/..`, `/` and the empty path; false for `a/../b`. */
+bool unix_path_request_is_root(const void *path, size_t path_length);
+
+/* Returns true if the last component is a name and a slash or a `/.` follows it: for `a/` and
+ * `a/.`, but not for `a`, `a/..` and `/`. A system call takes such a path for the path of a
+ * directory. A join that resolves the request drops what follows its names. */
+bool unix_path_ends_in_slash(const void *path, size_t path_length);
+
+/* Returns the index just after the last slash of the longest prefix that the bytes of a and b
+ * share, or 0 if it has no slash. For `a/./b` and `a/b` it is 2. */
 size_t unix_path_common_dir(const void *a, size_t a_length, const void *b, size_t b_length);
 
-/* New paths and text, written to out. */
+/* New paths and keys, written to out:
+ *
+ *     length at most                            calls
+ *     the sum of both lengths + 1               _join, _join_beneath, _join_in_root,
+ *                                               _join_verbatim, _with_file_name,
+ *                                               _with_extension, _with_added_extension
+ *     path_length                               _canonical, _resolved
+ *     3 * path_length                           _to_string_lossy
+ *     3 * (from_length + 1) / 2 + to_length     _relative_path
+ *     path_length + 2                           _key
+ *     3 * key_length / 2                        _from_key
+ *     key_length, always                        _key_range_end
+ *
+ * A new path may hold a NUL if an argument holds one. A join of a request may only if the root
+ * holds one. unix_path_to_string_lossy keeps each NUL. */
 
-/* path joined to base: path alone if it has a root; else base, a slash unless base is empty or
- * ends with one, and path. `/a` with `./b` gives `/a/./b`, and with `/b` gives `/b`. It has at
- * most as many bytes as both and one more, and holds a NUL if what it is made of does. */
+/* Joins two trusted paths; for a request from outside call unix_path_join_beneath. Writes path if
+ * it has a root; otherwise base, a slash unless base is empty or ends in one, and path. `/a` with
+ * `./b` is `/a/./b`, and with `/b` it is `/b`. */
 size_t unix_path_join(const void *base, size_t base_length, const void *path,
                       size_t path_length, void *out, size_t out_length);
 
-/* The path with its file name replaced, or with name joined to it if it has none. `/a/b.txt` with
- * `c` gives `/a/c`. It has at most as many bytes as both and one more, and holds a NUL if what it
- * is made of does. */
+/* Replaces the file name, or joins name to a path without one. `/a/b.txt` with `c` is `/a/c`. */
 size_t unix_path_with_file_name(const void *path, size_t path_length, const void *name,
                                 size_t name_length, void *out, size_t out_length);
 
-/* The path with its extension replaced, or taken away if the new one is empty; the path as it is
- * if it has no file name. What stands behind the file name goes too. UNIX_PATH_SEPARATOR if the
- * extension has a slash. `a.rs/.` with `txt` gives `a.txt`, and so does `a`. It has at most as many
- * bytes as both and one more, and holds a NUL if what it is made of does. */
+/* Replaces the extension, or removes it if the new one is empty, and drops what follows the file
+ * name. Without a file name the path is unchanged. `a.rs/.` and `a` with `txt` are both `a.txt`. */
 size_t unix_path_with_extension(const void *path, size_t path_length, const void *extension,
                                 size_t extension_length, void *out, size_t out_length);
 
-/* The path with an extension added to its file name, behind a dot; the path as it is if it has no
- * file name, or if the extension is empty. UNIX_PATH_SEPARATOR if the extension has a slash.
- * `a.tar` with `gz` gives `a.tar.gz`. It has at most as many bytes as both and one more, and holds
- * a NUL if what it is made of does. */
+/* Adds a dot and the extension to the file name. Without a file name, or with an empty extension,
+ * the path is unchanged. `a.tar` with `gz` is `a.tar.gz`. */
 size_t unix_path_with_added_extension(const void *path, size_t path_length, const void *extension,
                                       size_t extension_length, void *out, size_t out_length);
 
-/* The one shortest path with the same parts. Of `.//a/./b/` it is `./a/b`. It is never longer than
- * the path, and holds a NUL if a part does. */
+/* Writes the canonical form: the one shortest path with the same components. For `.//a/./b/` it is
+ * `./a/b`. */
 size_t unix_path_canonical(const void *path, size_t path_length, void *out,
                            size_t out_length);
 
-/* The path as UTF-8, with U+FFFD in place of what isn't. It has at most three times as many bytes
- * as the path, and as many NULs. UNIX_PATH_TOO_LONG exactly if it has more than PTRDIFF_MAX. */
+/* Writes the path as UTF-8, with U+FFFD for the invalid bytes of each chunk. */
 size_t unix_path_to_string_lossy(const void *path, size_t path_length, void *out,
                                  size_t out_length);
 
-/* The path with each `..` dropped together with the name before it, in canonical spelling: `.` is
- * dropped too, and so is `..` behind the root. Without a root, a `..` with no name before it stays
- * in front. It goes by names alone: if a part may be a link, only the system knows where `..`
- * leads. Of `a/../..//b/.` it is `../b`. It has at most as many bytes as the path, and may hold a
- * NUL. An answer of no bytes, as of `a/..`, stands for the current directory: give the system `.`
- * in its place. */
+/* Resolves `..` lexically and writes the canonical form. Drops each `..` with the name before it,
+ * each `.`, and each `..` after the root. Without a root, a `..` with no name before it stays at
+ * the beginning. Where a component may be a link, only the system knows where `..` leads. For
+ * `a/../..//b/.` it is `../b`, and for `a/..` it is empty. */
 size_t unix_path_resolved(const void *path, size_t path_length, void *out,
                           size_t out_length);
 
-/* The request joined to the root, both verbatim, so that the request only goes down from the root
- * by its names: for roots that may be or contain links. UNIX_PATH_ESCAPES if and only if the
- * request has a root or a `..`. A request without either is refused as UNIX_PATH_NUL_IN_REQUEST if
- * and only if it has a NUL byte, at which a system call would cut the answer. The answer has at
- * most as many bytes as both and one more, and holds a NUL only if the root does. `/srv/../www`
- * with `./a` gives `/srv/../www/./a`; `a/../b` and `..\0/a` are refused. */
+/* Four calls join two paths. unix_path_join, above, is for trusted paths: a rooted path replaces
+ * the base, and `..` may lead out of it. The others are for requests: paths from outside, joined to
+ * a trusted root.
+ *
+ *     request                     a           a/../b      ../x      /x        x\0y
+ *     unix_path_join_beneath      /srv/a      /srv/b      ESCAPES   ESCAPES   NUL_IN_REQUEST
+ *     unix_path_join_in_root      /srv/a      /srv/b      /srv/x    /srv/x    NUL_IN_REQUEST
+ *     unix_path_join_verbatim     /srv/a      ESCAPES     ESCAPES   ESCAPES   NUL_IN_REQUEST
+ *     unix_path_join              /srv/a      /srv/a/../b /srv/../x /x        /srv/x\0y
+ *
+ * unix_path_join_beneath and unix_path_join_in_root resolve `..` in the request lexically, and drop
+ * a slash at its end. If a component below the root may be a link, let the system refuse links:
+ * join to an empty root, which makes a relative path, and open that by openat2 of Linux, beneath a
+ * file descriptor of the root, with RESOLVE_BENEATH or RESOLVE_NO_SYMLINKS. The root itself is not
+ * resolved. To resolve its `..` lexically too, call unix_path_resolved once and pass what it
+ * wrote. */
+
+/* Joins a request that must stay beneath the root, such as an entry of an archive. Writes the root
+ * verbatim, and after it the names that the request resolves to, with a slash between two of them
+ * and, where one is needed, after the root. After the root there is no `..`, no `.`, no NUL and no
+ * slash at the end. If unix_path_request_is_root is true, this is the root itself.
+ *
+ * Refuses a request that escapes, or has a NUL byte, at which a system call would cut the join.
+ * unix_path_check_request says which, before any join. `/srv/` with `a/../b` is `/srv/b`. */
+size_t unix_path_join_beneath(const void *root, size_t root_length, const void *request,
+                              size_t request_length, void *out, size_t out_length);
+
+/* Joins a request as in a chroot, such as the decoded path of a URL: as if the root were the root
+ * directory `/`. This is unix_path_join_beneath, except that leading slashes are dropped, and a
+ * `..` at the root stays there. Refuses only a NUL. `/srv/` with `/../b` is `/srv/b`. */
+size_t unix_path_join_in_root(const void *root, size_t root_length, const void *request,
+                              size_t request_length, void *out, size_t out_length);
+
+/* Joins root and request verbatim, for a root that is a link or may contain links. Refuses a
+ * request with a root, a `..` or a NUL. The system follows links below the root wherever they lead.
+ * `/srv/../www` with `./a` is `/srv/../www/./a`; `a/../b` and `..\0/a` are refused. */
 size_t unix_path_join_verbatim(const void *root, size_t root_length, const void *request,
-                            size_t request_length, void *out, size_t out_length);
+                               size_t request_length, void *out, size_t out_length);
 
-/* The request joined below the root: the root as it stands, byte for byte, and behind it the names
- * that the request resolves to, with a slash between two of them and, where one is wanted, behind
- * the root. Behind the root stand no `..`, no `.`, no NUL and no slash at the end; if the request
- * has no name, the answer is the root alone, and if that is empty too, it stands for `.`. The
- * answer holds a NUL only if the root does. To resolve the root's own `..` by names too, pass what
- * unix_path_resolved wrote of it, once for all requests.
- *
- * as_url says how the request is read. If it is false, the answer is UNIX_PATH_ESCAPES exactly if
- * the request climbs; unix_path_check_request tells whether by a root. If it is true, as for the
- * decoded path of a URL, leading slashes are dropped, and so is each `..` at the top: none climbs.
- * Read either way, a request that isn't refused as one that climbs is refused exactly if it has a
- * NUL, at which a system call cuts it: the answer is UNIX_PATH_NUL_IN_REQUEST.
- *
- * It goes by names alone: if a part below the root may be a link, let the system refuse links, as
- * Linux does in openat2 with RESOLVE_BENEATH or RESOLVE_NO_SYMLINKS. The answer has at most as many
- * bytes as both and one more. `/srv/` with `a/../b` gives `/srv/b`; with `/../b` it gives `/srv/b`
- * as a URL, and else UNIX_PATH_ESCAPES. */
-size_t unix_path_join_below(const void *root, size_t root_length, const void *request,
-                            size_t request_length, bool as_url, void *out, size_t out_length);
+/* Writes the relative path from one path to another. Both are resolved lexically, and their common
+ * leading components are left out: the result is a `..` for each name in the rest of `from`, and
+ * then the rest of `to`. There is no relative path if and only if one path has a root and the other
+ * has none, or the rest of `from` has a `..`. Where a component of `from` may be a link, only the
+ * system knows where `..` leads. From `/a/b/c` to `/a/d` it is `../../d`. */
+size_t unix_path_relative_path(const void *from, size_t from_length, const void *to,
+                               size_t to_length, void *out, size_t out_length);
 
-/* The way from one path to another by names: of both resolved, without the parts that they then
- * both begin with, `..` for each name that is left of the first, and then what is left of the
- * other. UNIX_PATH_NO_WAY if and only if one has a root and the other has none, or a `..` is left
- * of the first: then no path without a root leads there. It goes by names alone: if a part may be a
- * link, only the system knows where `..` leads. It has at most three bytes for each two of the
- * first path and one more, 3 * (from_length + 1) / 2, and as many as the other path has. It holds a
- * NUL if a part that stays does, and an answer of no bytes stands for `.`. From `/a/b/c` to `/a/d`
- * it is `../../d`. */
-size_t unix_path_way(const void *from, size_t from_length, const void *to, size_t to_length,
-                     void *out, size_t out_length);
+/* Keys, for a store that compares keys byte by byte, like memcmp and then by length. Keys sort as
+ * unix_path_compare does, and are identical if and only if the paths are equal. One key begins with
+ * another if and only if its path starts with the other's: `a` is 61 00, and `ab` is 61 62 00.
+ *
+ * A key is the path's components in order, each as these bytes:
+ *
+ *     the root         00 01
+ *     a leading `.`    00 02
+ *     each `..`        00 03
+ *     a name           its bytes, each that is less than 2F raised by one, then 00
+ *
+ * The key of `/srv//a-1.txt/..` is 00 01, 73 72 76 00, 61 2E 31 2F 74 78 74 00, 00 03. The key of
+ * the empty path is empty. */
 
-/* Keys, for a store that compares keys byte by byte, as memcmp does and then by length. Keys stand
- * in the order of unix_path_compare, and are the same exactly if unix_path_equal is true.
- *
- * A key is the parts of the path, in order, each as these bytes:
- *
- *     the root                          00 01
- *     a leading `.`                     00 02
- *     each `..`                         00 03
- *     a name                            its bytes, each that is less than 2F raised by one, then 00
- *
- * The key of `/srv//a-1.txt/..` is 00 01, 73 72 76 00, 61 2E 31 2F 74 78 74 00, 00 03, and that of
- * the empty path has no bytes. One key begins another exactly if the other's path starts with its
- * path: `a` is 61 00, and `ab` is 61 62 00. */
-
-/* The key of the path: at most two bytes more than the path has. Of `/a` it is 00 01 61 00. */
+/* Writes the key of the path. For `/a` it is 00 01 61 00. */
 size_t unix_path_key(const void *path, size_t path_length, void *out, size_t out_length);
 
-/* The path of the key: the canonical spelling of the paths that have it, which has at most half as
- * many bytes more than the key. UNIX_PATH_NOT_A_KEY exactly if the bytes are the key of no path. Of
- * 00 02 61 00 62 00 it is `./a/b`. */
+/* Writes the canonical form of the paths that have the key. For 00 02 61 00 62 00 it is `./a/b`. */
 size_t unix_path_from_key(const void *key, size_t key_length, void *out, size_t out_length);
 
-/* The end of the key's range: the key with its last byte raised by one, and so as long as the key.
- * A path starts with the key's path exactly if its key is not less than that key and less than this
- * end. UNIX_PATH_NO_END exactly for the empty key: every key lies in its range. UNIX_PATH_NOT_A_KEY
- * exactly if the bytes are the key of no path. Of 61 00, the key of `a`, it is 61 01. */
-size_t unix_path_key_end(const void *key, size_t key_length, void *out, size_t out_length);
+/* Writes the end of the key's range: the key with its last byte raised by one. Any bytes begin with
+ * the key if and only if they are not less than the key, and less than the end. The keys among them
+ * are those of the paths that start with the key's path. The range of the empty key has all bytes
+ * and no end. For 61 00, the key of `a`, the end is 61 01. */
+size_t unix_path_key_range_end(const void *key, size_t key_length, void *out, size_t out_length);
 
 #ifndef UNIX_PATH_EXPORTS_ONLY
 
@@ -406,14 +431,14 @@ size_t unix_path_key_end(const void *key, size_t key_length, void *out, size_t o
 #define UNIX_PATH_CHARS (const char *)
 #endif
 
-/* Returns true if what a call with `out` answers is a length, and no error. It is false too for a
- * length above PTRDIFF_MAX, for which no buffer has room, and which the calls without errors answer
- * as it is. */
+/* Returns true if a call with `out` returned a length of at most PTRDIFF_MAX. Returns false for an
+ * error code. It also returns false for a greater length, which no buffer has: a call without error
+ * codes returns such a length unchanged. */
 UNIX_PATH_INLINE bool unix_path_is_length(size_t answer) {
     return answer < UNIX_PATH_TOO_LONG;
 }
 
-/* Returns the name of an error, as "UNIX_PATH_ESCAPES"; NULL if the answer is a length. */
+/* Returns the name of an error code, such as "UNIX_PATH_ESCAPES", or NULL for a length. */
 UNIX_PATH_INLINE const char *unix_path_error_name(size_t answer) {
     switch (answer) {
     case UNIX_PATH_SEPARATOR:
@@ -426,14 +451,15 @@ UNIX_PATH_INLINE const char *unix_path_error_name(size_t answer) {
         return "UNIX_PATH_NOT_A_KEY";
     case UNIX_PATH_NO_END:
         return "UNIX_PATH_NO_END";
-    case UNIX_PATH_NO_WAY:
-        return "UNIX_PATH_NO_WAY";
+    case UNIX_PATH_NO_RELATIVE_PATH:
+        return "UNIX_PATH_NO_RELATIVE_PATH";
     default:
         return unix_path_is_length(answer) ? UNIX_PATH_NULL : "UNIX_PATH_TOO_LONG";
     }
 }
 
-/* Whether no byte is NUL, so that the system reads all of the path once a NUL stands behind it. */
+/* Returns true if no byte is NUL, so that the system reads all of the path once a NUL follows
+ * it. */
 UNIX_PATH_INLINE bool unix_path_is_c_string(const void *path, size_t path_length) {
     const char *bytes = UNIX_PATH_CHARS(path);
     for (size_t at = 0; at < path_length; at++) {
@@ -444,10 +470,9 @@ UNIX_PATH_INLINE bool unix_path_is_c_string(const void *path, size_t path_length
     return true;
 }
 
-/* From here on the name of each call stands for a function of this header, which makes the call
- * with a pointer that isn't null in the place of one that may be; it may be passed as a pointer to
- * a function too. Compilers that know how are told what it reads and writes, and that its answer is
- * to be looked at. */
+/* From here on the name of each call names a function of this header, which replaces null pointers
+ * and then makes the call. A pointer to this function may be passed on. Its attributes say what it
+ * reads and writes, and that its result has to be used. */
 
 #ifdef __GNUC__
 #pragma GCC diagnostic push
@@ -480,12 +505,12 @@ UNIX_PATH_INLINE bool unix_path_is_c_string(const void *path, size_t path_length
 #define UNIX_PATH_MOVES(record) UNIX_PATH_ACCESS(__read_write__, record) UNIX_PATH_NONNULL(record)
 #define UNIX_PATH_LOOKS(record) UNIX_PATH_ACCESS(__read_only__, record) UNIX_PATH_NONNULL(record)
 
-/* The bytes of a path, or some place if it has none. */
+/* Returns `path`, or a pointer that is not null if it has no bytes. */
 UNIX_PATH_INLINE const void *unix_path_bytes(const void *path, size_t path_length) {
     return path_length == 0 ? "" : path;
 }
 
-/* The room of an out, or `none` if it has none. */
+/* Returns `out`, or `none` if its size is 0. */
 UNIX_PATH_INLINE void *unix_path_room(void *out, size_t out_length, void *none) {
     return out_length == 0 ? none : out;
 }
@@ -498,12 +523,16 @@ UNIX_PATH_INLINE void *unix_path_room(void *out, size_t out_length, void *none) 
 #define UNIX_PATH_READS_ONE UNIX_PATH_READS(1, 2)
 #define UNIX_PATH_READS_TWO UNIX_PATH_READS(1, 2) UNIX_PATH_READS(3, 4)
 
-/* The call again, and the function that makes it: what it answers, its name, what compilers know
- * of it, its parameters, and what the call is given. */
+/* Declares the call again, and defines the function that makes it. `known` are the attributes of
+ * both, and `given` are the arguments that the function passes to the call. */
 #define UNIX_PATH_CALL(answer, name, known, parameters, given)                                     \
     known UNIX_PATH_ALL_NONNULL answer unix_path_##name parameters;                                \
     UNIX_PATH_ASKED known UNIX_PATH_INLINE answer unix_path_inline_##name parameters {             \
         return unix_path_##name given;                                                             \
+    }
+#define UNIX_PATH_ASK_NOTHING(answer, name)                                                        \
+    UNIX_PATH_ASKED UNIX_PATH_INLINE answer unix_path_inline_##name(void) {                        \
+        return unix_path_##name();                                                                 \
     }
 #define UNIX_PATH_ASK(answer, name)                                                                \
     UNIX_PATH_CALL(answer, name, UNIX_PATH_READS_ONE, (UNIX_PATH_ONE), (UNIX_PATH_A))
@@ -513,20 +542,20 @@ UNIX_PATH_INLINE void *unix_path_room(void *out, size_t out_length, void *none) 
     UNIX_PATH_CALL(bool, name, UNIX_PATH_READS_ONE UNIX_PATH_MOVES(3) UNIX_PATH_WRITES(4),         \
                    (UNIX_PATH_ONE, unix_path_walk *walk, unix_path_part *part),                    \
                    (UNIX_PATH_A, walk, part))
-#define UNIX_PATH_NEXT_PLACE(name)                                                                 \
+#define UNIX_PATH_NEXT_SPAN(name)                                                                  \
     UNIX_PATH_CALL(bool, name, UNIX_PATH_READS_ONE UNIX_PATH_MOVES(3) UNIX_PATH_WRITES(4),         \
-                   (UNIX_PATH_ONE, size_t *next, unix_path_place *place),                          \
-                   (UNIX_PATH_A, next, place))
+                   (UNIX_PATH_ONE, size_t *next, unix_path_span *span),                            \
+                   (UNIX_PATH_A, next, span))
 #define UNIX_PATH_NEXT_CHUNK(name)                                                                 \
     UNIX_PATH_CALL(bool, name, UNIX_PATH_READS_ONE UNIX_PATH_MOVES(3) UNIX_PATH_WRITES(4),         \
                    (UNIX_PATH_ONE, size_t *next, unix_path_chunk *chunk),                          \
                    (UNIX_PATH_A, next, chunk))
 #define UNIX_PATH_FIND(name)                                                                       \
     UNIX_PATH_CALL(bool, name, UNIX_PATH_READS_ONE UNIX_PATH_WRITES(3),                            \
-                   (UNIX_PATH_ONE, unix_path_place *place), (UNIX_PATH_A, place))
+                   (UNIX_PATH_ONE, unix_path_span *span), (UNIX_PATH_A, span))
 #define UNIX_PATH_FIND_OF_TWO(name)                                                                \
     UNIX_PATH_CALL(bool, name, UNIX_PATH_READS_TWO UNIX_PATH_WRITES(5),                            \
-                   (UNIX_PATH_TWO, unix_path_place *place), (UNIX_PATH_AB, place))
+                   (UNIX_PATH_TWO, unix_path_span *span), (UNIX_PATH_AB, span))
 
 /* The same for the calls with `out`. */
 #define UNIX_PATH_OUT_CALL(name, known, parameters, ...)                                           \
@@ -541,11 +570,8 @@ UNIX_PATH_INLINE void *unix_path_room(void *out, size_t out_length, void *none) 
 #define UNIX_PATH_MAKE_OF_TWO(name)                                                                \
     UNIX_PATH_OUT_CALL(name, UNIX_PATH_READS_TWO UNIX_PATH_FILLS(5, 6),                            \
                        (UNIX_PATH_TWO, UNIX_PATH_OUT), UNIX_PATH_AB)
-#define UNIX_PATH_MAKE_OF_TWO_AS(name)                                                             \
-    UNIX_PATH_OUT_CALL(name, UNIX_PATH_READS_TWO UNIX_PATH_FILLS(6, 7),                            \
-                       (UNIX_PATH_TWO, bool as, UNIX_PATH_OUT), UNIX_PATH_AB, as)
 
-/* And for those without an answer. */
+/* The same for the calls that return nothing. */
 #define UNIX_PATH_BEGIN(name)                                                                      \
     UNIX_PATH_READS_ONE UNIX_PATH_WRITES(3) UNIX_PATH_INLINE                                       \
     void unix_path_inline_##name(UNIX_PATH_ONE, unix_path_walk *walk) {                            \
@@ -554,16 +580,17 @@ UNIX_PATH_INLINE void *unix_path_room(void *out, size_t out_length, void *none) 
 #define UNIX_PATH_LEFT(name)                                                                       \
     UNIX_PATH_READS_ONE UNIX_PATH_LOOKS(3) UNIX_PATH_WRITES(4) UNIX_PATH_INLINE                    \
     void unix_path_inline_##name(UNIX_PATH_ONE, const unix_path_walk *walk,                        \
-                                 unix_path_place *place) {                                         \
-        unix_path_##name(UNIX_PATH_A, walk, place);                                                \
+                                 unix_path_span *span) {                                           \
+        unix_path_##name(UNIX_PATH_A, walk, span);                                                 \
     }
 
 /* tools/calls wrote the next lines from the exports of crates/unix_path_c/src. */
+UNIX_PATH_ASK_NOTHING(uint32_t, version)
 UNIX_PATH_BEGIN(components)
 UNIX_PATH_STEP(next)
 UNIX_PATH_STEP(next_back)
 UNIX_PATH_LEFT(as_path)
-UNIX_PATH_NEXT_PLACE(next_ancestor)
+UNIX_PATH_NEXT_SPAN(next_ancestor)
 UNIX_PATH_NEXT_CHUNK(next_chunk)
 UNIX_PATH_FIND(parent)
 UNIX_PATH_FIND(file_name)
@@ -579,8 +606,10 @@ UNIX_PATH_ASK(uint64_t, hash)
 UNIX_PATH_ASK(bool, is_utf8)
 UNIX_PATH_ASK(bool, is_canonical)
 UNIX_PATH_ASK(bool, is_absolute)
-UNIX_PATH_ASK(bool, climbs)
+UNIX_PATH_ASK(bool, escapes)
 UNIX_PATH_ASK(int32_t, check_request)
+UNIX_PATH_ASK(bool, request_is_root)
+UNIX_PATH_ASK(bool, ends_in_slash)
 UNIX_PATH_ASK_TWO(size_t, common_dir)
 UNIX_PATH_MAKE_OF_TWO(join)
 UNIX_PATH_MAKE_OF_TWO(with_file_name)
@@ -589,13 +618,15 @@ UNIX_PATH_MAKE_OF_TWO(with_added_extension)
 UNIX_PATH_MAKE(canonical)
 UNIX_PATH_MAKE(to_string_lossy)
 UNIX_PATH_MAKE(resolved)
+UNIX_PATH_MAKE_OF_TWO(join_beneath)
+UNIX_PATH_MAKE_OF_TWO(join_in_root)
 UNIX_PATH_MAKE_OF_TWO(join_verbatim)
-UNIX_PATH_MAKE_OF_TWO_AS(join_below)
-UNIX_PATH_MAKE_OF_TWO(way)
+UNIX_PATH_MAKE_OF_TWO(relative_path)
 UNIX_PATH_MAKE(key)
 UNIX_PATH_MAKE(from_key)
-UNIX_PATH_MAKE(key_end)
+UNIX_PATH_MAKE(key_range_end)
 
+#define unix_path_version unix_path_inline_version
 #define unix_path_components unix_path_inline_components
 #define unix_path_next unix_path_inline_next
 #define unix_path_next_back unix_path_inline_next_back
@@ -616,8 +647,10 @@ UNIX_PATH_MAKE(key_end)
 #define unix_path_is_utf8 unix_path_inline_is_utf8
 #define unix_path_is_canonical unix_path_inline_is_canonical
 #define unix_path_is_absolute unix_path_inline_is_absolute
-#define unix_path_climbs unix_path_inline_climbs
+#define unix_path_escapes unix_path_inline_escapes
 #define unix_path_check_request unix_path_inline_check_request
+#define unix_path_request_is_root unix_path_inline_request_is_root
+#define unix_path_ends_in_slash unix_path_inline_ends_in_slash
 #define unix_path_common_dir unix_path_inline_common_dir
 #define unix_path_join unix_path_inline_join
 #define unix_path_with_file_name unix_path_inline_with_file_name
@@ -626,12 +659,13 @@ UNIX_PATH_MAKE(key_end)
 #define unix_path_canonical unix_path_inline_canonical
 #define unix_path_to_string_lossy unix_path_inline_to_string_lossy
 #define unix_path_resolved unix_path_inline_resolved
+#define unix_path_join_beneath unix_path_inline_join_beneath
+#define unix_path_join_in_root unix_path_inline_join_in_root
 #define unix_path_join_verbatim unix_path_inline_join_verbatim
-#define unix_path_join_below unix_path_inline_join_below
-#define unix_path_way unix_path_inline_way
+#define unix_path_relative_path unix_path_inline_relative_path
 #define unix_path_key unix_path_inline_key
 #define unix_path_from_key unix_path_inline_from_key
-#define unix_path_key_end unix_path_inline_key_end
+#define unix_path_key_range_end unix_path_inline_key_range_end
 /* The end of what tools/calls wrote. */
 
 #undef UNIX_PATH_INLINE
@@ -658,15 +692,15 @@ UNIX_PATH_MAKE(key_end)
 #undef UNIX_PATH_BEGIN
 #undef UNIX_PATH_LEFT
 #undef UNIX_PATH_STEP
-#undef UNIX_PATH_NEXT_PLACE
+#undef UNIX_PATH_NEXT_SPAN
 #undef UNIX_PATH_NEXT_CHUNK
 #undef UNIX_PATH_FIND
 #undef UNIX_PATH_FIND_OF_TWO
+#undef UNIX_PATH_ASK_NOTHING
 #undef UNIX_PATH_ASK
 #undef UNIX_PATH_ASK_TWO
 #undef UNIX_PATH_MAKE
 #undef UNIX_PATH_MAKE_OF_TWO
-#undef UNIX_PATH_MAKE_OF_TWO_AS
 #ifdef __GNUC__
 #pragma GCC diagnostic pop
 #endif

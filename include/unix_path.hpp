@@ -1,5 +1,14 @@
 // Unix paths as plain bytes, for C++17 and later, over the calls of unix_path.h.
 //
+// A request from outside, joined so that it stays beneath a root:
+//
+//     unix_path::view root = "/srv/www";
+//     auto file = root.join_beneath("img/../a.png");
+//     std::puts(file ? file->c_str() : unix_path::to_string(file.error()));
+//
+// It prints `/srv/www/a.png`. For the request `../etc/passwd` it would print the error, escapes.
+// For the decoded path of a URL call join_in_root.
+//
 // A map that finds a path however it is spelled:
 //
 //     std::map<std::string, int, unix_path::less> sizes{{"src//main.c", 42}};
@@ -9,24 +18,17 @@
 //         std::puts(found == sizes.end() ? "none" : found->first.c_str());
 //     }
 //
-// It prints `src//main.c`. The look-up copies nothing.
+// It prints `src//main.c`. The look-up copies nothing. Both examples need <cstdio>, and the second
+// <map>; unix_path.h says how to link.
 //
-// A request of a server, joined below its root by names:
+// A member does what the call of its name in unix_path.h does; that header describes the calls,
+// their error codes, and their use by threads and signal handlers. The calls are proved. This file
+// is not: only tests check that it passes on arguments and results.
 //
-//     unix_path::view root = "/srv/www";
-//     auto file = root.join_below("/img/../a.png", unix_path::reading::as_url);
-//     std::puts(file ? file->c_str() : unix_path::to_string(file.error()));
-//
-// It prints `/srv/www/a.png`. Both examples need <cstdio>, and the first <map>; unix_path.h says
-// how to link.
-//
-// The calls of the library are proved, and what each answers stands in unix_path.h. This file isn't
-// proved: tests alone show that it passes them what they are to get, and hands on what they answer.
-//
-// Nothing here throws by itself, and what is `noexcept` doesn't allocate. What gives a std::string
-// throws std::bad_alloc if the string can't grow. A std::string_view with a null pointer is an
-// empty path everywhere. What is found in a path are its own bytes, so that they have to live as
-// long as the answer. For threads and signal handlers see unix_path.h.
+// Nothing here throws by itself. A function that is `noexcept` does not allocate. A function that
+// returns a std::string, or a result with one, throws std::bad_alloc if an allocation fails. A
+// std::string_view with a null pointer is an empty path. What a function finds in a path are the
+// path's own bytes, which have to outlive the result.
 #ifndef UNIX_PATH_HPP
 #define UNIX_PATH_HPP
 
@@ -66,27 +68,27 @@
 
 namespace unix_path {
 
-/// Why a call gives no bytes.
+/// The reason why a call has no result.
 enum class error {
     /// The extension has a slash.
     separator,
-    /// The request has a root, or goes above where it starts; for join_verbatim, it has any `..`.
+    /// The request escapes; for join_verbatim, it has a root or any `..`.
     escapes,
     /// The request has a NUL byte, at which a system call cuts it.
     nul_in_request,
     /// No path has these bytes as its key.
     not_a_key,
-    /// The key is empty: every key lies in its range.
+    /// The key is empty, and its range has no end.
     no_end,
     /// No path without a root leads there.
-    no_way,
-    /// The answer has more bytes than a buffer can have.
+    no_relative_path,
+    /// The result has more bytes than a buffer can have.
     too_long,
-    /// The caller's buffer has less room than result::required_size() says.
+    /// The caller's buffer is shorter than result::required_size().
     short_buffer,
 };
 
-/// Returns the error's name, as "escapes": a string of C, which lives as long as the program.
+/// Returns the error's name, such as "escapes": a C string of static storage duration.
 constexpr const char *to_string(error why) noexcept {
     switch (why) {
     case error::separator:
@@ -99,8 +101,8 @@ constexpr const char *to_string(error why) noexcept {
         return "not_a_key";
     case error::no_end:
         return "no_end";
-    case error::no_way:
-        return "no_way";
+    case error::no_relative_path:
+        return "no_relative_path";
     case error::too_long:
         return "too_long";
     case error::short_buffer:
@@ -109,8 +111,9 @@ constexpr const char *to_string(error why) noexcept {
     return "short_buffer";
 }
 
-/// What a call gives, or the error for which it gives nothing, with the names of std::expected. To
-/// ask for what isn't there ends the program by std::terminate.
+/// The value that a call returns, or an error, with the names of std::expected. Reading the value
+/// of an error, or the error of a value, ends the program by std::terminate, since nothing here
+/// throws.
 template <typename T>
 class [[nodiscard]] result {
   public:
@@ -123,9 +126,7 @@ class [[nodiscard]] result {
     bool has_value() const noexcept { return value_.has_value(); }
     explicit operator bool() const noexcept { return has_value(); }
 
-    /// Returns what the call gives, as `*` does: of an rvalue, moved out of it. If the call gives
-    /// nothing, this ends the program by std::terminate, since nothing here throws, and so do `*`
-    /// and `->`.
+    /// Returns the value, as `*` does. It is moved out of an rvalue.
     const T &value() const & noexcept UNIX_PATH_LIFETIME { return checked(); }
     T value() && noexcept(std::is_nothrow_move_constructible_v<T>) {
         checked();
@@ -136,24 +137,22 @@ class [[nodiscard]] result {
         return std::move(*this).value();
     }
     const T *operator->() const noexcept UNIX_PATH_LIFETIME { return &checked(); }
-    /// Returns what the call gives, or the other value if it gives nothing.
+    /// Returns the value, or `other` for an error.
     T value_or(T other) const & { return has_value() ? *value_ : std::move(other); }
     T value_or(T other) && { return std::move(has_value() ? *value_ : other); }
 
-    /// Returns the error. If the call gives something, this ends the program by std::terminate.
-    /// `to_string(answer.error())` names the error.
+    /// Returns the error, which `to_string(answer.error())` names.
     error_type error() const noexcept {
         if (has_value()) {
             std::terminate();
         }
         return error_;
     }
-    /// Returns how many bytes the buffer needs, if the error is `short_buffer`; otherwise 0.
+    /// Returns the number of bytes that the buffer needs for `short_buffer`; otherwise 0.
     std::size_t required_size() const noexcept { return required_size_; }
 
-    /// Calls the function with what the call gives, and returns the result that the function
-    /// returns. If the call gives nothing, returns a result of the same type with the error and
-    /// with `required_size()`.
+    /// Calls the function with the value, and returns the result that it returns. If there is an
+    /// error, returns a result of the same type with the error and `required_size()`.
     template <typename Function>
     auto and_then(Function &&function) const & {
         using next = std::decay_t<std::invoke_result_t<Function, const T &>>;
@@ -166,8 +165,7 @@ class [[nodiscard]] result {
         return has_value() ? next(std::invoke(std::forward<Function>(function), std::move(*value_)))
                            : next(error_, required_size_);
     }
-    /// Calls the function with what the call gives, and returns a result with what the function
-    /// returns, which isn't void. If the call gives nothing, does as `and_then`.
+    /// Like `and_then`, but returns a result with what the function returns, which is not void.
     template <typename Function>
     auto transform(Function &&function) const & {
         using next = result<std::decay_t<std::invoke_result_t<Function, const T &>>>;
@@ -194,9 +192,10 @@ class [[nodiscard]] result {
     error_type error_ = error_type::too_long;
 };
 
-/// The caller's room for an answer: a pointer and how many bytes may be written there, an array of
-/// `char`, or whatever has `data()` and `size()`, as a std::array, a std::vector or a std::span. An
-/// owner of bytes has to have a name, so that they live on.
+/// The caller's buffer: a pointer and a size in bytes, an array of `char`, or anything with
+/// `data()` and `size()`, such as a std::array, a std::vector or a std::span. An object that owns
+/// its bytes, such as a std::vector, has to be a variable and not a temporary, so that the bytes
+/// live on.
 class buffer {
   public:
     constexpr buffer(char *data, std::size_t size) noexcept : data_(data), size_(size) {}
@@ -217,7 +216,7 @@ class buffer {
     std::size_t size_;
 };
 
-/// The kind of a part.
+/// The kind of a component.
 enum class component_kind : std::uint32_t {
     root_dir = UNIX_PATH_ROOT_DIR,
     cur_dir = UNIX_PATH_CUR_DIR,
@@ -225,7 +224,7 @@ enum class component_kind : std::uint32_t {
     normal = UNIX_PATH_NORMAL,
 };
 
-/// Returns the kind's name, as "root_dir": a string of C, which lives as long as the program.
+/// Returns the kind's name, such as "root_dir": a C string of static storage duration.
 constexpr const char *to_string(component_kind kind) noexcept {
     switch (kind) {
     case component_kind::root_dir:
@@ -240,7 +239,7 @@ constexpr const char *to_string(component_kind kind) noexcept {
     return "normal";
 }
 
-/// A part of a path: its kind and its bytes, which stand in the path.
+/// A component of a path: its kind and its bytes, which are the path's.
 struct component {
     component_kind kind;
     std::string_view bytes;
@@ -251,8 +250,8 @@ struct component {
     friend bool operator!=(component a, component b) noexcept { return !(a == b); }
 };
 
-/// A chunk of a path: UTF-8 as far as it goes, and the broken bytes behind it, at most 3, for which
-/// the lossy text has one U+FFFD. Only the last chunk can have none. Both stand in the path.
+/// A chunk of a path: valid UTF-8 and the invalid bytes after it, as unix_path_next_chunk finds
+/// them. The bytes are the path's.
 struct chunk {
     std::string_view valid, broken;
 
@@ -262,12 +261,10 @@ struct chunk {
     friend bool operator!=(chunk a, chunk b) noexcept { return !(a == b); }
 };
 
-/// How a request is read: as a path that has to stay below where it starts, and is refused if it
-/// has a root or climbs; or as the decoded path of a URL, whose leading slashes are dropped, and so
-/// is each `..` at the top, so that none is refused for them. No call reads `%2e`.
-enum class reading { as_path, as_url };
+/// Returns the version of the loaded library, as unix_path_version does.
+inline std::uint32_t version() noexcept { return unix_path_version(); }
 
-/// What a path from outside is as a request that stays below a root by names.
+/// The result of view::check_request.
 enum class request_check : std::int32_t {
     ok = UNIX_PATH_REQUEST_OK,
     has_root = UNIX_PATH_REQUEST_HAS_ROOT,
@@ -279,30 +276,36 @@ class components;
 class ancestors;
 class chunks;
 
-/// A path: bytes that live elsewhere. Paths are compared by their parts: `a/./b//` is `a/b`. To
-/// compare bytes, compare `bytes()`.
+/// A path: bytes that live elsewhere. Paths are compared by their components: `a/./b//` equals
+/// `a/b`. To compare bytes, compare `bytes()`.
 class view {
   public:
     constexpr view() noexcept = default;
     constexpr view(std::string_view bytes) noexcept : bytes_(bytes) {}
     view(const std::string &bytes UNIX_PATH_LIFETIME) noexcept : bytes_(bytes) {}
-    /// A string that ends at its first NUL. The null pointer is the empty path.
+    /// A path that ends at the string's first NUL. The null pointer is the empty path.
     constexpr view(const char *string) noexcept
         : bytes_(string == nullptr ? std::string_view() : std::string_view(string)) {}
     view(std::nullptr_t) = delete;
+    /// Types that convert to a new string, which would be gone at once, are rejected. Of a
+    /// `std::filesystem::path` pass `native()`.
+    template <class T, std::enable_if_t<std::is_convertible_v<const T &, std::string> &&
+                                            !std::is_convertible_v<const T &, std::string_view> &&
+                                            !std::is_convertible_v<const T &, const char *>,
+                                        int> = 0>
+    view(const T &) = delete;
 
     constexpr std::string_view bytes() const noexcept { return bytes_; }
     constexpr const char *data() const noexcept { return bytes_.data(); }
     constexpr std::size_t size() const noexcept { return bytes_.size(); }
     constexpr bool empty() const noexcept { return bytes_.empty(); }
-    /// Whether there is a NUL byte, at which a system call cuts the path.
+    /// Returns true if there is a NUL byte, at which a system call cuts the path.
     constexpr bool has_nul() const noexcept {
         return bytes_.find('\0') != std::string_view::npos;
     }
 
-    // Comparisons by parts. None asks for memory.
+    // Comparisons by components. `compare` returns -1, 0 or 1.
 
-    /// -1, 0 or 1 if this path is less than the other, equal to it, or greater.
     int compare(view other) const noexcept {
         return unix_path_compare(data(), size(), other.data(), other.size());
     }
@@ -317,15 +320,12 @@ class view {
 #ifdef __cpp_lib_three_way_comparison
     friend std::weak_ordering operator<=>(view a, view b) noexcept { return a.compare(b) <=> 0; }
 #endif
-    /// A number that equal paths share. It has no key: whoever chooses the paths can find many that
-    /// share a number.
     std::uint64_t hash() const noexcept { return unix_path_hash(data(), size()); }
 
-    // Questions. None asks for memory.
+    // Questions.
 
-    /// Returns true if this path's parts begin with those of base. `/dest/../etc` starts with
-    /// `/dest`, so a join that starts with its root may lead out of it: join a path from outside by
-    /// `join_below`.
+    /// Returns true if this path begins with the components of base. `/dest/../etc` starts with
+    /// `/dest`: join a path from outside by `join_beneath`.
     bool starts_with(view base) const noexcept {
         return unix_path_starts_with(data(), size(), base.data(), base.size());
     }
@@ -334,71 +334,77 @@ class view {
     }
     bool is_absolute() const noexcept { return unix_path_is_absolute(data(), size()); }
     bool is_utf8() const noexcept { return unix_path_is_utf8(data(), size()); }
-    /// Whether `canonical` gives the same bytes.
     bool is_canonical() const noexcept { return unix_path_is_canonical(data(), size()); }
-    /// Whether the path has a root or ever goes above where it starts.
-    bool climbs() const noexcept { return unix_path_climbs(data(), size()); }
-    /// Returns `has_root` if and only if the path has a root; otherwise `escapes` if and only if it
-    /// climbs; otherwise `has_nul` if and only if it has a NUL; otherwise `ok`.
+    /// Returns true if the path has a root or ever goes above where it starts.
+    bool escapes() const noexcept { return unix_path_escapes(data(), size()); }
+    /// Returns the first reason for which `join_beneath` refuses a request, or `ok`.
     request_check check_request() const noexcept {
         return static_cast<request_check>(unix_path_check_request(data(), size()));
     }
-    /// The place just behind the last slash of the longest string that both begin with, or 0.
+    /// Returns true if a request has no name, resolved as by `join_in_root`: it is the root itself.
+    bool request_is_root() const noexcept { return unix_path_request_is_root(data(), size()); }
+    /// Returns true if the last component is a name and a slash or a `/.` follows it.
+    bool ends_in_slash() const noexcept { return unix_path_ends_in_slash(data(), size()); }
+    /// Returns the index just after the last slash of the longest prefix that both share, or 0.
     std::size_t common_dir(view other) const noexcept {
         return unix_path_common_dir(data(), size(), other.data(), other.size());
     }
 
-    // Pieces of the path. None asks for memory. A parent or a rest is a path, and a name is text.
+    // Slices of the path. The parent, and the rest after a base, are views. A name, or a part of
+    // one, is a std::string_view.
 
     std::optional<view> parent() const noexcept {
-        unix_path_place place;
-        return path_at(unix_path_parent(data(), size(), &place), place);
+        unix_path_span span;
+        return path_at(unix_path_parent(data(), size(), &span), span);
     }
-    /// What follows base, if `starts_with` is true: of `/dest/../etc` and `/dest` it is `../etc`.
+    /// Returns what follows base, or nothing if `starts_with` is false. For `/dest/../etc` and
+    /// `/dest` it is `../etc`.
     std::optional<view> strip_prefix(view base) const noexcept {
-        unix_path_place place;
+        unix_path_span span;
         return path_at(
-            unix_path_strip_prefix(data(), size(), base.data(), base.size(), &place), place);
+            unix_path_strip_prefix(data(), size(), base.data(), base.size(), &span), span);
     }
     std::optional<std::string_view> file_name() const noexcept {
-        unix_path_place place;
-        return text_at(unix_path_file_name(data(), size(), &place), place);
+        unix_path_span span;
+        return text_at(unix_path_file_name(data(), size(), &span), span);
     }
     std::optional<std::string_view> file_stem() const noexcept {
-        unix_path_place place;
-        return text_at(unix_path_file_stem(data(), size(), &place), place);
+        unix_path_span span;
+        return text_at(unix_path_file_stem(data(), size(), &span), span);
     }
     std::optional<std::string_view> extension() const noexcept {
-        unix_path_place place;
-        return text_at(unix_path_extension(data(), size(), &place), place);
+        unix_path_span span;
+        return text_at(unix_path_extension(data(), size(), &span), span);
     }
     std::optional<std::string_view> file_prefix() const noexcept {
-        unix_path_place place;
-        return text_at(unix_path_file_prefix(data(), size(), &place), place);
+        unix_path_span span;
+        return text_at(unix_path_file_prefix(data(), size(), &span), span);
     }
-    /// The parts, in both directions.
+    /// Returns the components, in both directions.
     unix_path::components components() const noexcept;
-    /// The path, its parent, the parent of that, and on to the last.
+    /// Returns the path, its parent, the parent's parent, and so on.
     unix_path::ancestors ancestors() const noexcept;
-    /// The chunks of UTF-8 and of broken bytes.
+    /// Returns the chunks of valid UTF-8 and of invalid bytes.
     unix_path::chunks chunks() const noexcept;
 
-    // New paths and text: as a std::string, which alone asks for memory, or in the room of a
-    // buffer, which asks for none. What stands in a buffer has no NUL behind it. The system cuts a
-    // path at its first NUL, which `has_nul` finds, and refuses a path of no bytes: give it `.`.
+    // New paths and keys: as a std::string, or in a buffer, without an allocation and with no NUL
+    // after it. An error is the error code of the call: unix_path.h has a table of them. The system
+    // cuts a path at its first NUL, which `has_nul` finds, and refuses an empty path: pass `.`
+    // instead.
     //
-    // A join goes by names. Where a part below the root may be a link, let the system refuse links,
-    // as Linux does in openat2. For requests from outside take `join_below`: its answer never goes
-    // above the root, and has a NUL only if the root has one.
+    // `join` is for trusted paths. The other joins are for requests, which are paths from outside.
+    // This path is the root of the request, and stays verbatim. A table in unix_path.h compares the
+    // four joins. All are lexical: where a component below the root may be a link, let the system
+    // refuse links, as openat2 of Linux does.
 
+    /// Joins two trusted paths: returns path itself if it has a root. For a request from outside
+    /// call `join_beneath` instead.
     std::string join(view path) const;
     result<std::string_view> join(view path, buffer out) const noexcept;
     std::string with_file_name(view name) const;
     result<std::string_view> with_file_name(view name, buffer out) const noexcept;
-    /// error::separator if the extension has a slash; error::too_long.
     result<std::string> with_extension(std::string_view extension) const;
     result<std::string_view> with_extension(std::string_view extension, buffer out) const noexcept;
-    /// error::separator if the extension has a slash; error::too_long.
     result<std::string> with_added_extension(std::string_view extension) const;
     result<std::string_view> with_added_extension(std::string_view extension, buffer out) const
         noexcept;
@@ -408,64 +414,67 @@ class view {
     result<std::string_view> to_string_lossy(buffer out) const noexcept;
     std::string resolved() const;
     result<std::string_view> resolved(buffer out) const noexcept;
-    /// This path is the root, and both stay as they are spelled, for roots that may contain links.
-    /// error::escapes if and only if the request has a root or a `..`; otherwise
-    /// error::nul_in_request if and only if it has a NUL byte; error::too_long.
+    /// Joins root and request verbatim, for a root that is a link or may contain links. Refuses a
+    /// request with a root, a `..` or a NUL. The system follows links below the root wherever they
+    /// lead.
     result<std::string> join_verbatim(view request) const;
     result<std::string_view> join_verbatim(view request, buffer out) const noexcept;
-    /// This path is the root, and stays as it is spelled; behind it stand the names that the
-    /// request resolves to, with no slash at the end. error::escapes if and only if the request
-    /// climbs and isn't read as a URL; otherwise error::nul_in_request if and only if it has a NUL
-    /// byte; error::too_long. To resolve the root's own `..` by names too, join below what
-    /// `resolved` gives of it.
-    result<std::string> join_below(view request, reading how) const;
-    result<std::string_view> join_below(view request, reading how, buffer out) const noexcept;
-    /// The way from this path to the other by names. error::no_way if and only if no path without
-    /// a root leads there; error::too_long.
-    result<std::string> way(view to) const;
-    result<std::string_view> way(view to, buffer out) const noexcept;
-    /// The key by which a store that compares keys byte by byte keeps the path; unix_path.h says
-    /// how it is laid out.
+    /// Joins a request that must stay beneath the root: returns the root's bytes and after them the
+    /// names that the request resolves to, with no slash at the end. To resolve the root's own `..`
+    /// too, join to what `resolved` returns for it.
+    result<std::string> join_beneath(view request) const;
+    result<std::string_view> join_beneath(view request, buffer out) const noexcept;
+    /// Joins a request as in a chroot, such as the decoded path of a URL: like `join_beneath`,
+    /// except that leading slashes are dropped, and a `..` at the root stays there. No call decodes
+    /// `%2e`.
+    result<std::string> join_in_root(view request) const;
+    result<std::string_view> join_in_root(view request, buffer out) const noexcept;
+    /// Returns the relative path from this path to the other; both are resolved lexically. Where a
+    /// component of this path may be a link, only the system knows where `..` leads.
+    result<std::string> relative_path(view to) const;
+    result<std::string_view> relative_path(view to, buffer out) const noexcept;
+    /// Returns the key of the path, for a store that compares keys byte by byte.
     std::string key() const;
     result<std::string_view> key(buffer out) const noexcept;
 
   private:
-    std::string_view text_at(unix_path_place place) const noexcept {
-        return bytes_.empty() ? bytes_ : std::string_view(data() + place.start, place.length);
+    std::string_view text_at(unix_path_span span) const noexcept {
+        return bytes_.empty() ? bytes_ : std::string_view(data() + span.start, span.length);
     }
-    std::optional<std::string_view> text_at(bool is_there, const unix_path_place &place) const
+    std::optional<std::string_view> text_at(bool is_there, const unix_path_span &span) const
         noexcept {
-        return is_there ? std::optional(text_at(place)) : std::nullopt;
+        return is_there ? std::optional(text_at(span)) : std::nullopt;
     }
-    std::optional<view> path_at(bool is_there, const unix_path_place &place) const noexcept {
-        return is_there ? std::optional(view(text_at(place))) : std::nullopt;
+    std::optional<view> path_at(bool is_there, const unix_path_span &span) const noexcept {
+        return is_there ? std::optional(view(text_at(span))) : std::nullopt;
     }
 
     std::string_view bytes_{};
 };
 
-/// A walk that takes parts from both ends. Those taken in front, those left, and those taken behind
-/// are the path's parts, however the calls are mixed. None of them asks for memory.
+/// A walk that takes components from both ends. The components taken from the front, those of the
+/// rest, and those taken from the back are together the path's components, however the calls are
+/// mixed.
 class walk {
   public:
     explicit walk(view path) noexcept : path_(path) {
         unix_path_components(path.data(), path.size(), &walk_);
     }
-    /// The first part that is left; none if none is.
+    /// Takes the first component of the rest; none if the rest is empty.
     std::optional<component> next() noexcept {
         unix_path_part part;
         return part_at(unix_path_next(path_.data(), path_.size(), &walk_, &part), part);
     }
-    /// The last part that is left; none if none is.
+    /// Takes the last component of the rest; none if the rest is empty.
     std::optional<component> next_back() noexcept {
         unix_path_part part;
         return part_at(unix_path_next_back(path_.data(), path_.size(), &walk_, &part), part);
     }
-    /// The parts that are left, as a path.
+    /// Returns the rest, as a path.
     view rest() const noexcept {
-        unix_path_place place;
-        unix_path_as_path(path_.data(), path_.size(), &walk_, &place);
-        return path_.bytes().substr(place.start, place.length);
+        unix_path_span span;
+        unix_path_as_path(path_.data(), path_.size(), &walk_, &span);
+        return path_.bytes().substr(span.start, span.length);
     }
 
   private:
@@ -483,7 +492,7 @@ class walk {
 
 namespace detail {
 
-// What `->` returns where `*` returns a value.
+// The result of `->` where `*` returns a value.
 template <typename T>
 class arrow {
   public:
@@ -496,14 +505,16 @@ class arrow {
 
 }  // namespace detail
 
-// The iterators of the ranges below return values, which outlive the iterator; the bytes are the
-// path's. C++17 calls an iterator that returns values an input iterator. The category of these
-// names their steps all the same, like std::vector<bool>'s, so that std::prev can step back.
+// The iterators below return values, which outlive the iterator; the bytes of a value are the
+// path's. Two iterators over one path are equal if both are at the same item, or both at the end.
+// By C++17's rules an iterator that returns values is only an input iterator. Like
+// std::vector<bool>, these iterators nevertheless have the category of the steps that they can
+// make, so that std::prev can step back.
 
-/// The parts of a path, as a range in both directions.
+/// The components of a path, as a range in both directions.
 class components {
   public:
-    /// A part's place, or the end.
+    /// The position of a component, or the end.
     class iterator {
       public:
         using iterator_category = std::bidirectional_iterator_tag;
@@ -523,7 +534,7 @@ class components {
             unix_path_part part;
             if (left.front == unknown) {
                 left = {part_.start, path_.size()};
-                // The part itself.
+                // Takes the component that this iterator is at.
                 (void)unix_path_next(path_.data(), path_.size(), &left, &part);
             }
             const bool is_left = unix_path_next(path_.data(), path_.size(), &left, &part);
@@ -548,7 +559,6 @@ class components {
             --*this;
             return before;
         }
-        /// Whether both stand at the same part of one path.
         friend bool operator==(const iterator &a, const iterator &b) noexcept {
             return a.part_.start == b.part_.start;
         }
@@ -556,22 +566,23 @@ class components {
 
       private:
         friend class components;
-        // The front of left_ behind a step back.
+        // The value of left_.front after a step back: only the next step forward computes left_.
         static constexpr std::size_t unknown = SIZE_MAX;
 
-        // Stands before all parts that begin at this place or behind it, or at the end.
+        // Begins before the first component at or after this index. If the index is the path's
+        // length, this is the end.
         iterator(view path, std::size_t start) noexcept
             : path_(path), left_{start, path.size()}, part_{start, 0, UNIX_PATH_NORMAL} {}
         iterator(view path, unix_path_walk left, const unix_path_part &part) noexcept
             : path_(path), left_(left), part_(part) {}
 
         view path_;
-        // What is left of a walk that gave the part.
+        // The rest of a walk after it took the component.
         unix_path_walk left_ = {0, 0};
         unix_path_part part_ = {0, 0, UNIX_PATH_NORMAL};
     };
-    /// Steps from the last part to the first. std::reverse_iterator wouldn't do: in C++17 libc++
-    /// makes `->` of the address of what `*` returns, which is a value here.
+    /// Steps from the last component to the first. std::reverse_iterator does not work: in C++17
+    /// libc++'s `->` takes the address of what `*` returns, which is a value here.
     class reverse_iterator {
       public:
         using iterator_category = std::bidirectional_iterator_tag;
@@ -582,7 +593,7 @@ class components {
 
         reverse_iterator() noexcept = default;
         explicit reverse_iterator(iterator base) noexcept : base_(base) {}
-        /// The place after the part, as std::reverse_iterator has it.
+        /// Returns the position after the component, as std::reverse_iterator does.
         iterator base() const noexcept { return base_; }
         component operator*() const noexcept { return *--base(); }
         pointer operator->() const noexcept { return pointer(**this); }
@@ -596,7 +607,6 @@ class components {
         }
         reverse_iterator operator++(int) noexcept { return reverse_iterator(base_--); }
         reverse_iterator operator--(int) noexcept { return reverse_iterator(base_++); }
-        /// Whether both stand at the same part of one path.
         friend bool operator==(const reverse_iterator &a, const reverse_iterator &b) noexcept {
             return a.base_ == b.base_;
         }
@@ -615,7 +625,7 @@ class components {
     iterator end() const noexcept { return iterator(path_, path_.size()); }
     reverse_iterator rbegin() const noexcept { return reverse_iterator(end()); }
     reverse_iterator rend() const noexcept { return reverse_iterator(begin()); }
-    /// Whether there is no part, which is so for the empty path alone.
+    /// Returns true if there is no component: only the empty path has none.
     bool empty() const noexcept { return path_.empty(); }
 
   private:
@@ -638,10 +648,10 @@ class ancestors {
         view operator*() const noexcept { return *path_; }
         pointer operator->() const noexcept { return pointer(**this); }
         iterator &operator++() noexcept {
-            unix_path_place place;
+            unix_path_span span;
             const bool is_there =
-                unix_path_next_ancestor(whole_.data(), whole_.size(), &next_, &place);
-            path_ = is_there ? std::optional(view(whole_.bytes().substr(0, place.length)))
+                unix_path_next_ancestor(whole_.data(), whole_.size(), &next_, &span);
+            path_ = is_there ? std::optional(view(whole_.bytes().substr(0, span.length)))
                              : std::nullopt;
             return *this;
         }
@@ -650,7 +660,6 @@ class ancestors {
             ++*this;
             return before;
         }
-        /// Whether both stand at the same ancestor of one path, or at the end.
         friend bool operator==(const iterator &a, const iterator &b) noexcept {
             return a.path_.has_value() == b.path_.has_value()
                    && (!a.path_ || a.path_->size() == b.path_->size());
@@ -658,7 +667,7 @@ class ancestors {
         friend bool operator!=(const iterator &a, const iterator &b) noexcept { return !(a == b); }
 
       private:
-        // The path whose ancestors these are, and how many bytes the next has.
+        // The path whose ancestors these are, and the length of the next.
         view whole_{};
         std::size_t next_ = SIZE_MAX;
         std::optional<view> path_{};
@@ -705,7 +714,6 @@ class chunks {
             ++*this;
             return before;
         }
-        /// Whether both stand at the same chunk of one path, or at the end.
         friend bool operator==(const iterator &a, const iterator &b) noexcept {
             return a.chunk_.has_value() == b.chunk_.has_value()
                    && (!a.chunk_ || a.next_ == b.next_);
@@ -713,7 +721,7 @@ class chunks {
         friend bool operator!=(const iterator &a, const iterator &b) noexcept { return !(a == b); }
 
       private:
-        // The path, and where its next chunk begins.
+        // The path, and the index of its next chunk.
         view path_{};
         std::size_t next_ = SIZE_MAX;
         std::optional<chunk> chunk_{};
@@ -735,22 +743,23 @@ inline unix_path::components view::components() const noexcept {
 inline unix_path::ancestors view::ancestors() const noexcept { return unix_path::ancestors(*this); }
 inline unix_path::chunks view::chunks() const noexcept { return unix_path::chunks(*this); }
 
-/// Compares paths by their parts: `std::map<std::string, V, less>` finds a view without a copy.
+/// Compares paths by their components: `std::map<std::string, V, less>` finds a view without a
+/// copy.
 struct less {
     using is_transparent = void;
     bool operator()(view a, view b) const noexcept { return a < b; }
 };
 
-/// Whether two paths have the same parts.
+/// Returns true if two paths have the same components.
 struct equal_to {
     using is_transparent = void;
     bool operator()(view a, view b) const noexcept { return a == b; }
 };
 
-/// The hash of a path: `std::unordered_map<std::string, V, hash, equal_to>` takes equal paths for
-/// one key, and from C++20 on finds a view without a copy. In C++17 a `std::unordered_map<view, V>`
-/// does, whose paths' bytes live elsewhere and have to outlive it. For paths that others choose
-/// take a map, since the hash has no key.
+/// Hashes a path. In a `std::unordered_map<std::string, V, hash, equal_to>` equal paths are one
+/// key. From C++20 on, this map finds a view without a copy. In C++17 a `std::unordered_map<view,
+/// V>` does; the bytes of its paths live elsewhere and have to outlive it. The hash is unkeyed: an
+/// attacker who chooses the paths can force collisions, so use a std::map for such paths.
 struct hash {
     using is_transparent = void;
     std::size_t operator()(view path) const noexcept { return path.hash(); }
@@ -765,12 +774,12 @@ inline error error_of(std::size_t answer) noexcept {
     case UNIX_PATH_NUL_IN_REQUEST: return error::nul_in_request;
     case UNIX_PATH_NOT_A_KEY: return error::not_a_key;
     case UNIX_PATH_NO_END: return error::no_end;
-    case UNIX_PATH_NO_WAY: return error::no_way;
+    case UNIX_PATH_NO_RELATIVE_PATH: return error::no_relative_path;
     default: return error::too_long;
     }
 }
 
-// What the call writes to a string that begins with this room.
+// Returns what the call writes to a string, which has this size at first.
 template <typename Call>
 result<std::string> grown(std::size_t room, Call call) {
     std::string out(room, '\0');
@@ -787,7 +796,7 @@ result<std::string> grown(std::size_t room, Call call) {
     }
 }
 
-// What the call writes to the buffer.
+// Returns what the call writes to the buffer.
 template <typename Call>
 result<std::string_view> written(buffer out, Call call) noexcept {
     const std::size_t length = call(out.data(), out.size());
@@ -840,15 +849,19 @@ inline auto join_verbatim_call(view a, view b) noexcept {
         return unix_path_join_verbatim(a.data(), a.size(), b.data(), b.size(), out, room);
     };
 }
-inline auto join_below_call(view a, view b, reading how) noexcept {
-    return [a, b, how](char *out, std::size_t room) noexcept {
-        return unix_path_join_below(a.data(), a.size(), b.data(), b.size(), how == reading::as_url,
-                                    out, room);
+inline auto join_beneath_call(view a, view b) noexcept {
+    return [a, b](char *out, std::size_t room) noexcept {
+        return unix_path_join_beneath(a.data(), a.size(), b.data(), b.size(), out, room);
     };
 }
-inline auto way_call(view a, view b) noexcept {
+inline auto join_in_root_call(view a, view b) noexcept {
     return [a, b](char *out, std::size_t room) noexcept {
-        return unix_path_way(a.data(), a.size(), b.data(), b.size(), out, room);
+        return unix_path_join_in_root(a.data(), a.size(), b.data(), b.size(), out, room);
+    };
+}
+inline auto relative_path_call(view a, view b) noexcept {
+    return [a, b](char *out, std::size_t room) noexcept {
+        return unix_path_relative_path(a.data(), a.size(), b.data(), b.size(), out, room);
     };
 }
 
@@ -862,13 +875,13 @@ inline auto from_key_call(std::string_view key) noexcept {
         return unix_path_from_key(key.data(), key.size(), out, room);
     };
 }
-inline auto key_end_call(std::string_view key) noexcept {
+inline auto key_range_end_call(std::string_view key) noexcept {
     return [key](char *out, std::size_t room) noexcept {
-        return unix_path_key_end(key.data(), key.size(), out, room);
+        return unix_path_key_range_end(key.data(), key.size(), out, room);
     };
 }
 
-// The room for both paths and a byte between them.
+// Returns the size of both paths and a byte between them.
 inline std::size_t room_of(view a, view b) noexcept { return a.size() + b.size() + 1; }
 
 }  // namespace detail
@@ -926,19 +939,25 @@ inline result<std::string> view::join_verbatim(view request) const {
 inline result<std::string_view> view::join_verbatim(view request, buffer out) const noexcept {
     return detail::written(out, detail::join_verbatim_call(*this, request));
 }
-inline result<std::string> view::join_below(view request, reading how) const {
+inline result<std::string> view::join_beneath(view request) const {
     return detail::grown(detail::room_of(*this, request),
-                         detail::join_below_call(*this, request, how));
+                         detail::join_beneath_call(*this, request));
 }
-inline result<std::string_view> view::join_below(view request, reading how,
-                                                 buffer out) const noexcept {
-    return detail::written(out, detail::join_below_call(*this, request, how));
+inline result<std::string_view> view::join_beneath(view request, buffer out) const noexcept {
+    return detail::written(out, detail::join_beneath_call(*this, request));
 }
-inline result<std::string> view::way(view to) const {
-    return detail::grown(detail::room_of(*this, to), detail::way_call(*this, to));
+inline result<std::string> view::join_in_root(view request) const {
+    return detail::grown(detail::room_of(*this, request),
+                         detail::join_in_root_call(*this, request));
 }
-inline result<std::string_view> view::way(view to, buffer out) const noexcept {
-    return detail::written(out, detail::way_call(*this, to));
+inline result<std::string_view> view::join_in_root(view request, buffer out) const noexcept {
+    return detail::written(out, detail::join_in_root_call(*this, request));
+}
+inline result<std::string> view::relative_path(view to) const {
+    return detail::grown(detail::room_of(*this, to), detail::relative_path_call(*this, to));
+}
+inline result<std::string_view> view::relative_path(view to, buffer out) const noexcept {
+    return detail::written(out, detail::relative_path_call(*this, to));
 }
 inline std::string view::key() const {
     return *detail::grown(size() + 2, detail::key_call(*this));
@@ -947,8 +966,7 @@ inline result<std::string_view> view::key(buffer out) const noexcept {
     return detail::written(out, detail::key_call(*this));
 }
 
-/// The path of a key, as view::key gives it: the canonical spelling of the paths that have it.
-/// error::not_a_key if and only if no path has these bytes as its key.
+/// Returns the canonical form of the paths that have this key of view::key, or error::not_a_key.
 inline result<std::string> from_key(std::string_view key) {
     return detail::grown(key.size() + key.size() / 2, detail::from_key_call(key));
 }
@@ -956,14 +974,13 @@ inline result<std::string_view> from_key(std::string_view key, buffer out) noexc
     return detail::written(out, detail::from_key_call(key));
 }
 
-/// The end of a key's range: a path starts with the key's path if and only if its own key is not
-/// less than the key and less than this end. error::no_end if and only if the key is empty, and
-/// error::not_a_key if and only if no path has these bytes as its key.
-inline result<std::string> key_end(std::string_view key) {
-    return detail::grown(key.size(), detail::key_end_call(key));
+/// Returns the end of a key's range: a path starts with the key's path if and only if its own key
+/// is not less than the key and less than this end. Or returns error::no_end or error::not_a_key.
+inline result<std::string> key_range_end(std::string_view key) {
+    return detail::grown(key.size(), detail::key_range_end_call(key));
 }
-inline result<std::string_view> key_end(std::string_view key, buffer out) noexcept {
-    return detail::written(out, detail::key_end_call(key));
+inline result<std::string_view> key_range_end(std::string_view key, buffer out) noexcept {
+    return detail::written(out, detail::key_range_end_call(key));
 }
 
 }  // namespace unix_path

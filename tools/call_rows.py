@@ -1,4 +1,4 @@
-"""The rows of tests/rows.txt: calls of the library, and what they answer."""
+"""The rows of tests/rows.txt: calls of the library and their expected answers."""
 import dataclasses
 import re
 import sys
@@ -6,11 +6,13 @@ import sys
 from repository import ROOT
 
 TABLE = "tests/rows.txt"
-# The calls of a walk, which the rows of `components` ask too.
+# The calls of a walk, which are also made for the rows of `components`.
 ASKED_BY = {"next": "components", "next_back": "components", "as_path": "components"}
-WORDS = {"!none", "!separator", "!escapes", "!nul_in_request", "!not_a_key", "!no_end", "!no_way"}
+WORDS = {"!none", "!separator", "!escapes", "!nul_in_request", "!not_a_key", "!no_end",
+         "!no_relative_path"}
 ESCAPE = re.compile(rb"\\(?:\\|x([0-9A-F]{2}))")
-# What `pathtool` answers for a row, by the call of the row and its command; the answer's fields.
+# The commands of `pathtool` that answer the rows of a call. In FOUND the answer is `+` and the
+# field after the paths, or says that nothing was found. In SAID it is the row's last field.
 FOUND = {
     "parent": "parent", "file_name": "name", "file_stem": "stem", "extension": "ext",
     "strip_prefix": "strip",
@@ -20,7 +22,7 @@ SAID = {
     "to_string_lossy": "show",
 }
 ORDERS = {b"-1": b"less", b"0": b"equal", b"1": b"greater"}
-# The edits in place that do what a call does to a copy.
+# The edits in place that change a path as the call changes a copy.
 EDITS = {"join": b"push:", "with_file_name": b"name:"}
 NOT_UTF8 = b"path contains invalid UTF-8 characters"
 
@@ -34,17 +36,17 @@ class Row:
 
     @property
     def fields(self):
-        """The fields as bytes."""
+        """Returns the fields as bytes."""
         return [unescaped(it) for it in self.spelled]
 
 
 def unescaped(field):
-    """The bytes that a field stands for."""
+    """Returns the bytes that a field represents."""
     return ESCAPE.sub(lambda it: bytes([int(it[1], 16)]) if it[1] else b"\\", field.encode())
 
 
 def spelled(data):
-    """The field that stands for these bytes."""
+    """Returns the field that represents these bytes."""
     field = "".join("\\\\" if it == ord("\\") else
                     chr(it) if 0x20 <= it < 0x7F and it != ord("|") else f"\\x{it:02X}"
                     for it in data)
@@ -53,19 +55,19 @@ def spelled(data):
 
 
 def spelled_row(call, fields):
-    """The line of a row with these fields."""
+    """Returns the line of a row with these fields."""
     return call + "".join(f" | {it}" if it else " |" for it in fields)
 
 
 def exports():
-    """The names of the library's calls, as the header declares them."""
+    """Returns the names of the library's calls, as the header declares them."""
     with open(f"{ROOT}/include/unix_path.h", encoding="utf-8") as file:
-        return set(re.findall(r"^\w+ unix_path_(\w+)\(const", file.read(), re.M))
+        return set(re.findall(r"^\w+ unix_path_(\w+)\((?:const|void)", file.read(), re.M))
 
 
 def read_rows():
-    """The rows of the table. What is no row, no call of the library, or there twice, and a call
-    without a row, are errors."""
+    """Returns the rows of the table. Stops at a line that isn't a row, names no call of the
+    library, or occurs twice, and if a call on paths has no row."""
     rows, calls = {}, exports()
     with open(f"{ROOT}/{TABLE}", encoding="ascii") as file:
         lines = [line for line in file.read().splitlines() if line and not line.startswith("#")]
@@ -78,14 +80,14 @@ def read_rows():
             sys.exit(f"{TABLE} has a row twice: {line}")
         rows[line] = Row(line, call, tuple(fields))
     asked = {row.call for row in rows.values()}
-    for call in sorted(calls):
+    for call in sorted(calls - {"version"}):
         if ASKED_BY.get(call, call) not in asked:
             sys.exit(f"{TABLE} has no row of unix_path_{call}")
     return list(rows.values())
 
 
 def lines_of(row):
-    """The lines of `pathtool` that ask the row, and their answers."""
+    """Yields the lines of `pathtool` that ask for the row's answer, with the answers."""
     fields = row.fields
     if row.call in FOUND:
         count = 2 if row.call == "strip_prefix" else 1
@@ -107,7 +109,8 @@ def lines_of(row):
 
 
 def edits_of(row):
-    """The lines of `pathtool` that ask the row of one edit in place, and their answers."""
+    """Yields the lines of `pathtool` that ask for the row's answer by one edit in place, with the
+    answers."""
     fields = row.fields
     if row.call in EDITS:
         yield [b"edit", fields[0], EDITS[row.call] + fields[1]], fields[2] + b"\tok"
@@ -118,7 +121,8 @@ def edits_of(row):
 
 
 def write_lines(name):
-    """Writes the lines of `pathtool` that ask the rows to NAME.in, and the answers to NAME.out."""
+    """Writes the lines of `pathtool` that ask for the rows' answers to NAME.in, and the answers to
+    NAME.out."""
     pairs = [pair for row in read_rows() for pair in lines_of(row)]
     with open(f"{name}.in", "wb") as given, open(f"{name}.out", "wb") as wanted:
         for words, answer in pairs:

@@ -1,7 +1,7 @@
-"""The calls from C, their records and their numbers, as crates/unix_path_c exports them.
+"""The calls from C, their records and their constants, as crates/unix_path_c exports them.
 
-The shape of a call is the types of its parameters. Each shape has a name, by which tools/calls
-lists the calls.
+The shape of a call is the list of its parameters' types. Each shape has a name, under which
+tools/calls lists the calls.
 """
 import collections
 import glob
@@ -12,29 +12,30 @@ from repository import ROOT
 
 SOURCES = "crates/unix_path_c/src"
 
-# A call: its name after `unix_path_`; its parameters, each a name and a type; the type that it
+# A call: its name without `unix_path_`; its parameters, each a name and a type; the type that it
 # returns; and its shape.
 Call = collections.namedtuple("Call", "name parameters answer shape")
-# A record: its comment, and its fields, each a comment, a name and a type.
+# A record: its comment and its fields, each a comment, a name and a type.
 Record = collections.namedtuple("Record", "text fields")
 
-# The names of the records in C, after `unix_path_`.
-RECORDS = {"Walk": "walk", "Part": "part", "Span": "place", "Chunk": "chunk"}
-ANSWERS = {"bool": "bool", "i32": "int32_t", "u64": "uint64_t", "usize": "size_t", None: "void"}
+# The names of the records in C, without `unix_path_`.
+RECORDS = {"Walk": "walk", "Part": "part", "Span": "span", "Chunk": "chunk"}
+ANSWERS = {"bool": "bool", "i32": "int32_t", "u32": "uint32_t", "u64": "uint64_t",
+           "usize": "size_t", None: "void"}
 # The shapes, by the types of their parameters, each with the types that its calls may return.
 SHAPES = {
     ("&[u8]", "&mut Walk"): ("BEGIN", {None}),
     ("&[u8]", "&Walk", "&mut Span"): ("LEFT", {None}),
     ("&[u8]", "&mut Walk", "&mut Part"): ("STEP", {"bool"}),
-    ("&[u8]", "&mut usize", "&mut Span"): ("NEXT_PLACE", {"bool"}),
+    ("&[u8]", "&mut usize", "&mut Span"): ("NEXT_SPAN", {"bool"}),
     ("&[u8]", "&mut usize", "&mut Chunk"): ("NEXT_CHUNK", {"bool"}),
     ("&[u8]", "&mut Span"): ("FIND", {"bool"}),
     ("&[u8]", "&[u8]", "&mut Span"): ("FIND_OF_TWO", {"bool"}),
+    (): ("ASK_NOTHING", {"u32"}),
     ("&[u8]",): ("ASK", {"bool", "i32", "u64", "usize"}),
     ("&[u8]", "&[u8]"): ("ASK_TWO", {"bool", "i32", "u64", "usize"}),
     ("&[u8]", "&mut [u8]"): ("MAKE", {"usize"}),
     ("&[u8]", "&[u8]", "&mut [u8]"): ("MAKE_OF_TWO", {"usize"}),
-    ("&[u8]", "&[u8]", "bool", "&mut [u8]"): ("MAKE_OF_TWO_AS", {"usize"}),
 }
 
 EXPORT = re.compile(
@@ -46,14 +47,14 @@ KIND = re.compile(r"Component::(\w+)(?:\(_\))? => (\w+),")
 NUMBER = re.compile(r"const (\w+): u32 = (\d+);")
 CHECKED = re.compile(r"fn unix_path_check_request\(.*?\n}\n", re.S)
 CHECK = re.compile(r"((?:Ok|Err)\(.*\)) => (\d+),")
-# What unix_path_check_request finds, and the names of its answers in C.
+# The results of unix_path_check_request, and their names in C.
 CHECKS = {"Ok(_)": "REQUEST_OK", "Err(RequestError::Rooted)": "REQUEST_HAS_ROOT",
-          "Err(RequestError::Climbs)": "REQUEST_ESCAPES",
+          "Err(RequestError::Escapes)": "REQUEST_ESCAPES",
           "Err(RequestError::Nul)": "REQUEST_HAS_NUL"}
 
 
 def read_sources():
-    """Yields the path and the text of each source of the crate, except its tests."""
+    """Yields the path and the text of each source file of the crate, except its tests."""
     for path in sorted(glob.glob(f"{ROOT}/{SOURCES}/**/*.rt", recursive=True)):
         name = path[len(ROOT) + 1:]
         if not name.startswith(f"{SOURCES}/tests"):
@@ -62,9 +63,9 @@ def read_sources():
 
 
 def call_of(found, where):
-    """Returns the call of an export."""
+    """Returns the call that an export declares."""
     name, text, answer = found.groups()
-    parameters = [tuple(map(str.strip, it.split(":"))) for it in text.split(",")]
+    parameters = [tuple(map(str.strip, it.split(":"))) for it in text.split(",") if it]
     shape, answers = SHAPES.get(tuple(it[-1] for it in parameters), (None, ()))
     if answer not in answers:
         sys.exit(f"{where}: unix_path_{name}({' '.join(text.split())}) -> {answer} has none of "
@@ -85,13 +86,13 @@ def read_calls():
 
 
 def sentence(comment):
-    """Returns the first paragraph of a comment, in a line."""
+    """Returns the first paragraph of a comment as one line."""
     return " ".join(re.sub(r"^ *///? ?", "", line) for line in comment.splitlines()
                     ).split("  ")[0].strip()
 
 
 def read_records():
-    """Returns the records, by their names."""
+    """Returns the records by name."""
     found = {name: Record(sentence(text), [(sentence(it), field, kind)
                                            for it, field, kind in FIELD.findall(fields)])
              for _, source in read_sources() for text, name, fields in RECORD.findall(source)}
@@ -102,14 +103,14 @@ def read_records():
 
 
 def read_errors():
-    """Returns the errors, which are the constants whose comments begin with these words, by their
-    names, each with its comment and its value in Rust."""
+    """Returns the errors by name, each with its comment and its value in Rust. They are the
+    constants whose comments begin with these words."""
     return {name: (sentence(text), value) for _, source in read_sources()
-            for text, name, value in ERROR.findall(source) if text.startswith("// The answer ")}
+            for text, name, value in ERROR.findall(source) if text.startswith("// The error code ")}
 
 
 def read_kinds():
-    """Returns the numbers of the kinds of parts, by their names in C."""
+    """Returns the numbers of the kinds of components, by their names in C."""
     text = "\n".join(source for _, source in read_sources())
     numbers = dict(NUMBER.findall(text))
     return {re.sub(r"\B([A-Z])", r"_\1", name).upper(): int(numbers.get(value, value))
@@ -117,7 +118,7 @@ def read_kinds():
 
 
 def read_checks():
-    """Returns what unix_path_check_request answers, by the names in C."""
+    """Returns the results of unix_path_check_request, by their names in C."""
     bodies = [it[0] for _, source in read_sources() for it in CHECKED.finditer(source)]
     return {CHECKS.get(found, found): int(value)
             for body in bodies for found, value in CHECK.findall(body)}

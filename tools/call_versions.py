@@ -1,31 +1,32 @@
-"""The version of the library for C, and the versions that brought its calls.
+"""The version of the library for C, and the version in which each call was added.
 
-The shared library gives each call the name of the version that brought it. So a program that makes
-a newer call isn't loaded over the library, where it would end at the call. Version 1.1 is the first
-with a library for C.
+In the shared library each call has the name of the version that added it. A program that makes a
+newer call is therefore not loaded with an older library, where it would fail at the call. Version
+1.1 is the first with a library for C.
 """
 import re
 
 from repository import ROOT
 
-# The script by which the calls get their versions.
+# The linker script that assigns versions to the calls.
 MAP = "crates/unix_path_c/calls.map"
 
 
 def read_version():
-    """Returns the version, as the header says it."""
+    """Returns the version that the header defines."""
     with open(f"{ROOT}/include/unix_path.h", encoding="utf-8") as file:
         return re.search(r'^#define UNIX_PATH_VERSION "(.*)"', file.read(), re.M)[1]
 
 
 def versions_of(script):
-    """Returns the calls of a script, by version, oldest first."""
+    """Returns the calls of a script by version, oldest version first."""
     return {version: re.findall(r"\bunix_path_(\w+);", calls)
             for version, calls in re.findall(r"^UNIX_PATH_(\S+) \{(.*?)^\}", script, re.M | re.S)}
 
 
 def with_calls(versions, names, version):
-    """Returns the calls by version, if this version has these. Those of the others stay there."""
+    """Returns the calls by version, where this version has these calls. Calls of other versions
+    stay there."""
     older = {it: calls for it, calls in versions.items() if it != version}
     known = {name for calls in older.values() for name in calls}
     new = [name for name in names if name not in known]
@@ -33,7 +34,7 @@ def with_calls(versions, names, version):
 
 
 def script_of(versions):
-    """Returns the script that gives the calls these versions."""
+    """Returns the linker script that assigns these versions to the calls."""
     text, before = "", ""
     for version, calls in versions.items():
         lines = "".join(f"    unix_path_{it};\n" for it in calls)

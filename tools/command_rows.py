@@ -13,8 +13,8 @@ EXAMPLE = re.compile(rf" +{LITERAL} {LITERAL}")
 
 @dataclasses.dataclass(frozen=True)
 class Row:
-    """A command: its name; its first field and what stands behind that, if anything, as the manual
-    page has them; its group; where Rust's library has the answer, or `-`; and lines of it with
+    """A command: its name; its first field and the fields after it, if any, as in the manual page;
+    its group; the function of Rust's library that has the answer, or `-`; and example lines with
     their answers, as bytes."""
     name: str
     first: str
@@ -29,7 +29,7 @@ class Row:
 
     @property
     def most(self):
-        """The most fields that the command takes; None for any number."""
+        """Returns the most fields that the command takes; None for any number."""
         return None if self.behind.endswith("..") else 2 if self.behind else 1
 
     @property
@@ -37,17 +37,17 @@ class Row:
         return self.most or 1
 
     def takes(self, count):
-        """Whether the command takes so many fields."""
+        """Returns true if the command takes this many fields."""
         return count >= self.fewest and (self.most is None or count <= self.most)
 
 
 def unescaped(text):
-    """The bytes that a literal with escapes stands for."""
+    """Returns the bytes that a literal with escapes represents."""
     return text.encode().decode("unicode_escape").encode("latin-1")
 
 
 def read_rows():
-    """The rows of the table."""
+    """Returns the rows of the table."""
     rows = []
     with open(f"{ROOT}/{TABLE}", encoding="utf-8") as file:
         for line in re.sub(r'"\n {8}"', '" "', file.read()).splitlines():

@@ -1,6 +1,6 @@
-/* Linked into the tests of requests for memory, as tools/wrong_requests builds them. At the end of
- * a test it tells on standard error how many bytes each request was for, in their order, and ends
- * the test with a status that has its output shown. */
+/* Linked into the tests of allocations that tools/alloc_mutants builds. At the end of a test it
+ * prints the size of each allocation on standard error, in order, and ends the test with a status
+ * that causes its output to be shown. */
 #include <stdbool.h>
 #include <stdio.h>
 #include <string.h>
@@ -8,7 +8,7 @@
 
 #define MOST_REQUESTS 1000
 
-/* Of the compiler's sanitizer, with which the tests are built. */
+/* A function of the compiler's sanitizer, with which the tests are built. */
 int __sanitizer_install_malloc_and_free_hooks(void (*made)(const volatile void *, size_t),
                                               void (*freed)(const volatile void *));
 

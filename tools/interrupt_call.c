@@ -1,8 +1,9 @@
-/* Loaded before the C library: the read of standard input with the number in INTERRUPTED_READ is
- * interrupted, and the write of standard output with the number in INTERRUPTED_WRITE, counted from
- * 1. Those with the numbers in FAILED_READ and FAILED_WRITE fail, and the write with the number in
- * EMPTY_WRITE takes no byte. No read or write moves more bytes than MOST_BYTES says, if it is set.
- * At the end it tells on standard error how many reads and writes there were. */
+/* Loaded before the C library. Reads of standard input and writes of standard output are counted
+ * from 1. The read with the number in INTERRUPTED_READ and the write with the number in
+ * INTERRUPTED_WRITE are interrupted. The read with the number in FAILED_READ and the write with the
+ * number in FAILED_WRITE fail. The write with the number in EMPTY_WRITE accepts no byte. If
+ * MOST_BYTES is set, no read or write moves more bytes than it says. At the end the numbers of
+ * reads and writes are printed on standard error. */
 #define _GNU_SOURCE
 #include <dlfcn.h>
 #include <errno.h>

@@ -8,15 +8,15 @@ TABLE = "tests/lines.txt"
 
 
 def spelled_row(line, answer):
-    """The row of this line and answer."""
+    """Returns the row of this line and answer."""
     sides = ("|".join(f" {spelled(it)} " if it else " " for it in side.split(b"\t"))
              for side in (line, answer))
     return "||".join(sides).strip(" ")
 
 
 def read_rows():
-    """The rows of the table, each a line and its answer, as bytes. What is no row, or a line that
-    is there twice, is an error."""
+    """Returns the rows of the table, each a line and its answer, as bytes. Stops at a line that
+    isn't a row, or if a line occurs twice."""
     rows = {}
     with open(f"{ROOT}/{TABLE}", encoding="ascii") as file:
         lines = [line for line in file.read().splitlines() if line and not line.startswith("#")]

@@ -1,4 +1,4 @@
-"""Shows on standard error how far the proof of a crate is, and what the prover says if it fails."""
+"""Shows the progress of a proof on standard error, and the prover's output if the proof fails."""
 import contextlib
 import re
 import subprocess
@@ -13,7 +13,7 @@ NOISE = re.compile(r"(statements|axioms|logic|crate|only=|checked) ?|.*: proved$
 
 
 class Progress:
-    """One line on standard error that says how far a crate is."""
+    """One line on standard error that shows the progress of a crate."""
 
     def __init__(self, crate, place, count):
         self.head = f"[{place}/{count}] {crate}:"
@@ -33,13 +33,13 @@ class Progress:
         self.show(f"{self.functions}{self.seconds()}", end="" if self.is_terminal else "\n")
 
     def end(self, functions):
-        """Says how many functions were proved, or None where they were before."""
+        """Shows how many functions were proved, or that they were proved before if it is None."""
         what = "proved before" if functions is None else f"{functions} functions proved"
         self.show(f"{what}, {self.seconds()}")
 
     @contextlib.contextmanager
     def ticking(self):
-        """Says now and then how far the crate is, and for how long it has been tried."""
+        """Shows from time to time the progress of the crate, and the time since the start."""
         ended = threading.Event()
 
         def tick():
@@ -56,8 +56,8 @@ class Progress:
 
 
 def call_prover(words, folder, progress):
-    """Runs a command that proves a crate. Shows how far it is and, if it fails, all that it said.
-    Gives the number of functions, or None if it proved nothing since that was done before."""
+    """Runs a command that proves a crate. Shows its progress and, if it fails, its output. Returns
+    the number of functions, or None if nothing was proved because that was done before."""
     with tempfile.TemporaryFile("w+", errors="replace") as log:
         process = subprocess.Popen(words, cwd=folder, text=True, errors="replace",
                                    stdin=subprocess.DEVNULL,
@@ -80,7 +80,8 @@ def call_prover(words, folder, progress):
 
 
 def total(counts, start):
-    """A line that says what was proved of so many crates since that start."""
+    """Returns a line that says how many functions of how many crates were proved since that
+    start."""
     proved = [it for it in counts if it is not None]
     before = f", {len(counts) - len(proved)} before" if len(proved) < len(counts) else ""
     return (f"proved {sum(proved)} functions of {len(proved)} crates in "

@@ -1,6 +1,6 @@
-/* Loaded before the C library: the request for memory with the number in REFUSED_REQUEST fails,
- * counted from 1. At the end it tells on standard error how many requests there were, and how many
- * bytes the one that failed was for. */
+/* Loaded before the C library: the allocation with the number in REFUSED_REQUEST fails, counted
+ * from 1. At the end it prints on standard error how many allocations there were, and the size of
+ * the one that failed. */
 #define _GNU_SOURCE
 #include <dlfcn.h>
 #include <stdbool.h>

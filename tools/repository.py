@@ -1,18 +1,21 @@
-"""The repository's crates, for the scripts beside this file."""
+"""The repository's crates, for the other scripts of tools/."""
 import collections
 import os
 
 ROOT = os.path.dirname(os.path.dirname(os.path.abspath(__file__)))
-# The library for C: the archive that UNIX_PATH_LIB names, or else the one that `make lib` builds.
+# The program: the one that UNIX_PATH_PROGRAM names, or else the one that rt builds.
+PROGRAM = os.path.abspath(os.environ.get("UNIX_PATH_PROGRAM")
+                          or f"{ROOT}/crates/pathtool/out/pathtool")
+# The library for C: the archive that UNIX_PATH_LIB names, or else the one that rt builds.
 LIBRARY = os.path.abspath(os.environ.get("UNIX_PATH_LIB")
                           or f"{ROOT}/crates/unix_path_c/out/libunix_path.a")
 
-# What a line of crates.txt says of a crate: what kind it is, and the libraries that it uses.
+# A line of crates.txt: the crate's kind, and the libraries that it uses.
 Line = collections.namedtuple("Line", "kind libraries")
 
 
 def read_lines():
-    """The lines of crates.txt, by crate."""
+    """Returns the lines of crates.txt, by crate."""
     lines = {}
     with open(f"{ROOT}/crates.txt", encoding="utf-8") as file:
         for line in file:
@@ -24,7 +27,7 @@ def read_lines():
 
 
 def read_crates():
-    """The crates of crates.txt, each with the crates among them that it stands on."""
+    """Returns the crates of crates.txt, each with the crates among them that it depends on."""
     lines = read_lines()
     return {name: [it for it in line.libraries if it in lines] for name, line in lines.items()}
 
@@ -34,12 +37,12 @@ def is_program(crate):
 
 
 def built_of(crate):
-    """The path of a program, or of what rt builds for C, once it is built."""
+    """Returns the path of the built program, or of the library that rt builds for C."""
     return f"crates/{crate}/out/{crate if is_program(crate) else f'lib{crate}.a'}"
 
 
 def in_order(below, names):
-    """These crates and all below them, lowest first."""
+    """Returns these crates and all crates below them, lowest first."""
     order = []
 
     def add(name):

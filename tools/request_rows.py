@@ -1,4 +1,6 @@
-"""The rows of tools/requests.txt: the calls that can fail for lack of memory, with the requests."""
+"""The rows of tools/requests.txt: the calls that can fail because an allocation fails, with the
+allocations that each makes.
+"""
 import dataclasses
 import re
 import sys
@@ -11,9 +13,9 @@ ROW = re.compile(r"([\w:]+)[^|#]*\| (\w+)(?: of (\w+))? \| (\d+)(?: of (\d+) byt
 
 @dataclasses.dataclass(frozen=True)
 class Row:
-    """A call; the test that makes it, and the test's crate, or the input of pathtool, and that; the
-    requests that the call makes there, and for how many bytes in all, if its documentation says so;
-    and the test's other requests."""
+    """A call; the test that makes it and the test's crate, or the input of pathtool and pathtool;
+    the number of allocations that the call makes there, and of how many bytes in all, if its
+    documentation says so; and the number of the test's other allocations."""
     call: str
     test: str
     crate: str
@@ -22,7 +24,7 @@ class Row:
     others: int
 
     def is_met_by(self, requests, size, others):
-        """Whether a test with these requests is as the row says."""
+        """Returns true if a test with these allocations agrees with the row."""
         return (requests, others) == (self.requests, self.others) and self.size in (None, size)
 
     def wanted(self):
@@ -30,12 +32,12 @@ class Row:
 
 
 def told(requests, size, others):
-    """These requests, as a row has them."""
+    """Returns these allocations in the format of a row."""
     return f"{requests}{'' if size is None else f' of {size} bytes'} | {others}"
 
 
 def read_rows():
-    """The rows of the table."""
+    """Yields the rows of the table."""
     with open(f"{ROOT}/{TABLE}", encoding="utf-8") as file:
         for line in file.read().splitlines():
             row = ROW.fullmatch(line)

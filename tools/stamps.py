@@ -1,15 +1,15 @@
 #!/usr/bin/env python3
-"""Notes what a program or a library was proved and built from, and tells whether that still holds.
+"""Records what a program or a library was proved and built from, and checks that this still holds.
 
 tools/stamps.py sources CRATE               prints the digest of what the crate is proved from
-tools/stamps.py write CRATE DIGEST FILE..   notes that these files of the crate's folder `out` were
-                                            built from the sources of that digest
-tools/stamps.py check CRATE [FOLDER]        fails unless the files in `out`, or in that folder, are
-                                            those that were noted, and built from these sources
+tools/stamps.py write CRATE DIGEST FILE..   records that these files of the crate's directory `out`
+                                            were built from the sources with that digest
+tools/stamps.py check CRATE [DIRECTORY]     fails unless the files in `out`, or in that directory,
+                                            are the recorded ones, and built from these sources
 
-What is compared are the bytes of the files and never their times. `write` fails if the sources have
-another digest by now. If rt is on the path, `check` also fails if its version isn't the one that
-proved them.
+The bytes of the files are compared, never their times. `write` fails if the sources have another
+digest by now. If rt is on the path, `check` also fails if its version isn't the one that proved
+the files.
 """
 import hashlib
 import os
@@ -20,7 +20,7 @@ from toolchain import version
 
 
 def digest_of(names):
-    """The digest of files, with their names."""
+    """Returns the digest of files, including their names."""
     whole = hashlib.sha256()
     for name in sorted(names):
         with open(f"{ROOT}/{name}", "rb") as file:
@@ -29,7 +29,7 @@ def digest_of(names):
 
 
 def sources_of(crate):
-    """The digest of all that the crate and those below it are proved from."""
+    """Returns the digest of everything from which the crate and the crates below it are proved."""
     tops = [f"crates/{it}/{part}" for it in in_order(read_crates(), [crate])
             for part in ("src", "specs", "proofs")]
     walks = [walk for top in tops for walk in os.walk(f"{ROOT}/{top}")]
@@ -39,7 +39,7 @@ def sources_of(crate):
 
 
 def note(crate, folder, names):
-    """What is noted of files of that folder, built from the sources as they are."""
+    """Returns the record of files of that directory, built from the current sources."""
     lines = [f"sources {sources_of(crate)}"]
     for name in sorted(names):
         with open(f"{folder}/{name}", "rb") as file:
@@ -48,7 +48,7 @@ def note(crate, folder, names):
 
 
 def write(crate, digest, names):
-    """Notes files of the crate's `out`; gives whether the sources still have the digest."""
+    """Records files of the crate's `out`. Returns whether the sources still have the digest."""
     if sources_of(crate) != digest:
         print(f"the sources of {crate} changed while they were proved", file=sys.stderr)
         return False
@@ -59,7 +59,8 @@ def write(crate, digest, names):
 
 
 def check(crate, folder):
-    """Whether the files noted in the folder are there, and built from the sources as they are."""
+    """Returns true if the files recorded in the directory exist, and were built from the current
+    sources."""
     try:
         with open(f"{folder}/stamp", encoding="utf-8") as file:
             toolchain, *lines = file.read().splitlines()

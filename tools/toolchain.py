@@ -1,4 +1,4 @@
-"""The Rattle toolchain, for the scripts beside this file."""
+"""The Rattle toolchain, for the other scripts of tools/."""
 import os
 import shutil
 import subprocess
@@ -8,14 +8,14 @@ from repository import ROOT
 
 
 def version():
-    """What `rt version` says, or None if there is no toolchain."""
+    """Returns what `rt version` prints, or None if there is no toolchain."""
     if not shutil.which("rt"):
         return None
     return subprocess.run(["rt", "version"], stdout=subprocess.PIPE, text=True).stdout.strip()
 
 
 def check_toolchain():
-    """Stops if there is no toolchain, and warns of one that the proofs were not tried with."""
+    """Stops if there is no toolchain, and warns if the proofs were not tried with its version."""
     with open(f"{ROOT}/rattle-toolchain", encoding="utf-8") as file:
         tried = file.read().splitlines()
     found = version()

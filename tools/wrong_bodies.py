@@ -1,4 +1,4 @@
-"""The wrong bodies of a crate, which are its edits in must-fail/, and the function of each."""
+"""The mutants of a crate, which are its edits in must-fail/, and the function that each changes."""
 import dataclasses
 import functools
 import glob
@@ -9,13 +9,13 @@ from repository import ROOT
 
 HEAD = re.compile(r'( *)(?:pub(?:\([a-z]+\))? )?(?:const )?(?:extern "C" )?fn (\w+)')
 IMPL = re.compile(r"impl(?:<.*?>)? (?:(?:\w+::)*(\w+)(<.*>)? for )?(&?(?:'\w+ )?\w+)")
-# A word of a type, but for its lifetimes.
+# A word of a type, except its lifetimes.
 WORD = re.compile(r"&|(?<!')\b\w+")
 
 
 @dataclasses.dataclass(frozen=True)
 class Change:
-    """A text of a file that another one replaces."""
+    """A text of a file and its replacement."""
     file: str
     old: str
     new: str
@@ -23,7 +23,8 @@ class Change:
 
 @dataclasses.dataclass(frozen=True)
 class WrongBody:
-    """The changes of an edit, and the one function that they change, if it is one."""
+    """A mutant: the changes of an edit, and the function that they change, if they change only
+    one."""
     crate: str
     name: str
     changes: tuple
@@ -34,7 +35,7 @@ class WrongBody:
 
 
 def read_changes(path):
-    """The pairs of old and new texts of an edit, with the file of each."""
+    """Returns the pairs of old and new texts of an edit, with the file of each."""
     changes, file, old = [], "", ""
     with open(path, encoding="utf-8") as lines:
         for line in lines.read().split("\n"):
@@ -54,8 +55,8 @@ def read_text(crate, file):
 
 
 def body_lines(lines, head, indent):
-    """The numbers of the first line in the body of a function and of the line that closes it, as rt
-    fmt lays it out; None if the body has no line of its own."""
+    """Returns the numbers of the first line in the body of a function and of the line that closes
+    it, in rt fmt's layout; None if no line belongs only to the body."""
     begin = None
     for number in range(head, len(lines)):
         line = lines[number]
@@ -70,20 +71,20 @@ def body_lines(lines, head, indent):
 
 
 def in_one_word(type_):
-    """The words of a type as a check writes them in a name: `Vec<u8>` is VecU8."""
+    """Returns the words of a type as a check writes them in a name: `Vec<u8>` is VecU8."""
     words = WORD.findall(type_ or "")
     return "".join("Ref" if it == "&" else it[0].upper() + it[1:] for it in words)
 
 
 def modules_of(file):
-    """The modules in which a file of src/ stands, from the crate's root on."""
+    """Returns the modules of a file of src/, from the crate's root on."""
     return [it for it in file[len("src/"):-len(".rt")].split("/") if it not in ("lib", "main")]
 
 
 def place_of(crate, file, lines, head):
-    """The place of the function at this line, as a check names it: its module; or the type of the
-    impl that it is in, which may stand in another file, with the trait if there is one. That of a
-    method that a trait declares isn't told apart from its module."""
+    """Returns the place of the function at this line, as a check names it: its module; or the type
+    of the impl that it is in, even if the type is defined in another file, with the trait if there
+    is one. A method that a trait declares has the same place as a function of its module."""
     impls = [number for number in range(head) if lines[number].startswith("impl")]
     if not lines[head].startswith(" ") or not impls:
         return "::".join([crate, *modules_of(file)])
@@ -93,7 +94,8 @@ def place_of(crate, file, lines, head):
 
 @functools.lru_cache(maxsize=None)
 def functions(crate, file):
-    """Where each function of a file begins and where its body ends, in order, and the function."""
+    """Returns for each function of a file, in order, where it begins, where its body ends, and its
+    place and name."""
     lines = read_text(crate, file).split("\n")
     starts = [0]
     for line in lines:
@@ -109,7 +111,7 @@ def functions(crate, file):
 
 
 def around(crate, change):
-    """The function that the change is in, as its place and its name, or None."""
+    """Returns the function that the change is in, as its place and its name, or None."""
     text = read_text(crate, change.file)
     if text.count(change.old) != 1:
         return None
@@ -121,14 +123,15 @@ def around(crate, change):
 
 
 def answers_of(file, place, name):
-    """The answers of the proof of a function, whose folder is its path below proofs/."""
+    """Returns the path of the answers of the proof of a function. Its directory is the function's
+    path below proofs/."""
     types = [place] if place[0].isupper() else []
     return "/".join(["proofs", *modules_of(file), *types, name, "Answers.antt"])
 
 
 def function_of(crate, changes):
-    """The one function that all changes of the code are in, or None. The only other changes are in
-    the answers of its own proof, which no other proof reads."""
+    """Returns the one function that all changes of the code are in, or None. The only other changes
+    may be in the answers of its own proof, which no other proof reads."""
     code = [it for it in changes if it.file.startswith("src/")]
     found = {around(crate, it) for it in code}
     if len(found) != 1 or None in found:

@@ -1,4 +1,4 @@
-//! The program over `std::path`: answers the lines of `pathtool`, all but `json`.
+//! The program over `std::path`: answers the lines of `pathtool`, all except `json`.
 use std::cmp::Ordering;
 use std::collections::BTreeSet;
 use std::ffi::OsStr;
@@ -7,17 +7,17 @@ use std::ops::Bound::{Included, Unbounded};
 use std::os::unix::ffi::OsStrExt;
 use std::path::{Path, PathBuf};
 
-/// The field as a string of the system.
+/// Returns the field as a string of the system.
 fn text(field: &[u8]) -> &OsStr {
     OsStr::from_bytes(field)
 }
 
-/// The field as a path.
+/// Returns the field as a path.
 fn path(field: &[u8]) -> &Path {
     Path::new(text(field))
 }
 
-/// Adds the items, with a tab between two of them.
+/// Appends the items, with a tab between two of them.
 fn push_list<'a>(items: impl Iterator<Item = &'a OsStr>, answer: &mut Vec<u8>) {
     for (place, item) in items.enumerate() {
         if place > 0 {
@@ -27,7 +27,7 @@ fn push_list<'a>(items: impl Iterator<Item = &'a OsStr>, answer: &mut Vec<u8>) {
     }
 }
 
-/// Adds `+` and the item, or `-` for none.
+/// Appends `+` and the item, or `-` if there is none.
 fn push_option(item: Option<&OsStr>, answer: &mut Vec<u8>) {
     match item {
         Some(item) => {
@@ -38,17 +38,17 @@ fn push_option(item: Option<&OsStr>, answer: &mut Vec<u8>) {
     }
 }
 
-/// Adds the path.
+/// Appends the path.
 fn push_path(path: &Path, answer: &mut Vec<u8>) {
     answer.extend_from_slice(path.as_os_str().as_bytes());
 }
 
-/// Adds `true` or `false`.
+/// Appends `true` or `false`.
 fn push_truth(is_so: bool, answer: &mut Vec<u8>) {
     answer.extend_from_slice(if is_so { b"true" } else { b"false" });
 }
 
-/// Adds `less`, `equal` or `greater`.
+/// Appends `less`, `equal` or `greater`.
 fn push_order(order: Ordering, answer: &mut Vec<u8>) {
     answer.extend_from_slice(match order {
         Ordering::Less => b"less",
@@ -57,12 +57,12 @@ fn push_order(order: Ordering, answer: &mut Vec<u8>) {
     });
 }
 
-/// Adds that the line is no command.
+/// Appends the answer to a line that is no command.
 fn push_bad_command(answer: &mut Vec<u8>) {
     answer.extend_from_slice(b"bad command");
 }
 
-/// Adds what the turns take from both ends, and what they leave.
+/// Appends the components that the turns take from both ends, and the rest.
 fn push_walk(path: &Path, turns: &[u8], answer: &mut Vec<u8>) {
     let mut left = path.components();
     let (mut front, mut behind) = (vec![], vec![]);
@@ -81,7 +81,8 @@ fn push_walk(path: &Path, turns: &[u8], answer: &mut Vec<u8>) {
     push_list(items.chain(parts).chain(rest).chain(parts_behind), answer);
 }
 
-/// Edits the extension, and adds whether that was done; `separator` where the library panics.
+/// Edits the extension, and appends whether that succeeded, or `separator` where the library
+/// panics.
 fn push_extended(extension: &[u8], answers: &mut Vec<u8>, edit: impl FnOnce(&OsStr) -> bool) {
     if extension.contains(&b'/') {
         answers.extend_from_slice(b"separator");
@@ -90,7 +91,7 @@ fn push_extended(extension: &[u8], answers: &mut Vec<u8>, edit: impl FnOnce(&OsS
     }
 }
 
-/// Does the edit, and adds what it answers; false where the field names none.
+/// Makes the edit, and appends its result; returns false if the field names no edit.
 fn push_edit(field: &[u8], edited: &mut PathBuf, answers: &mut Vec<u8>) -> bool {
     answers.push(b'\t');
     if field == b"pop" {
@@ -114,7 +115,7 @@ fn push_edit(field: &[u8], edited: &mut PathBuf, answers: &mut Vec<u8>) -> bool 
     true
 }
 
-/// Adds the path after the edits, and what they answer.
+/// Appends the path after the edits, and their results.
 fn push_edited(path: &Path, fields: &[&[u8]], answer: &mut Vec<u8>) {
     let mut edited = path.to_path_buf();
     let mut answers = vec![];
@@ -127,12 +128,12 @@ fn push_edited(path: &Path, fields: &[&[u8]], answer: &mut Vec<u8>) {
     answer.extend_from_slice(&answers);
 }
 
-/// The shortest path with the same parts.
+/// Returns the canonical form of the path.
 fn canonical(path: &Path) -> PathBuf {
     path.components().collect()
 }
 
-/// Adds what follows the base in those of the paths that start with it.
+/// Appends what follows the base in the paths that start with it.
 fn push_under(base: &Path, fields: &[&[u8]], answer: &mut Vec<u8>) {
     let paths: BTreeSet<PathBuf> = fields.iter().map(|field| path(field).into()).collect();
     let rests: Vec<PathBuf> = paths
@@ -143,7 +144,7 @@ fn push_under(base: &Path, fields: &[&[u8]], answer: &mut Vec<u8>) {
     push_list(rests.iter().map(|rest| rest.as_os_str()), answer);
 }
 
-/// Adds the path as text.
+/// Appends the path as text.
 fn push_shown(path: &Path, answer: &mut Vec<u8>) {
     for chunk in path.as_os_str().as_bytes().utf8_chunks() {
         answer.extend_from_slice(chunk.valid().as_bytes());
@@ -153,7 +154,7 @@ fn push_shown(path: &Path, answer: &mut Vec<u8>) {
     }
 }
 
-/// Adds the answer to a line.
+/// Appends the answer to a line.
 fn push_answer(fields: &[&[u8]], answer: &mut Vec<u8>) {
     match fields {
         [b"parts", p] => push_list(path(p).iter(), answer),

@@ -1,4 +1,5 @@
-/* Reads paths, one a line, and prints them in the order of their parts, of equal ones the first.
+/* Reads paths, one per line, and prints them in the order of their components, once each: of equal
+ * paths the first.
  *
  *   cc sorted_paths.c $(pkg-config --cflags --libs unix_path) -o sorted_paths
  *   printf '%s\n' a.b a/b a//b/ ./a | ./sorted_paths     prints  ./a  a/b  a.b
@@ -9,7 +10,7 @@
 #include <sys/types.h>
 #include <unix_path.h>
 
-/* A path without its line end, and how many lines stand before it. */
+/* A path without its newline, and the number of lines before it. */
 typedef struct {
     char *text;
     size_t length, number;
@@ -19,7 +20,7 @@ static int by_parts(const line *a, const line *b) {
     return unix_path_compare(a->text, a->length, b->text, b->length);
 }
 
-/* Of equal paths the first line is less. */
+/* Orders paths by their components, and equal paths by the numbers of their lines. */
 static int compare(const void *first, const void *second) {
     const line *a = first, *b = second;
     int order = by_parts(a, b);

@@ -1,5 +1,5 @@
-// Reads lines of a size and a path, and prints the size of each path, in the order of their parts:
-// paths with the same parts are one, spelled as the first of them.
+// Reads lines of a size and a path, and prints each path with the sum of its sizes, in the order of
+// the paths' components. Equal paths are printed once, spelled as the first of them.
 //
 //   c++ -std=c++17 sizes.cpp $(pkg-config --cflags --libs unix_path) -o sizes
 //   printf '%s\n' '1 a//b' '2 a.b' '4 a/b/' | ./sizes     prints  5 a//b  2 a.b

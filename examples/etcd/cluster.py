@@ -1,4 +1,4 @@
-"""A cluster of three members of etcd on 127.0.0.1, at ports that are free, in a folder."""
+"""A cluster of three members of etcd on 127.0.0.1, at free ports, in a directory."""
 import http.client
 import os
 import socket
@@ -6,12 +6,12 @@ import subprocess
 import time
 
 MEMBERS = 3
-# How long a member may take until it answers, in seconds.
+# The time in seconds that a member may need until it answers.
 PATIENCE = 60
 
 
 def free_ports(count):
-    """Ports that nothing listens at."""
+    """Returns ports at which nothing listens."""
     sockets = [socket.socket() for _ in range(count)]
     for it in sockets:
         it.bind(("127.0.0.1", 0))
@@ -22,7 +22,7 @@ def free_ports(count):
 
 
 def is_healthy(port):
-    """Whether the member answers that it is healthy."""
+    """Returns True if the member answers that it is healthy."""
     try:
         connection = http.client.HTTPConnection("127.0.0.1", port, timeout=2)
         connection.request("GET", "/health")
@@ -32,7 +32,7 @@ def is_healthy(port):
 
 
 class Cluster:
-    """The members, by the ports at which they answer clients."""
+    """The members, by their client ports."""
 
     def __init__(self, folder):
         self.folder = folder
@@ -56,7 +56,7 @@ class Cluster:
             self.end(port)
 
     def start(self, port):
-        """Starts the member, with what it kept before if it ran before."""
+        """Starts the member, with its data if it ran before."""
         url, peer = f"http://127.0.0.1:{port}", f"http://127.0.0.1:{self.peers[port]}"
         all_peers = ",".join(f"m{it}=http://127.0.0.1:{at}" for it, at in self.peers.items())
         words = ["etcd", "--name", f"m{port}", "--data-dir", f"{self.folder}/m{port}",
@@ -70,13 +70,13 @@ class Cluster:
                                                     stdout=log, stderr=log)
 
     def end(self, port):
-        """Ends the member's process at once, as a machine that fails does."""
+        """Kills the member's process, as if its machine failed."""
         process = self.processes.pop(port)
         process.kill()
         process.wait()
 
     def wait(self, ports):
-        """Waits until these members answer."""
+        """Waits until these members are healthy."""
         until = time.monotonic() + PATIENCE
         while not all(map(is_healthy, ports)):
             if time.monotonic() > until:

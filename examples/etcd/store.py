@@ -1,24 +1,24 @@
 """Files in etcd, by the keys of their paths.
 
-etcd keeps its keys in the order of their bytes. So all spellings of a path find one file, and a
-folder with all below it is one range, in the order of paths: one read gives it. To rename a folder
-is to change the beginning of each key of its range, which is one transaction.
+etcd sorts its keys by their bytes. So all spellings of a path find one file, and a directory with
+all below it is one range, in path order, which one read returns. To rename a directory is to change
+the prefix of each key in its range, in one transaction.
 """
 import base64
 import http.client
 import json
 import time
 
-# How long a call is tried at one member after the other, in seconds.
+# The time in seconds for which a call is tried at one member after the other.
 PATIENCE = 60
 
 
 class Refused(Exception):
-    """etcd, or a rule of this store, refuses what was asked."""
+    """etcd or a rule of this store refused a call."""
 
 
 def encoded(some_bytes):
-    """Bytes as the JSON gateway has them."""
+    """Returns bytes as the JSON gateway encodes them."""
     return base64.b64encode(some_bytes).decode()
 
 
@@ -27,15 +27,15 @@ def decoded(text):
 
 
 class Store:
-    """Files in a cluster, of which these are the ports of members on 127.0.0.1."""
+    """Files in a cluster whose members have these ports on 127.0.0.1."""
 
     def __init__(self, paths, ports):
         self.paths, self.ports, self.connection = paths, list(ports), None
-        # How many calls brought no answer, and were tried again.
+        # The number of calls that had no answer and were tried again.
         self.lost = 0
 
     def ask_once(self, call, body):
-        """One call at the first member; its status and its answer."""
+        """Makes one call at the first member. Returns its status and its answer."""
         if self.connection is None:
             self.connection = http.client.HTTPConnection("127.0.0.1", self.ports[0], timeout=10)
         self.connection.request("POST", f"/v3/{call}", body)
@@ -43,7 +43,7 @@ class Store:
         return answer.status, answer.read()
 
     def ask(self, call, **fields):
-        """A call that may be made twice, tried at one member after the other until one answers."""
+        """Makes a call that may be made twice, at one member after another until one answers."""
         body, until = json.dumps(fields).encode(), time.monotonic() + PATIENCE
         while True:
             try:
@@ -60,7 +60,7 @@ class Store:
                 raise Refused(f"no member answers: {why}")
 
     def leave_member(self):
-        """Goes on with the next member."""
+        """Continues with the next member."""
         self.lost += 1
         self.connection.close()
         self.connection = None
@@ -68,43 +68,44 @@ class Store:
         time.sleep(0.05)
 
     def range_of(self, folder):
-        """The range of a folder's key, as etcd has it, where a range of two NULs has all keys."""
+        """Returns the range of a directory's key. In etcd, a range of two NULs has all keys."""
         key = self.paths.key(folder)
         end = self.paths.end(key)
         first, last = (b"\0", b"\0") if end is None else (key, end)
         return {"key": encoded(first), "range_end": encoded(last)}
 
     def put(self, path, content):
-        """Keeps the file. It is acknowledged once this returns."""
+        """Stores the file. It is acknowledged when this returns."""
         self.ask("kv/put", key=encoded(self.paths.key(path)), value=encoded(content))
 
     def get(self, path):
-        """The content of a file; None if there is none."""
+        """Returns the content of a file, or None if there is no such file."""
         answer = self.ask("kv/range", key=encoded(self.paths.key(path)))
         found = answer.get("kvs", [])
         return decoded(found[0].get("value")) if found else None
 
     def read_range(self, folder):
-        """The files of a folder in the order of paths, by one read: each key, its content and the
-        revision that made it this. And the revision of all."""
+        """Returns the files of a directory in path order, by one read: each key, its content and
+        its last revision. Also returns the revision of the store."""
         answer = self.ask("kv/range", **self.range_of(folder))
         rows = [(decoded(it["key"]), decoded(it.get("value")), it["mod_revision"])
                 for it in answer.get("kvs", [])]
         return rows, int(answer["header"]["revision"])
 
     def list(self, folder):
-        """What follows the folder in the paths that start with it, with the contents: what follows
-        its key in theirs is the key of that."""
+        """Returns what follows the directory in the paths that start with it, with the contents. In
+        each of their keys, what follows the directory's key is the key of the rest."""
         cut = len(self.paths.key(folder))
         return [(self.paths.path(key[cut:]), content)
                 for key, content, _ in self.read_range(folder)[0]]
 
     def rename(self, folder, new_name):
-        """Moves all files of a folder in one transaction. Gives how many they are.
+        """Moves all files of a directory in one transaction. Returns the number of files.
 
-        It changes nothing if a file of the folder was added, changed or moved since it was read,
-        and if the new name has files. The call is made once: if its answer is lost, nobody knows.
-        A transaction has as many steps as the members' `--max-txn-ops` says, and 128 without."""
+        It changes nothing if a file of the directory was added, changed or moved since it was
+        read, or if the new name has files. The call is made once; if its answer is lost, the
+        outcome is unknown. A transaction has at most as many steps as the members'
+        `--max-txn-ops` allows, by default 128."""
         start, new_start = self.paths.key(folder), self.paths.key(new_name)
         if not start or new_start.startswith(start):
             raise Refused("a folder can't move into itself")
@@ -128,7 +129,7 @@ class Store:
         return len(rows)
 
     def leader_port(self):
-        """The port of the member that leads, by what each says of itself."""
+        """Returns the port of the leader, which each member reports."""
         for port in list(self.ports):
             only = Store(self.paths, [port])
             status = only.ask("maintenance/status")

@@ -1,13 +1,13 @@
-"""Asks the rows of tests/rows.txt of libunix_path.so.1, by unix_paths' way of calling.
+"""Checks libunix_path.so.1 by the rows of tests/rows.txt, with calls as unix_paths makes them.
 
-Prints each row that is answered otherwise, and then the counts.
+Prints each row whose result differs, and then the counts.
 """
 import ctypes
 import os
 import sys
 from ctypes import POINTER, c_bool, c_int32, c_size_t, c_uint64
 
-from unix_paths import _OUT, _PATH, _Part, _Place, _Walk, _call
+from unix_paths import _OUT, _PATH, _Part, _Span, _Walk, _call
 
 sys.path.append(f"{os.path.dirname(os.path.abspath(__file__))}/../../tools")
 
@@ -15,7 +15,7 @@ from call_rows import read_rows, spelled, spelled_row, unescaped
 from call_shapes import read_calls
 
 ERRORS = {2**64 - 7: "!separator", 2**64 - 2: "!escapes", 2**64 - 4: "!nul_in_request",
-          2**64 - 5: "!not_a_key", 2**64 - 6: "!no_end", 2**64 - 8: "!no_way"}
+          2**64 - 5: "!not_a_key", 2**64 - 6: "!no_end", 2**64 - 8: "!no_relative_path"}
 
 
 class _Chunk(ctypes.Structure):
@@ -23,46 +23,42 @@ class _Chunk(ctypes.Structure):
 
 
 def words(paths):
-    """The paths as the calls take them."""
+    """Returns the paths as arguments of the calls."""
     return [it for path in paths for it in (path, len(path))]
 
 
 def found(name, *paths):
-    place = _Place()
-    call = _call(name, c_bool, _PATH * len(paths), [POINTER(_Place)])
-    if not call(*words(paths), ctypes.byref(place)):
+    span = _Span()
+    call = _call(name, c_bool, _PATH * len(paths), [POINTER(_Span)])
+    if not call(*words(paths), ctypes.byref(span)):
         return ["!none"]
-    return [spelled(paths[0][place.start:place.start + place.length]), str(place.start)]
+    return [spelled(paths[0][span.start:span.start + span.length]), str(span.start)]
 
 
 def asked(name, *paths):
-    """The answer to a question. A hash has no sign and is written in base 16."""
+    """Returns the answer to a question. A hash is unsigned and written in hexadecimal."""
     answer = _call(name, TYPES[ANSWERS[name]], _PATH * len(paths))(*words(paths))
     return [f"0x{answer:016x}" if ANSWERS[name] == "u64" else str(answer).lower()]
 
 
 def order(name, a, b):
-    """Their order, of which the one from the other side and unix_path_equal have to know."""
+    """Returns the order of two paths, and further fields if the opposite order or unix_path_equal
+    disagrees."""
     (there,), (back,), (equal,) = asked(name, a, b), asked(name, b, a), asked("equal", a, b)
     is_known = int(there) == -int(back) and (equal == "true") == (there == "0")
     return [there] if is_known else [there, back, equal]
 
 
-def written(name, *paths, options=()):
+def written(name, *paths):
     room = 3 * sum(map(len, paths)) + 2
     out = ctypes.create_string_buffer(room)
-    call = _call(name, c_size_t, _PATH * len(paths), [c_bool] * len(options), _OUT)
-    length = call(*words(paths), *options, out, room)
+    call = _call(name, c_size_t, _PATH * len(paths), _OUT)
+    length = call(*words(paths), out, room)
     return [ERRORS[length] if length in ERRORS else spelled(out.raw[:length])]
 
 
-def below(name, root, request):
-    return [it for as_url in (False, True)
-            for it in written(name, root, request, options=[as_url])]
-
-
 def walked(call, path):
-    """The parts that a call takes, each with its place and in its order."""
+    """Yields the components that a call takes, in its order, each with its offset."""
     walk, part = _Walk(0, len(path)), _Part()
     step = _call(call, c_bool, _PATH, [POINTER(_Walk), POINTER(_Part)])
     while step(*words([path]), ctypes.byref(walk), ctypes.byref(part)):
@@ -70,29 +66,30 @@ def walked(call, path):
 
 
 def whole(path):
-    """The place of what is left of a walk from which nothing was taken."""
-    walk, place = _Walk(), _Place()
+    """Returns the start and the end of the rest of a walk from which nothing was taken."""
+    walk, span = _Walk(), _Span()
     begin = _call("components", None, _PATH, [POINTER(_Walk)])
-    look = _call("as_path", None, _PATH, [POINTER(_Walk), POINTER(_Place)])
+    look = _call("as_path", None, _PATH, [POINTER(_Walk), POINTER(_Span)])
     begin(*words([path]), ctypes.byref(walk))
-    look(*words([path]), ctypes.byref(walk), ctypes.byref(place))
-    return place.start, place.start + place.length
+    look(*words([path]), ctypes.byref(walk), ctypes.byref(span))
+    return span.start, span.start + span.length
 
 
 def parts(_name, path):
-    """The parts, which both calls have to take, and which reach over all that is left at first."""
+    """Returns the components. Checks that both calls take them, and that the rest of a new walk
+    reaches from the first to the last."""
     front, back = list(walked("next", path)), list(walked("next_back", path))
-    places = [(int(start), int(start) + len(unescaped(part))) for part, start in front] or [(0, 0)]
-    if front != back[::-1] or whole(path) != (places[0][0], places[-1][1]):
+    spans = [(int(start), int(start) + len(unescaped(part))) for part, start in front] or [(0, 0)]
+    if front != back[::-1] or whole(path) != (spans[0][0], spans[-1][1]):
         return [f"{front} from the front, {back} from behind, {whole(path)} in all"]
     return sum(front, [])
 
 
 def ancestors(name, path):
-    taken, place, at = [], _Place(), c_size_t(len(path))
-    call = _call(name, c_bool, _PATH, [POINTER(c_size_t), POINTER(_Place)])
-    while call(*words([path]), ctypes.byref(at), ctypes.byref(place)):
-        taken.append(spelled(path[place.start:place.start + place.length]))
+    taken, span, at = [], _Span(), c_size_t(len(path))
+    call = _call(name, c_bool, _PATH, [POINTER(c_size_t), POINTER(_Span)])
+    while call(*words([path]), ctypes.byref(at), ctypes.byref(span)):
+        taken.append(spelled(path[span.start:span.start + span.length]))
     return taken
 
 
@@ -105,11 +102,11 @@ def chunks(name, path):
     return taken
 
 
-# How many paths a call takes, and what asks it, by its shape.
+# The number of paths of a call, and the function that makes it, by its shape.
 SHAPES = {
-    "BEGIN": (1, parts), "NEXT_PLACE": (1, ancestors), "NEXT_CHUNK": (1, chunks),
+    "BEGIN": (1, parts), "NEXT_SPAN": (1, ancestors), "NEXT_CHUNK": (1, chunks),
     "FIND": (1, found), "FIND_OF_TWO": (2, found), "ASK": (1, asked), "ASK_TWO": (2, asked),
-    "MAKE": (1, written), "MAKE_OF_TWO": (2, written), "MAKE_OF_TWO_AS": (2, below),
+    "MAKE": (1, written), "MAKE_OF_TWO": (2, written),
 }
 CALLS = {it.name: SHAPES[it.shape] for it in read_calls() if it.shape in SHAPES}
 CALLS["compare"] = (2, order)

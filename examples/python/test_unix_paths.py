@@ -1,10 +1,10 @@
-"""Tries unix_paths.UnixPath beside pathlib.PurePosixPath on random paths.
+"""Compares unix_paths.UnixPath with pathlib.PurePosixPath on random paths.
 
-test_unix_paths.py [COUNT] [SEED]       100,000 paths and a fixed seed, if none are given
+test_unix_paths.py [COUNT] [SEED]       by default 100,000 paths and a fixed seed
 
-UnixPath has to answer the same if the bytes that it is given say another length than they have.
-Where the two differ, one of these rules says why; each rule has to show, and each difference has to
-fall under one:
+UnixPath has to return the same if the bytes that it is given report a wrong length. Where the two
+differ, one of the rules below says why. Each rule has to occur, and each difference has to be
+covered by a rule.
 """
 import doctest
 import operator
@@ -36,7 +36,7 @@ def last_part(path):
 
 
 def text(value):
-    """What a call gives, as text; a PurePosixPath without parts is the empty text."""
+    """Returns a result as text; a PurePosixPath without components is the empty text."""
     if not isinstance(value, str) and hasattr(value, "__getitem__"):
         return [text(it) for it in value]
     return "" if value == PurePosixPath() else str(value)
@@ -50,7 +50,7 @@ def answer(call, *values):
 
 
 def all_of(kind, path, other, name, suffix):
-    """What the calls give of a path, of another, a name and a suffix, by their names."""
+    """Yields the results of the calls on two paths, a name and a suffix, with the calls' names."""
     it, that = kind(path), kind(other)
     yield "path", it
     for call in ("parts", "name", "stem", "suffix", "parent", "parents"):
@@ -67,7 +67,7 @@ def all_of(kind, path, other, name, suffix):
 
 
 def rules_of(name, path, other):
-    """The rules by which the call of this name may answer otherwise."""
+    """Returns the rules by which the result of the call of this name may differ."""
     paths = path, other, str(UnixPath(path, other))
     rules = [rule for rule, is_met in PATHS.items() if any(map(is_met, paths))]
     if name in ("relative_to", "is_relative_to") and path[:1] == "/" and other == "":
@@ -78,7 +78,7 @@ def rules_of(name, path, other):
 
 
 def differences(path, other, *words):
-    """Where the two differ: the call, and the rules that say so."""
+    """Yields the differences of the two: the call, and the rules that cover it."""
     pairs = zip(all_of(UnixPath, path, other, *words), all_of(PurePosixPath, path, other, *words))
     for (name, ours), (_, theirs) in pairs:
         if text(ours) != text(theirs):
@@ -88,7 +88,7 @@ def differences(path, other, *words):
 
 
 def orders_differ(path, other):
-    """Whether the two order the paths in other ways though their parts are the same."""
+    """Returns True if the two classes order the paths differently."""
     ours = UnixPath(path), UnixPath(other)
     theirs = PurePosixPath(path), PurePosixPath(other)
     compares = (operator.lt, operator.le, operator.gt, operator.ge)
@@ -96,15 +96,15 @@ def orders_differ(path, other):
 
 
 def first_difference(path, other):
-    """Where the parts of two paths first differ, of which a path without parts has an empty one;
-    none if one begins the other."""
+    """Returns the first components of two paths that differ, or () if one path starts with the
+    other. A path without components counts as one with an empty component."""
     pairs = zip(UnixPath(path).parts or [""], UnixPath(other).parts or [""])
     return next((pair for pair in pairs if pair[0] != pair[1]), ())
 
 
 class Bytes(bytes):
-    """Bytes that say another length than they have, as their slices do, and that `bytes` returns
-    as they are."""
+    """Bytes that report a wrong length, and whose slices do, and that `bytes` returns
+    unchanged."""
     said = 0
 
     def __len__(self):
@@ -118,7 +118,7 @@ class Bytes(bytes):
 
 
 class Text(str):
-    """Text that is encoded as such bytes."""
+    """Text that is encoded as bytes that report a wrong length."""
     said = 0
 
     def encode(self, *how):
@@ -131,10 +131,11 @@ def saying(length, value):
 
 
 def wrong_lengths():
-    """The calls that answer otherwise if what they are given says another length than it has."""
+    """Yields the calls whose results differ if their arguments report a wrong length."""
     def answers(*given):
-        below = answer(UnixPath(given[0]).join_below, given[2])
-        return [*all_of(UnixPath, *given), ("join_below", below)]
+        root, request = UnixPath(given[0]), given[2]
+        return [*all_of(UnixPath, *given), ("join_beneath", answer(root.join_beneath, request)),
+                ("join_in_root", answer(root.join_in_root, request))]
 
     plain = "/srv/www/a.tar", "/srv", "index.html", ".gz"
     for length in 0, 1, 24, 4096:

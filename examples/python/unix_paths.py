@@ -1,15 +1,15 @@
-"""Unix paths as pathlib.PurePosixPath has them, over the calls of libunix_path.so.1.
+"""Unix paths with the interface of pathlib.PurePosixPath, over the calls of libunix_path.so.1.
 
-An example of the calls from a language that isn't C, and no package: it needs the library alone,
-which UNIX_PATH_SO names, or which the system finds. UnixPath answers as PurePosixPath where the
-rules of both agree; test_unix_paths.py lists where they don't.
+This is an example of the calls from a language other than C, and not a package. It needs only the
+library, which UNIX_PATH_SO names or which the system finds. UnixPath returns the same as
+PurePosixPath where the rules of both agree; test_unix_paths.py lists where they differ.
 
     >>> path = UnixPath("/srv//www/./index.tar.gz")
     >>> path.parts, path.suffix, path.parent
     (('/', 'srv', 'www', 'index.tar.gz'), '.gz', UnixPath('/srv/www'))
-    >>> UnixPath("/srv").join_below("a/../b")
+    >>> UnixPath("/srv").join_beneath("a/../b")
     UnixPath('/srv/b')
-    >>> UnixPath("/srv").join_below("../b")
+    >>> UnixPath("/srv").join_beneath("../b")
     Traceback (most recent call last):
     ValueError: the request leads out of the root
 """
@@ -20,8 +20,8 @@ from ctypes import POINTER, c_bool, c_char_p, c_int32, c_size_t, c_uint32, c_uin
 
 _library = ctypes.CDLL(os.environ.get("UNIX_PATH_SO", "libunix_path.so.1"))
 
-# What include/unix_path.h defines. A length is at most PTRDIFF_MAX; the calls take no null pointer,
-# and none stands for a Python `bytes`.
+# Constants of include/unix_path.h. A length is at most PTRDIFF_MAX. The calls accept no null
+# pointer, and ctypes never passes one for a Python `bytes`.
 _PTRDIFF_MAX = 2**63 - 1
 _SEPARATOR, _ESCAPES, _NUL_IN_REQUEST = 2**64 - 7, 2**64 - 2, 2**64 - 4
 
@@ -34,7 +34,7 @@ class _Part(ctypes.Structure):
     _fields_ = [("start", c_size_t), ("length", c_size_t), ("kind", c_uint32)]
 
 
-class _Place(ctypes.Structure):
+class _Span(ctypes.Structure):
     _fields_ = [("start", c_size_t), ("length", c_size_t)]
 
 
@@ -48,31 +48,29 @@ def _call(name, answer, *kinds):
 
 
 _next = _call("next", c_bool, _PATH, [POINTER(_Walk), POINTER(_Part)])
-_parent, _file_name, _file_stem = (_call(name, c_bool, _PATH, [POINTER(_Place)])
+_parent, _file_name, _file_stem = (_call(name, c_bool, _PATH, [POINTER(_Span)])
                                    for name in ("parent", "file_name", "file_stem"))
-_strip_prefix = _call("strip_prefix", c_bool, _PATH, _PATH, [POINTER(_Place)])
+_strip_prefix = _call("strip_prefix", c_bool, _PATH, _PATH, [POINTER(_Span)])
 _starts_with = _call("starts_with", c_bool, _PATH, _PATH)
 _compare = _call("compare", c_int32, _PATH, _PATH)
 _hash = _call("hash", c_uint64, _PATH)
 _is_absolute = _call("is_absolute", c_bool, _PATH)
 _canonical, _resolved = (_call(name, c_size_t, _PATH, _OUT) for name in ("canonical", "resolved"))
-_join, _with_file_name, _with_extension = (
+_join, _join_beneath, _join_in_root, _with_file_name, _with_extension = (
     _call(name, c_size_t, _PATH, _PATH, _OUT)
-    for name in ("join", "with_file_name", "with_extension"))
-_join_below = _call("join_below", c_size_t, _PATH, _PATH, [c_bool], _OUT)
+    for name in ("join", "join_beneath", "join_in_root", "with_file_name", "with_extension"))
 
 
 def _bytes_of(path):
-    """The path's bytes, as the type `bytes` itself: the length of a subclass may be another."""
+    """Returns the path's bytes, as `bytes` itself: a subclass may report another length."""
     return bytes(memoryview(os.fsencode(path)))
 
 
-def _written(call, room, *paths, options=()):
-    """What a call writes to a buffer with this room, which is enough for it. Its options stand
-    between the paths and the buffer."""
+def _written(call, room, *paths):
+    """Returns what a call writes to a buffer of this size, which is large enough."""
     out = ctypes.create_string_buffer(room + 1)
     words = (it for path in paths for it in (path, len(path)))
-    length = call(*words, *options, out, room)
+    length = call(*words, out, room)
     if length == _ESCAPES:
         raise ValueError("the request leads out of the root")
     if length == _NUL_IN_REQUEST:
@@ -84,17 +82,17 @@ def _written(call, room, *paths, options=()):
 
 
 def _found(call, *paths):
-    """The bytes at the place that a call finds in the first path; None if it finds none."""
-    place = _Place()
+    """Returns the bytes of the span that a call finds in the first path, or None."""
+    span = _Span()
     words = (it for path in paths for it in (path, len(path)))
-    if not call(*words, ctypes.byref(place)):
+    if not call(*words, ctypes.byref(span)):
         return None
-    return paths[0][place.start:place.start + place.length]
+    return paths[0][span.start:span.start + span.length]
 
 
 @functools.total_ordering
 class UnixPath:
-    """A path that is kept in its one shortest spelling, as bytes."""
+    """A path, stored in its canonical form, as bytes."""
 
     __slots__ = ("_bytes",)
 
@@ -141,7 +139,7 @@ class UnixPath:
 
     @property
     def parent(self):
-        """The path without its last part; of a path without a parent it is the path."""
+        """The path without its last component, or the path itself if it has no parent."""
         parent = _found(_parent, self._bytes)
         return self if parent is None else UnixPath(parent)
 
@@ -193,17 +191,30 @@ class UnixPath:
         return UnixPath(_written(_with_extension, room, self._bytes, new[1:]))
 
     def resolved(self):
-        """The path with each `..` dropped together with the name before it."""
+        """Returns the path with each `..` dropped together with the name before it."""
         return UnixPath(_written(_resolved, len(self._bytes), self._bytes))
 
-    def join_below(self, request):
-        r"""The request's names joined below this root; ValueError if the request leads out of the
-        root by names, or has a NUL byte, at which a system call would cut the answer.
+    def join_beneath(self, request):
+        r"""Joins a request that must stay beneath this root. Raises ValueError if the request has a
+        root, or its `..` lead above where it starts, or it has a NUL byte, at which a system call
+        would cut the result.
 
-        >>> UnixPath("/srv").join_below("..\0/a")
+        >>> UnixPath("/srv").join_beneath("..\0/a")
         Traceback (most recent call last):
         ValueError: the request has a NUL byte
         """
         new = _bytes_of(request)
         room = len(self._bytes) + len(new) + 1
-        return UnixPath(_written(_join_below, room, self._bytes, new, options=[False]))
+        return UnixPath(_written(_join_beneath, room, self._bytes, new))
+
+    def join_in_root(self, request):
+        """Joins a request as in a chroot, such as the decoded path of a URL: leading slashes are
+        dropped, and a `..` at the root stays at the root. Raises ValueError if the request has a
+        NUL byte.
+
+        >>> UnixPath("/srv").join_in_root("/../b")
+        UnixPath('/srv/b')
+        """
+        new = _bytes_of(request)
+        room = len(self._bytes) + len(new) + 1
+        return UnixPath(_written(_join_in_root, room, self._bytes, new))

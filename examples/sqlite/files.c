@@ -1,19 +1,19 @@
 /* Files in a table of SQLite, by the keys of their paths.
  *
- * SQLite compares BLOBs byte by byte, so all spellings of a path find one row, a folder with all
- * below it is one range of the table, and that range is in the order of paths. To rename a folder
- * is to change the beginning of each key in its range.
+ * SQLite compares BLOBs byte by byte, so all spellings of a path find one row, a directory with all
+ * below it is one range of the table, and that range is in path order. To rename a directory is to
+ * change the prefix of each key in its range.
  *
  *   cc files.c $(pkg-config --cflags --libs unix_path sqlite3) -o files
  *   printf 'put\tsrc//main.rs\tfn main() {}\nlist\tsrc/.\n' | ./files DATABASE
  *
  * It reads lines, with tabs between their fields:
  *
- *   put PATH CONTENT     keeps the content, in place of one that is there
- *   get PATH             prints it, or `none`
- *   list FOLDER          prints the paths that start with the folder, in order
- *   rename FOLDER NEW    moves them all, in one transaction, and prints how many they are; refused
- *                        if NEW has files or starts with the folder, or the folder is empty
+ *   put PATH CONTENT     stores the content, and replaces an old one
+ *   get PATH             prints the content, or `none`
+ *   list FOLDER          prints the paths that start with FOLDER, in order
+ *   rename FOLDER NEW    moves these paths in one transaction, and prints their number; refused if
+ *                        NEW has files or starts with FOLDER, or FOLDER is the empty path
  *
  * The exit status is 1 if a line is none of these, or SQLite fails.
  */
@@ -25,11 +25,11 @@
 #include <sys/types.h>
 #include <unix_path.h>
 
-/* The most bytes of a path; a key has at most two more, and a path at most twice as many as its
- * key. */
+/* The maximum length of a path. A key has at most two bytes more, and a path at most twice as many
+ * bytes as its key. */
 enum { LONGEST = 4096, ROOM = 2 * (LONGEST + 2) };
 
-/* The bytes of a path, or of a key. */
+/* The bytes of a path or of a key. */
 typedef struct {
     uint8_t bytes[ROOM];
     size_t length;
@@ -42,7 +42,7 @@ static void fail(const char *why) {
     exit(1);
 }
 
-/* Ends the program unless SQLite's answer is this one. */
+/* Ends the program unless SQLite returned this status. */
 static void expect(int answer, int wanted) {
     if (answer != wanted) fail(sqlite3_errmsg(database));
 }
@@ -68,17 +68,17 @@ static void bind(sqlite3_stmt *statement, int place, const void *bytes, size_t l
     expect(sqlite3_bind_blob(statement, place, bytes, (int)length, SQLITE_TRANSIENT), SQLITE_OK);
 }
 
-/* Runs a statement that gives no row. */
+/* Runs a statement that returns no row. */
 static void run(sqlite3_stmt *statement) {
     expect(sqlite3_step(statement), SQLITE_DONE);
     expect(sqlite3_finalize(statement), SQLITE_OK);
 }
 
-/* A statement whose ?1 and ?2 are the range of a folder's key: as it stands here, or without the
- * end if the range has none. */
+/* Returns a statement whose ?1 and ?2 are the range of a directory's key: `ended`, or `endless`,
+ * which has no ?2, if the range has no end. */
 static sqlite3_stmt *over_range(const text *key, const char *ended, const char *endless) {
     uint8_t end[ROOM];
-    size_t length = unix_path_key_end(key->bytes, key->length, end, ROOM);
+    size_t length = unix_path_key_range_end(key->bytes, key->length, end, ROOM);
     sqlite3_stmt *made = prepare(length == UNIX_PATH_NO_END ? endless : ended);
     bind(made, 1, key->bytes, key->length);
     if (length != UNIX_PATH_NO_END) bind(made, 2, end, length);
@@ -93,8 +93,8 @@ static void put(const char *path, const char *content) {
     run(insert);
 }
 
-/* The column of the statement's row, and how many bytes it has. SQLite has NULL for no bytes, which
- * no call of the library takes. */
+/* Returns the column of the statement's row, and sets its length. SQLite has NULL for no bytes,
+ * which no call of the library accepts. */
 static const void *column_of(sqlite3_stmt *statement, size_t *length) {
     const void *bytes = sqlite3_column_blob(statement, 0);
     *length = (size_t)sqlite3_column_bytes(statement, 0);
@@ -142,9 +142,9 @@ static void list(const char *folder) {
     expect(sqlite3_finalize(rows), SQLITE_OK);
 }
 
-/* In SQL `moved(key, length, start)`: the key without its first bytes, behind the start. It is that
- * of the path behind the folder's new name, since what follows a folder's key in another is the key
- * of the path from there on. */
+/* In SQL `moved(key, length, start)`: returns the start followed by the key without its first
+ * `length` bytes. This is the key of the moved path, since what follows a directory's key in
+ * another key is the key of the rest of the path. */
 static void moved(sqlite3_context *context, int count, sqlite3_value **values) {
     (void)count;
     size_t cut = (size_t)sqlite3_value_int64(values[1]);
@@ -168,7 +168,7 @@ static bool is_empty(const text *key) {
     return !is_found;
 }
 
-/* Moves the files of a folder whose key isn't empty. */
+/* Moves the files of a directory whose key is not empty. */
 static void move_range(const text *from, const text *to) {
     sqlite3_stmt *update = over_range(
         from, "UPDATE file SET key = moved(key, ?3, ?4) WHERE key >= ?1 AND key < ?2", "");
@@ -192,7 +192,7 @@ static void rename_folder(const char *folder, const char *new_name) {
     execute("COMMIT");
 }
 
-/* Does what a line says; false if it says nothing that is known. */
+/* Executes a line; returns false if it is no command. */
 static bool answer(char *line) {
     const char *command = strtok(line, "\t"), *path = strtok(NULL, "\t");
     const char *other = strtok(NULL, "\t");

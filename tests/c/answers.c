@@ -1,9 +1,9 @@
-// Answers to questions about paths, and paths made of others.
+// Answers to queries about paths, and paths made from other paths.
 #include "answers.h"
 
 #include "comparisons.h"
 
-// Adds an item of a list.
+// Adds an item to a list.
 static void add_item(request *line, view item) {
     if (line->has_item) {
         add_string(line->answer, "\t");
@@ -16,7 +16,7 @@ static view part_at(view path, unix_path_part part) {
     return (view){path.bytes + part.start, part.length};
 }
 
-// Adds the parts of the path, in the order in which the call takes them.
+// Adds the components of the path, in the order in which the call returns them.
 static bool add_parts(request *line, call_of_step call) {
     view path = line->fields[0];
     unix_path_walk walk;
@@ -39,14 +39,15 @@ bool answer_back(request *line) {
 bool answer_ancestors(request *line) {
     view path = line->fields[0];
     size_t next = path.length;
-    unix_path_place ancestor;
+    unix_path_span ancestor;
     while (unix_path_next_ancestor(path.bytes, path.length, &next, &ancestor)) {
         add_item(line, view_at(path, ancestor));
     }
     return true;
 }
 
-// Takes a part for each turn; adds those of the turns of one letter, and answers how many.
+// Takes a component for each turn, adds the components of the turns with the letter `wanted`, and
+// returns how many these are.
 static size_t take(request *line, view path, view turns, uint8_t wanted, unix_path_walk *walk) {
     size_t count = 0;
     unix_path_part part;
@@ -80,7 +81,7 @@ bool answer_walk(request *line) {
     text front_items = new_text(), behind_items = new_text();
     request front = {NULL, 0, &front_items, true}, behind = {NULL, 0, &behind_items, true};
     unix_path_walk walk;
-    unix_path_place rest;
+    unix_path_span rest;
     size_t front_count = take(&front, path, turns, 'f', &walk);
     size_t behind_count = take(&behind, path, turns, 'b', &walk);
     unix_path_as_path(path.bytes, path.length, &walk, &rest);
@@ -99,12 +100,12 @@ bool answer_walk(request *line) {
     return true;
 }
 
-static bool add_place(request *line, call_of_place call) {
+static bool add_span(request *line, call_of_place call) {
     view path = line->fields[0];
-    unix_path_place place;
-    if (call(path.bytes, path.length, &place)) {
+    unix_path_span span;
+    if (call(path.bytes, path.length, &span)) {
         add_string(line->answer, "+");
-        add(line->answer, view_at(path, place));
+        add(line->answer, view_at(path, span));
     } else {
         add_string(line->answer, "-");
     }
@@ -112,27 +113,27 @@ static bool add_place(request *line, call_of_place call) {
 }
 
 bool answer_parent(request *line) {
-    return add_place(line, unix_path_parent);
+    return add_span(line, unix_path_parent);
 }
 
 bool answer_name(request *line) {
-    return add_place(line, unix_path_file_name);
+    return add_span(line, unix_path_file_name);
 }
 
 bool answer_stem(request *line) {
-    return add_place(line, unix_path_file_stem);
+    return add_span(line, unix_path_file_stem);
 }
 
 bool answer_ext(request *line) {
-    return add_place(line, unix_path_extension);
+    return add_span(line, unix_path_extension);
 }
 
 bool answer_strip(request *line) {
     view path = line->fields[0], base = line->fields[1];
-    unix_path_place place;
-    if (unix_path_strip_prefix(path.bytes, path.length, base.bytes, base.length, &place)) {
+    unix_path_span span;
+    if (unix_path_strip_prefix(path.bytes, path.length, base.bytes, base.length, &span)) {
         add_string(line->answer, "+");
-        add(line->answer, view_at(path, place));
+        add(line->answer, view_at(path, span));
     } else {
         add_string(line->answer, "prefix not found");
     }
@@ -174,7 +175,7 @@ bool answer_cmp(request *line) {
     return true;
 }
 
-// The order of two views, for qsort.
+// Returns the order of two views, for qsort.
 static int compare_views(const void *first, const void *second) {
     return compare(*(const view *)first, *(const view *)second);
 }
@@ -188,7 +189,7 @@ bool answer_under(request *line) {
     size_t count = line->count - 1;
     qsort(paths, count, sizeof *paths, compare_views);
     for (size_t at = 0; at < count; at++) {
-        unix_path_place rest;
+        unix_path_span rest;
         bool is_first = at == 0 || !is_equal(paths[at - 1], paths[at]);
         if (is_first && unix_path_strip_prefix(paths[at].bytes, paths[at].length, base.bytes,
                                                base.length, &rest)) {
@@ -201,7 +202,7 @@ bool answer_under(request *line) {
     return true;
 }
 
-// Adds a byte as JSON has it between quotes.
+// Adds a byte as it is spelled in a JSON string.
 static void add_escaped(text *answer, uint8_t byte) {
     static const char letters[] = "\"\"\\\\\bb\ff\rr\nn\tt";
     char escaped[8] = {(char)byte, 0};

@@ -1,10 +1,11 @@
-// What answers each command: false where the line uses it wrongly.
+// The functions that answer each command. They return false if the line uses the command wrongly.
 #ifndef ANSWERS_H
 #define ANSWERS_H
 
 #include "text.h"
 
-// The fields of a line behind its command, its answer, and whether that has an item already.
+// The fields of a line after its command, the line's answer, and whether the answer has an item
+// yet.
 typedef struct {
     view *fields;
     size_t count;
@@ -12,7 +13,7 @@ typedef struct {
     bool has_item;
 } request;
 
-// commands.h, which tools/test_faces makes of tools/commands.txt, has a line for each command.
+// commands.h, which tools/cases.py writes from tools/commands.txt, has a line for each command.
 #define COMMAND(name, fewest, most) bool answer_##name(request *line);
 #include "commands.h"
 #undef COMMAND

@@ -1,4 +1,4 @@
-// The calls that compare paths, or hash one, over views.
+// The calls that compare two paths or hash one, for views.
 #ifndef COMPARISONS_H
 #define COMPARISONS_H
 

@@ -1,7 +1,8 @@
 // The answer to a list of edits.
 #include "answers.h"
 
-// Puts what a call gives in the place of the path; whether the call gives a path.
+// Replaces the path by the path that a call writes. Returns false if the call returns an error
+// code.
 static bool replace(text *path, call_of_two call, view end) {
     text answer = new_text();
     bool has_answer = add_two(&answer, call, as_view(path), end);
@@ -20,11 +21,11 @@ static const char *push(text *path, view rest) {
 
 static const char *pop(text *path, view rest) {
     (void)rest;
-    unix_path_place place;
-    if (!unix_path_parent(path->bytes, path->length, &place)) {
+    unix_path_span span;
+    if (!unix_path_parent(path->bytes, path->length, &span)) {
         return "false";
     }
-    path->length = place.length;
+    path->length = span.length;
     return "true";
 }
 
@@ -33,9 +34,9 @@ static const char *set_file_name(text *path, view name) {
     return "ok";
 }
 
-// Puts the path with the extension, as the call sets or adds it, in the place of the path.
+// Sets or adds the extension of the path by the call. Returns the edit's answer.
 static const char *edit_extension(text *path, call_of_two call, view extension) {
-    unix_path_place name;
+    unix_path_span name;
     bool is_named = unix_path_file_name(path->bytes, path->length, &name);
     if (!replace(path, call, extension)) {
         return "separator";
@@ -57,7 +58,8 @@ static const char *clear(text *path, view rest) {
     return "ok";
 }
 
-// An edit: its word, which ends with a colon where something follows, and what makes it.
+// An edit: its word, which ends with a colon if an operand follows, and the function that applies
+// it.
 typedef struct {
     const char *word;
     const char *(*make)(text *, view);
@@ -68,7 +70,7 @@ static const edit edits[] = {
     {"add:", add_extension}, {"clear", clear},
 };
 
-// Makes the edit that the field says; its answer, or NULL where the field says none.
+// Applies the edit of a field. Returns its answer, or NULL if the field names no edit.
 static const char *make_edit(text *path, view field) {
     for (size_t at = 0; at < sizeof edits / sizeof *edits; at++) {
         view word = view_of(edits[at].word);

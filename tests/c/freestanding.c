@@ -1,5 +1,5 @@
-// The archive without the C library: a program that starts by itself, and has only the four
-// functions that the archive needs. It ends with the number of answers that were wrong.
+// Uses the archive without the C library: a program that starts by itself, and has only the four
+// functions that the archive needs. Its exit status is the number of wrong answers.
 #include "unix_path.h"
 
 void *memcpy(void *to, const void *from, size_t size);
@@ -8,7 +8,7 @@ void *memset(void *to, int value, size_t size);
 int memcmp(const void *a, const void *b, size_t size);
 int wrong_answers(void);
 
-// Calls wrong_answers where the system starts the program, and ends with what it returns.
+// The system starts the program here. Calls wrong_answers, and exits with what it returns.
 __asm__(".globl _start\n"
         "_start:\n"
         "    call wrong_answers\n"
@@ -16,7 +16,7 @@ __asm__(".globl _start\n"
         "    mov $60, %eax\n"
         "    syscall\n");
 
-// Bytes that a compiler doesn't copy, fill or compare by a call of the functions below.
+// Bytes that a compiler does not copy, fill or compare by calling one of the functions below.
 typedef volatile unsigned char byte;
 
 void *memcpy(void *to, const void *from, size_t size) {
@@ -61,7 +61,7 @@ static size_t length_of(const char *text) {
     return length;
 }
 
-// Returns true if these bytes are those of the text.
+// Returns true if the bytes are the text's.
 static bool is_text(const char *bytes, size_t length, const char *text) {
     return length == length_of(text) && memcmp(bytes, text, length) == 0;
 }
@@ -73,25 +73,26 @@ static bool resolves(const char *path, const char *wanted) {
 
 static bool leads(const char *from, const char *to, const char *wanted) {
     char out[64];
-    size_t length = unix_path_way(from, length_of(from), to, length_of(to), out, sizeof out);
+    size_t length =
+        unix_path_relative_path(from, length_of(from), to, length_of(to), out, sizeof out);
     return is_text(out, length, wanted);
 }
 
 static bool joins(const char *root, const char *request, const char *wanted) {
     char out[64];
-    size_t length = unix_path_join_below(root, length_of(root), request, length_of(request), false,
-                                         out, sizeof out);
+    size_t length = unix_path_join_beneath(root, length_of(root), request, length_of(request), out,
+                                           sizeof out);
     return is_text(out, length, wanted);
 }
 
-// Returns true if the key of the path is read back as the other path, which is its canonical form.
+// Returns true if the path of `path`'s key is `wanted`, its canonical form.
 static bool is_read_back(const char *path, const char *wanted) {
     char key[64], out[64];
     size_t length = unix_path_key(path, length_of(path), key, sizeof key);
     return is_text(out, unix_path_from_key(key, length, out, sizeof out), wanted);
 }
 
-// Returns true if two paths are equal, as they are compared and by their hashes.
+// Returns true if two paths compare as equal and have the same hash.
 static bool are_equal(const char *a, const char *b) {
     size_t a_length = length_of(a), b_length = length_of(b);
     return unix_path_compare(a, a_length, b, b_length) == 0
@@ -99,15 +100,15 @@ static bool are_equal(const char *a, const char *b) {
 }
 
 static bool is_named(const char *path, const char *wanted) {
-    unix_path_place place;
-    return unix_path_file_name(path, length_of(path), &place)
-           && is_text(path + place.start, place.length, wanted);
+    unix_path_span span;
+    return unix_path_file_name(path, length_of(path), &span)
+           && is_text(path + span.start, span.length, wanted);
 }
 
 int wrong_answers(void) {
-    const char *way = "/a/directory/that/has/more/bytes/than/a/lane/b/c";
+    const char *long_path = "/a/directory/that/has/more/bytes/than/a/lane/b/c";
     return !resolves("a/../..//b/.", "../b") + !resolves("/../a", "/a")
-           + !leads(way, "/a/directory/that/has/more/bytes/than/a/lane/d", "../../d")
+           + !leads(long_path, "/a/directory/that/has/more/bytes/than/a/lane/d", "../../d")
            + !leads("a", "", "..") + !joins("/srv", "a/../b/", "/srv/b")
            + !is_read_back("/srv//www/./index.html", "/srv/www/index.html")
            + !are_equal("a/./b//", "a/b") + are_equal("./a", "a")

@@ -1,9 +1,9 @@
-// Keys of paths, read back, and the ends of their ranges, of all short strings.
+// Keys of paths, the paths of keys, and the ends of the keys' ranges, for all short strings.
 #define _DEFAULT_SOURCE
 #include "check.h"
 #include "comparisons.h"
 
-// The order in which a store keeps these keys.
+// Returns the order of two keys in a store.
 static int compare_keys(view a, view b) {
     size_t shorter = a.length < b.length ? a.length : b.length;
     int order = memcmp(a.bytes, b.bytes, shorter);
@@ -13,7 +13,7 @@ static int compare_keys(view a, view b) {
     return (a.length > b.length) - (a.length < b.length);
 }
 
-// What a call makes of these bytes, in this memory.
+// Returns what a call writes for these bytes to this memory, or nothing if it doesn't fit.
 static view made(call_of_one call, view given, uint8_t *memory, size_t room) {
     size_t length = call(given.bytes, given.length, memory, room);
     return (view){memory, length <= room ? length : 0};
@@ -21,7 +21,8 @@ static view made(call_of_one call, view given, uint8_t *memory, size_t room) {
 
 static size_t keys_among_strings;
 
-// Bytes are read back only if they are the key of what they are read back as; a `#` stands for NUL.
+// Checks that bytes have a path only if they are that path's key. A `#` in the string represents
+// NUL.
 static void read_string(view string) {
     uint8_t copy[16], path[16], again[16];
     for (size_t at = 0; at < string.length; at++) {
@@ -30,7 +31,7 @@ static void read_string(view string) {
     view bytes = {copy, string.length};
     size_t length = unix_path_from_key(bytes.bytes, bytes.length, path, sizeof path);
     if (length == UNIX_PATH_NOT_A_KEY) {
-        CHECK(unix_path_key_end(bytes.bytes, bytes.length, path, sizeof path)
+        CHECK(unix_path_key_range_end(bytes.bytes, bytes.length, path, sizeof path)
               == UNIX_PATH_NOT_A_KEY, "refused");
         return;
     }
@@ -39,9 +40,11 @@ static void read_string(view string) {
     CHECK(same_bytes(key, bytes), "read back");
 }
 
-// A name of n bytes is one of 6^n, but for those that read back as `.` and `..`: so parts that may
-// stand anywhere have 2, 3, 4 and 5 bytes 6, 35, 216 and 1296 times, and in front there are two
-// more, of 2 bytes. That makes 1, 0, 8, 35, 264 and 1786 keys of 0 to 5 bytes.
+// Checks the number of keys among the strings. A name of n bytes has n + 1 bytes in a key, and
+// there are 6^n such names, except `.` and `..`. The component `..` has 2 bytes. So of the
+// components that may be anywhere, 6, 35, 216 and 1296 have 2, 3, 4 and 5 bytes in a key. At the
+// beginning there may also be the root or a `.`, of 2 bytes each. That makes 1, 0, 8, 35, 264 and
+// 1786 keys of 0 to 5 bytes.
 static void strings_as_keys(void) {
     each_string("#a/\x01\x02\x03\x04", 5, read_string);
     CHECK(keys_among_strings == 2094, "%zu keys", keys_among_strings);
@@ -49,12 +52,13 @@ static void strings_as_keys(void) {
 
 static view first_of_pair;
 
-// Keys are in the order of their paths, and a path lies in the range of those that it starts with.
+// Checks that keys are in the order of their paths, and that a path is in the range of another path
+// if and only if it starts with that path.
 static void pair_with(view path) {
     uint8_t first[16], second[16], last[16];
     view a = made(unix_path_key, first_of_pair, first, sizeof first);
     view b = made(unix_path_key, path, second, sizeof second);
-    view end = made(unix_path_key_end, b, last, sizeof last);
+    view end = made(unix_path_key_range_end, b, last, sizeof last);
     CHECK(compare_keys(a, b) == compare(first_of_pair, path), "order");
     bool is_in_range = compare_keys(b, a) <= 0 && (b.length == 0 || compare_keys(a, end) < 0);
     CHECK(is_in_range == unix_path_starts_with(first_of_pair.bytes, first_of_pair.length,

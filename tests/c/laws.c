@@ -1,4 +1,5 @@
-// All calls on short strings of every kind: what they read, and what ties their answers together.
+// All calls on short strings of every kind: which bytes they read, and how their answers depend on
+// one another.
 #define _DEFAULT_SOURCE
 #include "check.h"
 #include "comparisons.h"
@@ -7,7 +8,7 @@
 
 static fence first_fence, second_fence;
 
-// The key of a path, beside which nothing can be read, is read back as the canonical path.
+// Checks that a path's key, next to a page that can't be read, is read back as the canonical path.
 static void key_read_back(view path) {
     uint8_t bytes[16], canonical[16];
     size_t length = unix_path_key(path.bytes, path.length, bytes, sizeof bytes);
@@ -18,14 +19,14 @@ static void key_read_back(view path) {
     CHECK(same_bytes((view){path_of_key, read}, (view){canonical, wanted}), "read back");
 }
 
-// The questions about one path, by what ties their answers together.
+// Checks how the answers to the queries about one path depend on one another.
 static void questions_of(view path) {
     bool is_absolute = unix_path_is_absolute(path.bytes, path.length);
-    bool climbs = unix_path_climbs(path.bytes, path.length);
+    bool escapes = unix_path_escapes(path.bytes, path.length);
     int32_t reason = unix_path_check_request(path.bytes, path.length);
     CHECK(is_absolute == (path.length > 0 && path.bytes[0] == '/'), "root");
     CHECK((reason == UNIX_PATH_REQUEST_HAS_ROOT) == is_absolute, "request");
-    CHECK((reason == UNIX_PATH_REQUEST_ESCAPES) == (climbs && !is_absolute), "request");
+    CHECK((reason == UNIX_PATH_REQUEST_ESCAPES) == (escapes && !is_absolute), "request");
     text spelling = new_text(), lossy = new_text();
     add_one(&spelling, unix_path_canonical, path);
     add_one(&lossy, unix_path_to_string_lossy, path);
@@ -37,7 +38,8 @@ static void questions_of(view path) {
     free(lossy.bytes);
 }
 
-// No answer of one path is longer than the header says, so that this much room is enough.
+// Checks that no result for one path is longer than the header says, so that a buffer of that size
+// is enough.
 static void room_for_one(view path) {
     uint8_t out[16];
     size_t n = path.length;
@@ -47,38 +49,38 @@ static void room_for_one(view path) {
     CHECK(unix_path_key(path.bytes, n, out, n + 2) <= n + 2, "key");
 }
 
-// And no length of two paths is.
+// Checks that no result for two paths is longer than the header says.
 static void room_for_two(view a, view b) {
     static const call_of_two calls[] = {unix_path_join, unix_path_with_file_name,
                                         unix_path_with_extension, unix_path_with_added_extension,
-                                        unix_path_join_verbatim};
+                                        unix_path_join_verbatim, unix_path_join_beneath,
+                                        unix_path_join_in_root};
     uint8_t out[16];
     size_t room = a.length + 1 + b.length;
     for (size_t at = 0; at < sizeof calls / sizeof *calls; at++) {
         size_t length = calls[at](a.bytes, a.length, b.bytes, b.length, out, room);
         CHECK(length <= room || !unix_path_is_length(length), "call %zu", at);
     }
-    CHECK(unix_path_join_below(a.bytes, a.length, b.bytes, b.length, true, out, room) <= room,
-          "join below");
-    size_t way_room = 3 * (a.length + 1) / 2 + b.length;
+    size_t most = 3 * (a.length + 1) / 2 + b.length;
     uint8_t steps[32];
-    size_t way = unix_path_way(a.bytes, a.length, b.bytes, b.length, steps, way_room);
-    CHECK(way <= way_room || !unix_path_is_length(way), "way");
+    size_t length = unix_path_relative_path(a.bytes, a.length, b.bytes, b.length, steps, most);
+    CHECK(length <= most || !unix_path_is_length(length), "relative path");
 }
 
-// The ancestors are the path and each parent of one.
+// Checks that the ancestors are the path and the parent of each.
 static void ancestors_are_parents(view path) {
     size_t next = path.length;
-    unix_path_place ancestor, wanted = {0, path.length};
+    unix_path_span ancestor, wanted = {0, path.length};
     bool is_wanted = true;
     while (unix_path_next_ancestor(path.bytes, path.length, &next, &ancestor)) {
-        CHECK(is_wanted && same_place(ancestor, wanted), "ancestor of %zu", ancestor.length);
+        CHECK(is_wanted && same_span(ancestor, wanted), "ancestor of %zu", ancestor.length);
         is_wanted = unix_path_parent(path.bytes, wanted.length, &wanted);
     }
     CHECK(!is_wanted && next == SIZE_MAX, "%zu is left", wanted.length);
 }
 
-// The chunks stand side by side, and as they are shown they are the lossy text.
+// Checks that the chunks follow one another, and that with their replacements they are the lossy
+// string.
 static void chunks_are_shown(view path) {
     text shown = new_text(), lossy = new_text();
     size_t next = 0, end = 0;
@@ -96,7 +98,7 @@ static void chunks_are_shown(view path) {
     free(lossy.bytes);
 }
 
-// Each call of one path, beside which nothing can be read.
+// Makes each call of one path, which the caller has placed next to a page that can't be read.
 static void call_all_of_one(view path) {
     static const call_of_place calls[] = {unix_path_parent, unix_path_file_name,
                                           unix_path_file_stem, unix_path_extension,
@@ -104,9 +106,9 @@ static void call_all_of_one(view path) {
     static const call_of_one writers[] = {unix_path_canonical, unix_path_to_string_lossy,
                                           unix_path_resolved, unix_path_key};
     for (size_t at = 0; at < sizeof calls / sizeof *calls; at++) {
-        unix_path_place place = no_place;
-        bool is_there = calls[at](path.bytes, path.length, &place);
-        CHECK(is_there ? is_inside(path, place) : same_place(place, no_place), "call %zu", at);
+        unix_path_span span = no_span;
+        bool is_there = calls[at](path.bytes, path.length, &span);
+        CHECK(is_there ? is_inside(path, span) : same_span(span, no_span), "call %zu", at);
     }
     for (size_t at = 0; at < sizeof writers / sizeof *writers; at++) {
         text answer = new_text();
@@ -117,13 +119,13 @@ static void call_all_of_one(view path) {
         CHECK(same_bytes(as_view(&answer), (view){out, room}), "call %zu", at);
         free(answer.bytes);
     }
-    size_t below = unix_path_join_below(path.bytes, path.length, path.bytes, path.length, true,
-                                        second_fence.begin, 0);
+    size_t joined = unix_path_join_in_root(path.bytes, path.length, path.bytes, path.length,
+                                           second_fence.begin, 0);
     uint8_t *end = second_fence.begin + second_fence.size;
-    CHECK(unix_path_join_below(path.bytes, path.length, path.bytes, path.length, true, end - below,
-                               below) == below, "join below");
+    CHECK(unix_path_join_in_root(path.bytes, path.length, path.bytes, path.length, end - joined,
+                                 joined) == joined, "join in root");
     size_t range_end =
-        unix_path_key_end(path.bytes, path.length, end - path.length, path.length);
+        unix_path_key_range_end(path.bytes, path.length, end - path.length, path.length);
     size_t read = unix_path_from_key(path.bytes, path.length, end - path.length, path.length);
     CHECK((range_end == UNIX_PATH_NOT_A_KEY) == (read == UNIX_PATH_NOT_A_KEY), "no key");
     key_read_back(path);
@@ -145,29 +147,30 @@ static void nothing_beside_is_read(void) {
     each_string("/.a\xE2\x82", 4, call_fenced);
 }
 
-// A request that isn't read as that of a URL is refused if and only if it climbs. If it doesn't
-// climb, the join below the resolved root is the resolved join.
-static void joins_below(view root, view request, bool climbs) {
-    uint8_t resolved[16], below[16], other[16], wanted[16];
+// Checks that a join beneath a root returns UNIX_PATH_ESCAPES if and only if the request escapes.
+// If it doesn't escape, the join is the join in the root and, with the resolved root, the resolved
+// join.
+static void joins_beneath(view root, view request, bool escapes) {
+    uint8_t resolved[16], beneath[16], other[16], wanted[16];
     size_t length = unix_path_resolved(root.bytes, root.length, resolved, sizeof resolved);
-    size_t strict = unix_path_join_below(resolved, length, request.bytes, request.length, false,
-                                         below, sizeof below);
-    CHECK((strict == UNIX_PATH_ESCAPES) == climbs, "escapes below");
-    size_t as_url = unix_path_join_below(resolved, length, request.bytes, request.length, true,
-                                         other, sizeof other);
-    CHECK(as_url <= length + 1 + request.length, "as a URL");
-    if (climbs) {
+    size_t strict = unix_path_join_beneath(resolved, length, request.bytes, request.length, beneath,
+                                           sizeof beneath);
+    CHECK((strict == UNIX_PATH_ESCAPES) == escapes, "escapes");
+    size_t in_root = unix_path_join_in_root(resolved, length, request.bytes, request.length, other,
+                                            sizeof other);
+    CHECK(in_root <= length + 1 + request.length, "in root");
+    if (escapes) {
         return;
     }
-    CHECK(same_bytes((view){below, strict}, (view){other, as_url}), "both readings");
+    CHECK(same_bytes((view){beneath, strict}, (view){other, in_root}), "both joins");
     size_t joined = unix_path_join(root.bytes, root.length, request.bytes, request.length, other,
                                    sizeof other);
     length = unix_path_resolved(other, joined, wanted, sizeof wanted);
-    CHECK(same_bytes((view){below, strict}, (view){wanted, length}), "resolved join");
+    CHECK(same_bytes((view){beneath, strict}, (view){wanted, length}), "resolved join");
 }
 
-// Whether the root or a `..` is among the parts.
-static bool has_root_or_up(view path) {
+// Returns true if the root or a `..` is among the components.
+static bool has_root_or_parent_dir(view path) {
     unix_path_walk walk = {0, path.length};
     unix_path_part part;
     while (unix_path_next(path.bytes, path.length, &walk, &part)) {
@@ -178,21 +181,21 @@ static bool has_root_or_up(view path) {
     return false;
 }
 
-// A path joined with its way to another resolves to the other; there is no way if just one has a
-// root.
-static void way_leads(view from, view to) {
-    text way = new_text(), there = new_text(), found = new_text(), wanted = new_text();
-    bool is_way = add_two(&way, unix_path_way, from, to);
+// Checks that a path joined with its relative path to another path resolves to the same as the
+// other path, and that there is no relative path if exactly one of the two paths has a root.
+static void relative_path_leads(view from, view to) {
+    text steps = new_text(), there = new_text(), found = new_text(), wanted = new_text();
+    bool is_there = add_two(&steps, unix_path_relative_path, from, to);
     bool roots = unix_path_is_absolute(from.bytes, from.length)
                  == unix_path_is_absolute(to.bytes, to.length);
-    CHECK(roots || !is_way, "roots");
-    if (is_way) {
-        add_two(&there, unix_path_join, from, as_view(&way));
+    CHECK(roots || !is_there, "roots");
+    if (is_there) {
+        add_two(&there, unix_path_join, from, as_view(&steps));
         add_one(&found, unix_path_resolved, as_view(&there));
         add_one(&wanted, unix_path_resolved, to);
-        CHECK(same_bytes(as_view(&found), as_view(&wanted)), "way");
+        CHECK(same_bytes(as_view(&found), as_view(&wanted)), "relative path");
     }
-    free(way.bytes);
+    free(steps.bytes);
     free(there.bytes);
     free(found.bytes);
     free(wanted.bytes);
@@ -200,10 +203,10 @@ static void way_leads(view from, view to) {
 
 static view first_of_pair;
 
-// Laws that tie the calls of two paths together.
+// Checks how the calls of two paths depend on one another.
 static void pair_with(view path) {
     view a = fence_in(first_fence, first_of_pair, true), b = fence_in(second_fence, path, true);
-    unix_path_place place = no_place;
+    unix_path_span span = no_span;
     bool is_equal = unix_path_equal(a.bytes, a.length, b.bytes, b.length);
     bool starts = unix_path_starts_with(a.bytes, a.length, b.bytes, b.length);
     CHECK(compare(a, b) == -compare(b, a), "order");
@@ -211,21 +214,22 @@ static void pair_with(view path) {
     CHECK(!is_equal || hash(a) == hash(b), "hash");
     CHECK(!is_equal || (starts && unix_path_ends_with(a.bytes, a.length, b.bytes, b.length)),
           "equal paths");
-    CHECK(unix_path_strip_prefix(a.bytes, a.length, b.bytes, b.length, &place) == starts, "prefix");
-    CHECK(starts ? is_inside(a, place) : same_place(place, no_place), "place");
+    CHECK(unix_path_strip_prefix(a.bytes, a.length, b.bytes, b.length, &span) == starts, "prefix");
+    CHECK(starts ? is_inside(a, span) : same_span(span, no_span), "span");
     CHECK(common_dir(a, b) <= a.length && common_dir(a, b) == common_dir(b, a), "common dir");
     text first = new_text(), second = new_text();
     add_one(&first, unix_path_canonical, a);
     add_one(&second, unix_path_canonical, b);
     CHECK(same_bytes(as_view(&first), as_view(&second)) == is_equal, "spelling");
     first.length = second.length = 0;
-    if (starts && add_two(&first, unix_path_join, b, view_at(a, place)) && b.length > 0) {
+    if (starts && add_two(&first, unix_path_join, b, view_at(a, span)) && b.length > 0) {
         CHECK(unix_path_equal(first.bytes, first.length, a.bytes, a.length), "rejoined");
     }
-    bool climbs = unix_path_climbs(b.bytes, b.length);
-    CHECK(add_two(&second, unix_path_join_verbatim, a, b) == !has_root_or_up(b), "root or up");
-    joins_below(a, b, climbs);
-    way_leads(a, b);
+    bool escapes = unix_path_escapes(b.bytes, b.length);
+    CHECK(add_two(&second, unix_path_join_verbatim, a, b) == !has_root_or_parent_dir(b),
+          "root or parent");
+    joins_beneath(a, b, escapes);
+    relative_path_leads(a, b);
     room_for_two(a, b);
     add_two(&first, unix_path_with_file_name, a, b);
     add_two(&first, unix_path_with_extension, a, b);

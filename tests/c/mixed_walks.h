@@ -1,11 +1,11 @@
-// Walks that take some parts from the front and some from behind, checked against all parts.
+// Walks that take components from both ends, compared with the list of all components.
 #ifndef MIXED_WALKS_H
 #define MIXED_WALKS_H
 
 #include "check.h"
 #include "records.h"
 
-// Takes all parts of a walk, of which there must be few.
+// Takes all components of a walk, of which there must be few, and returns how many there are.
 static inline size_t take_all(view path, unix_path_walk walk, unix_path_part *parts) {
     size_t count = 0;
     while (count < 16 && unix_path_next(path.bytes, path.length, &walk, &parts[count])) {
@@ -14,22 +14,24 @@ static inline size_t take_all(view path, unix_path_walk walk, unix_path_part *pa
     return count;
 }
 
-// Whether the place reaches from the first of these parts to the last, or is empty without any.
-static inline bool reaches(unix_path_place place, const unix_path_part *parts, size_t count) {
+// Returns true if the span reaches from the first of these components to the last, or if it is
+// empty and there are none.
+static inline bool reaches(unix_path_span span, const unix_path_part *parts, size_t count) {
     if (count == 0) {
-        return place.length == 0;
+        return span.length == 0;
     }
     unix_path_part last = parts[count - 1];
-    return place.start == parts[0].start
-           && place.start + place.length == last.start + last.length;
+    return span.start == parts[0].start
+           && span.start + span.length == last.start + last.length;
 }
 
-// Takes as the bits of `turns` say; the parts in front, left and behind have to be those of path.
+// Takes components from the ends that the bits of `turns` say. The components taken from the front,
+// left in the rest, and taken from the back have to be those of the path.
 static inline void walk_by(view path, unsigned turns, const unix_path_part *parts, size_t count) {
     size_t front = 0, behind = count;
     unix_path_walk walk, fresh;
     unix_path_part part;
-    unix_path_place rest = no_place;
+    unix_path_span rest = no_span;
     unix_path_components(path.bytes, path.length, &walk);
     for (unsigned at = 0; at < 4; at++) {
         bool is_front = (turns >> at & 1) == 1;

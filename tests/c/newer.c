@@ -1,4 +1,4 @@
-// A call that the library lacks, or, if PROGRAM is defined, a program that makes it.
+// A call that the library does not have or, if PROGRAM is defined, a program that calls it.
 #include <stdbool.h>
 #include <stdio.h>
 

@@ -1,6 +1,6 @@
-// Each call with a null pointer for the empty path, and for an out without room: it answers what it
-// answers for a path of no bytes that stands somewhere. Calls are named only in rows of expected
-// answers.
+// Each call with a null pointer for the empty path, and for a buffer of no bytes. Each call has to
+// return what it returns for an empty path whose pointer isn't null. Calls are named only in rows
+// of expected answers.
 #define _DEFAULT_SOURCE
 #include "../passed_on.h"
 #include "check.h"
@@ -27,20 +27,20 @@ static void each_function(void) {
 static void walks_of_nothing(void) {
     unix_path_walk walk = {1, 2};
     unix_path_part part = no_part;
-    unix_path_place place = no_place;
+    unix_path_span span = no_span;
     unix_path_components(NULL, 0, &walk);
     CHECK(walk.front == 0 && walk.back == 0, "%zu, %zu", walk.front, walk.back);
     CHECK(!unix_path_next(NULL, 0, &walk, &part) && same_part(part, no_part), "next");
     CHECK(!unix_path_next_back(NULL, 0, &walk, &part) && same_part(part, no_part), "next back");
-    unix_path_as_path(NULL, 0, &walk, &place);
-    CHECK(place.start == 0 && place.length == 0, "%zu, %zu", place.start, place.length);
+    unix_path_as_path(NULL, 0, &walk, &span);
+    CHECK(span.start == 0 && span.length == 0, "%zu, %zu", span.start, span.length);
     size_t next = 0;
     unix_path_chunk chunk = no_chunk;
     CHECK(!unix_path_next_chunk(NULL, 0, &next, &chunk) && same_chunk(chunk, no_chunk) && next == 0,
           "chunk");
-    CHECK(unix_path_next_ancestor(NULL, 0, &next, &place) && place.length == 0, "ancestor");
-    place = no_place;
-    CHECK(!unix_path_next_ancestor(NULL, 0, &next, &place) && same_place(place, no_place)
+    CHECK(unix_path_next_ancestor(NULL, 0, &next, &span) && span.length == 0, "ancestor");
+    span = no_span;
+    CHECK(!unix_path_next_ancestor(NULL, 0, &next, &span) && same_span(span, no_span)
           && next == SIZE_MAX, "no ancestor");
 }
 
@@ -49,16 +49,16 @@ static void places_in_nothing(void) {
                                           unix_path_file_stem, unix_path_extension,
                                           unix_path_file_prefix};
     for (size_t at = 0; at < sizeof calls / sizeof *calls; at++) {
-        unix_path_place place = no_place;
-        CHECK(!calls[at](NULL, 0, &place) && same_place(place, no_place), "call %zu", at);
+        unix_path_span span = no_span;
+        CHECK(!calls[at](NULL, 0, &span) && same_span(span, no_span), "call %zu", at);
     }
     for (size_t at = 0; at < other_count; at++) {
         view path = view_of(others[at]);
-        unix_path_place place = no_place;
-        CHECK(unix_path_strip_prefix(path.bytes, path.length, NULL, 0, &place), "row %zu", at);
-        CHECK(same_bytes(view_at(path, place), path) || at == 3, "row %zu", at);
-        place = no_place;
-        CHECK(unix_path_strip_prefix(NULL, 0, path.bytes, path.length, &place) == (at == 0),
+        unix_path_span span = no_span;
+        CHECK(unix_path_strip_prefix(path.bytes, path.length, NULL, 0, &span), "row %zu", at);
+        CHECK(same_bytes(view_at(path, span), path) || at == 3, "row %zu", at);
+        span = no_span;
+        CHECK(unix_path_strip_prefix(NULL, 0, path.bytes, path.length, &span) == (at == 0),
               "row %zu", at);
     }
 }
@@ -66,7 +66,7 @@ static void places_in_nothing(void) {
 static void questions_of_nothing(void) {
     CHECK(hash(none) == hash(view_of("")) && unix_path_is_utf8(NULL, 0), "hash");
     CHECK(unix_path_is_canonical(NULL, 0), "canonical");
-    CHECK(!unix_path_is_absolute(NULL, 0) && !unix_path_climbs(NULL, 0), "root");
+    CHECK(!unix_path_is_absolute(NULL, 0) && !unix_path_escapes(NULL, 0), "root");
     CHECK(unix_path_check_request(NULL, 0) == UNIX_PATH_REQUEST_OK, "request");
     for (size_t at = 0; at < other_count; at++) {
         view path = view_of(others[at]);
@@ -82,7 +82,7 @@ static void questions_of_nothing(void) {
     CHECK(compare(none, none) == 0 && common_dir(none, none) == 0, "both");
 }
 
-// Makes a call with out in the room and, where there is none, with a null pointer too.
+// Makes a call with a buffer, and with a null pointer as a buffer of no bytes.
 static void write_both(call_of_two call, view a, view b, view wanted) {
     uint8_t memory[16];
     memset(memory, 0xA5, sizeof memory);
@@ -91,11 +91,6 @@ static void write_both(call_of_two call, view a, view b, view wanted) {
     CHECK(is_written(memory, sizeof memory, wanted), "%zu", wanted.length);
     CHECK(call(a.bytes, a.length, b.bytes, b.length, NULL, 0) == wanted.length, "%zu",
           wanted.length);
-}
-
-static size_t join_below(const void *root, size_t root_length, const void *request,
-                         size_t request_length, void *out, size_t out_length) {
-    return unix_path_join_below(root, root_length, request, request_length, true, out, out_length);
 }
 
 static void written_of_nothing(void) {
@@ -119,15 +114,18 @@ static void written_of_nothing(void) {
     write_both(unix_path_join_verbatim, none, none, nothing);
     write_both(unix_path_join_verbatim, none, name, name);
     write_both(unix_path_join_verbatim, name, none, view_of("a.b/"));
-    write_both(unix_path_way, none, none, nothing);
-    write_both(unix_path_way, none, name, name);
-    write_both(unix_path_way, name, none, view_of(".."));
-    write_both(join_below, none, none, nothing);
-    write_both(join_below, none, name, name);
-    write_both(join_below, name, none, name);
+    write_both(unix_path_relative_path, none, none, nothing);
+    write_both(unix_path_relative_path, none, name, name);
+    write_both(unix_path_relative_path, name, none, view_of(".."));
+    write_both(unix_path_join_beneath, none, none, nothing);
+    write_both(unix_path_join_beneath, none, name, name);
+    write_both(unix_path_join_beneath, name, none, name);
+    write_both(unix_path_join_in_root, none, none, nothing);
+    write_both(unix_path_join_in_root, none, name, name);
+    write_both(unix_path_join_in_root, name, none, name);
 }
 
-// What is told apart from a length.
+// Checks which numbers are lengths and which are error codes.
 static void lengths(void) {
     CHECK(unix_path_is_length(0) && unix_path_is_length((size_t)PTRDIFF_MAX), "lengths");
     CHECK(unix_path_is_c_string(NULL, 0) && unix_path_is_c_string("a/b", 3), "strings");
@@ -137,7 +135,7 @@ static void lengths(void) {
     CHECK(!unix_path_is_length(UNIX_PATH_SEPARATOR) && !unix_path_is_length(UNIX_PATH_ESCAPES),
           "errors");
     CHECK(!unix_path_is_length(UNIX_PATH_NUL_IN_REQUEST), "errors");
-    CHECK(!unix_path_is_length(UNIX_PATH_NO_WAY), "errors");
+    CHECK(!unix_path_is_length(UNIX_PATH_NO_RELATIVE_PATH), "errors");
     CHECK(unix_path_error_name(0) == NULL, "names");
     CHECK(unix_path_error_name((size_t)PTRDIFF_MAX) == NULL, "names");
     CHECK(strcmp(unix_path_error_name(UNIX_PATH_TOO_LONG), "UNIX_PATH_TOO_LONG") == 0, "names");
@@ -148,10 +146,14 @@ static void lengths(void) {
           "names");
     CHECK(strcmp(unix_path_error_name(UNIX_PATH_NOT_A_KEY), "UNIX_PATH_NOT_A_KEY") == 0, "names");
     CHECK(strcmp(unix_path_error_name(UNIX_PATH_NO_END), "UNIX_PATH_NO_END") == 0, "names");
-    CHECK(strcmp(unix_path_error_name(UNIX_PATH_NO_WAY), "UNIX_PATH_NO_WAY") == 0, "names");
+    CHECK(strcmp(unix_path_error_name(UNIX_PATH_NO_RELATIVE_PATH), "UNIX_PATH_NO_RELATIVE_PATH")
+              == 0, "names");
     char version[16];
     snprintf(version, sizeof version, "%d.%d", UNIX_PATH_VERSION_MAJOR, UNIX_PATH_VERSION_MINOR);
     CHECK(strcmp(version, UNIX_PATH_VERSION) == 0, "version %s", version);
+    int number = UNIX_PATH_VERSION_MAJOR * 65536 + UNIX_PATH_VERSION_MINOR * 256;
+    CHECK(UNIX_PATH_VERSION_NUMBER == number, "number");
+    CHECK(unix_path_version() == UNIX_PATH_VERSION_NUMBER, "version");
 }
 
 int main(void) {

@@ -1,8 +1,13 @@
-// Answers lines as pathtool does, over the library's calls from C.
+// Answers lines as pathtool does, with the library's calls for C.
+#ifdef _WIN32
+#include <fcntl.h>
+#include <io.h>
+#endif
+
 #include "answers.h"
 
-// A command: its name, the fewest and the most fields, and what answers it, which is false where
-// it is used wrongly.
+// A command: its name, its fewest and most fields, and the function that answers it, which returns
+// false if the command is used wrongly.
 typedef struct {
     const char *name;
     size_t fewest, most;
@@ -15,7 +20,7 @@ static const command commands[] = {
 #undef COMMAND
 };
 
-// The command of that name, or NULL.
+// Returns the command of that name, or NULL if there is none.
 static const command *find(view name) {
     for (size_t at = 0; at < sizeof commands / sizeof *commands; at++) {
         if (same_bytes(name, view_of(commands[at].name))) {
@@ -25,7 +30,7 @@ static const command *find(view name) {
     return NULL;
 }
 
-// Answers a line, cut into its fields.
+// Answers a line that was cut into its fields.
 static void answer_fields(view *fields, size_t count, text *answer) {
     request line = {fields + 1, count - 1, answer, false};
     const command *found = find(fields[0]);
@@ -67,7 +72,16 @@ static text read_all(FILE *file) {
     return input;
 }
 
+// Has the streams pass all bytes unchanged, which Windows does only if it is asked to.
+static void keep_bytes(void) {
+#ifdef _WIN32
+    _setmode(_fileno(stdin), _O_BINARY);
+    _setmode(_fileno(stdout), _O_BINARY);
+#endif
+}
+
 int main(void) {
+    keep_bytes();
     text input = read_all(stdin), answer = new_text();
     for (size_t begin = 0; begin < input.length;) {
         const uint8_t *line = input.bytes + begin;

@@ -1,14 +1,14 @@
-// Records that the calls write, and when two are the same.
+// The records that calls write, and comparisons of them.
 #ifndef RECORDS_H
 #define RECORDS_H
 
 #include "text.h"
 
-// A record that no call gives, so that it shows whether one was written.
-static const unix_path_place no_place = {SIZE_MAX, SIZE_MAX - 1};
+// Records that no call writes, so that they show whether a record was written.
+static const unix_path_span no_span = {SIZE_MAX, SIZE_MAX - 1};
 static const unix_path_part no_part = {SIZE_MAX, SIZE_MAX - 1, UINT32_MAX};
 
-static inline bool same_place(unix_path_place a, unix_path_place b) {
+static inline bool same_span(unix_path_span a, unix_path_span b) {
     return a.start == b.start && a.length == b.length;
 }
 
@@ -23,8 +23,8 @@ static inline bool same_chunk(unix_path_chunk a, unix_path_chunk b) {
            && a.broken_length == b.broken_length;
 }
 
-static inline bool is_inside(view path, unix_path_place place) {
-    return place.start <= path.length && place.length <= path.length - place.start;
+static inline bool is_inside(view path, unix_path_span span) {
+    return span.start <= path.length && span.length <= path.length - span.start;
 }
 
 #endif

@@ -1,5 +1,6 @@
-// The rows of tests/rows.txt: each is asked anew with its paths between pages that can't be read,
-// and spelled anew with the answer. A row that is spelled otherwise is wrong, or no row.
+// The rows of tests/rows.txt. Each call is made with its paths between pages that can't be read,
+// and the row is spelled again with the answer. A row that is spelled differently is wrong or not a
+// row.
 #define _DEFAULT_SOURCE
 #include <ctype.h>
 #include <inttypes.h>
@@ -9,33 +10,33 @@
 #include "records.h"
 #include "mixed_walks.h"
 
-// The most bytes that an answer or a path of a row has.
+// The most bytes of an answer or of a path in a row.
 enum { most = 64 };
 
-// A call: its name, how many paths it takes, and what asks it.
+// A call: its name, the number of its paths, and the function that makes it.
 typedef struct {
     const char *name;
     size_t paths;
     void (*ask)(view, view);
 } call;
 
-// A call that writes.
-typedef size_t (*writer)(view, view, bool, uint8_t *, size_t);
+// A call that writes to a buffer.
+typedef size_t (*writer)(view, view, uint8_t *, size_t);
 
-// The row that is asked, the same row with the answer that was found, and the memory of paths and
+// The row that is checked, the same row with the answer that was found, and the memory of paths and
 // buffers.
 static text row, found;
 static fence first_path, second_path, room_of_out;
 
 #define CHECK_ROW(holds) CHECK(holds, "%.*s", (int)row.length, (const char *)row.bytes)
 
-// Adds a field that is spelled like this.
+// Adds a field with this spelling.
 static void add_field(const char *spelled) {
     add_string(&found, *spelled == '\0' ? " |" : " | ");
     add_string(&found, spelled);
 }
 
-// Adds what a question answers. A hash has no sign and is written in base 16.
+// Adds the answer of a query. A hash has no sign, and is written in base 16.
 static void add_bool(bool is_true) { add_field(is_true ? "true" : "false"); }
 
 static void add_int32_t(int32_t number) {
@@ -56,7 +57,7 @@ static void add_uint64_t(uint64_t number) {
     add_field(digits);
 }
 
-// Whether a byte of a field stands there as it is.
+// Returns true if a byte of a field is spelled verbatim.
 static bool is_plain(view bytes, size_t at) {
     uint8_t byte = bytes.bytes[at];
     bool is_at_end = at == 0 || at + 1 == bytes.length;
@@ -75,19 +76,19 @@ static void add_bytes(view bytes) {
     add_field(spelled);
 }
 
-// Adds a place in the path, or that there is none and nothing was written.
-static void add_place(view path, bool is_there, unix_path_place place) {
+// Adds a span in the path. If there is none, adds `!none`, and checks that nothing was written.
+static void add_span(view path, bool is_there, unix_path_span span) {
     if (!is_there) {
-        CHECK_ROW(same_place(place, no_place));
+        CHECK_ROW(same_span(span, no_span));
         add_field("!none");
         return;
     }
-    CHECK_ROW(is_inside(path, place));
-    add_bytes(view_at(path, place));
-    add_size_t(place.start);
+    CHECK_ROW(is_inside(path, span));
+    add_bytes(view_at(path, span));
+    add_size_t(span.start);
 }
 
-// Asks for the order, of which that from the other side and unix_path_equal have to know.
+// Adds the order, and checks it against the order of the swapped paths and unix_path_equal.
 static void ask_order(view a, view b) {
     int32_t order = compare(a, b);
     add_int32_t(order);
@@ -95,7 +96,7 @@ static void ask_order(view a, view b) {
     CHECK_ROW(unix_path_equal(a.bytes, a.length, b.bytes, b.length) == (order == 0));
 }
 
-// Asks for the common dir, which is the same from the other side.
+// Adds the common directory's length, and checks that it is the same for the swapped paths.
 static void ask_both_sides(view a, view b) {
     size_t length = common_dir(a, b);
     add_size_t(length);
@@ -110,17 +111,18 @@ static void add_error(const char *name) {
     add_field(word);
 }
 
-// Adds what the call writes, which it writes if there is room for it, and else nothing.
-static void write_in_each_room(writer write, view a, view b, bool as_url) {
+// Adds what the call writes. Checks that it is written to each buffer that is large enough, and
+// that nothing is written to a smaller buffer.
+static void write_in_each_room(writer write, view a, view b) {
     uint8_t whole[most];
     memset(whole, 0xA5, sizeof whole);
-    size_t answer = write(a, b, as_url, whole, sizeof whole);
+    size_t answer = write(a, b, whole, sizeof whole);
     view wanted = {whole, unix_path_is_length(answer) ? answer : 0};
     CHECK_ROW(wanted.length <= most && is_written(whole, sizeof whole, wanted));
     for (size_t room = 0; room <= most; room++) {
         uint8_t *out = room_of_out.begin + room_of_out.size - room;
         memset(out, 0xA5, room);
-        CHECK_ROW(write(a, b, as_url, out, room) == answer);
+        CHECK_ROW(write(a, b, out, room) == answer);
         CHECK_ROW(is_written(out, room, wanted.length <= room ? wanted : view_of("")));
     }
     if (unix_path_is_length(answer)) {
@@ -139,12 +141,13 @@ static uint32_t kind_of(view part) {
     return kind;
 }
 
-// The parts, from either end and by turns, and what is left before one is taken.
+// Adds the components. Checks that walks from either end and from both ends take them, and checks
+// the rest of a new walk.
 static void walk_path(view a, view b) {
     (void)b;
     unix_path_walk walk;
     unix_path_part parts[16], part = no_part;
-    unix_path_place rest;
+    unix_path_span rest;
     unix_path_components(a.bytes, a.length, &walk);
     unix_path_as_path(a.bytes, a.length, &walk, &rest);
     CHECK_ROW(walk.front == 0 && walk.back == rest.start + rest.length);
@@ -165,22 +168,24 @@ static void walk_path(view a, view b) {
     CHECK_ROW(!unix_path_next_back(a.bytes, a.length, &walk, &part) && same_part(part, no_part));
 }
 
-// The ancestors, of which none is left once next is SIZE_MAX, or greater than the path's length.
+// Adds the ancestors. Checks that none is left once `next` is SIZE_MAX, or if it is greater than
+// the path's length.
 static void list_ancestors(view a, view b) {
     (void)b;
     size_t next = a.length, past = a.length + 1;
-    unix_path_place place;
-    while (unix_path_next_ancestor(a.bytes, a.length, &next, &place)) {
-        CHECK_ROW(place.start == 0 && is_inside(a, place));
-        add_bytes(view_at(a, place));
+    unix_path_span span;
+    while (unix_path_next_ancestor(a.bytes, a.length, &next, &span)) {
+        CHECK_ROW(span.start == 0 && is_inside(a, span));
+        add_bytes(view_at(a, span));
     }
-    place = no_place;
-    CHECK_ROW(next == SIZE_MAX && !unix_path_next_ancestor(a.bytes, a.length, &next, &place));
-    CHECK_ROW(next == SIZE_MAX && !unix_path_next_ancestor(a.bytes, a.length, &past, &place));
-    CHECK_ROW(past == a.length + 1 && same_place(place, no_place));
+    span = no_span;
+    CHECK_ROW(next == SIZE_MAX && !unix_path_next_ancestor(a.bytes, a.length, &next, &span));
+    CHECK_ROW(next == SIZE_MAX && !unix_path_next_ancestor(a.bytes, a.length, &past, &span));
+    CHECK_ROW(past == a.length + 1 && same_span(span, no_span));
 }
 
-// The chunks, each behind the one before it, of which none is left at the path's end.
+// Adds the chunks. Checks that each begins where the chunk before it ends, and that none is left at
+// the path's end or after it.
 static void list_chunks(view a, view b) {
     (void)b;
     size_t next = 0, end = 0, past = SIZE_MAX;
@@ -198,19 +203,19 @@ static void list_chunks(view a, view b) {
     CHECK_ROW(past == SIZE_MAX && same_chunk(chunk, no_chunk));
 }
 
-// What asks each call of a shape.
+// The functions that make each call of a shape.
 #define FIND(name)                                                                                 \
     static void ask_##name(view a, view b) {                                                       \
         (void)b;                                                                                   \
-        unix_path_place place = no_place;                                                          \
-        bool is_there = unix_path_##name(a.bytes, a.length, &place);                               \
-        add_place(a, is_there, place);                                                             \
+        unix_path_span span = no_span;                                                             \
+        bool is_there = unix_path_##name(a.bytes, a.length, &span);                                \
+        add_span(a, is_there, span);                                                               \
     }
 #define FIND_OF_TWO(name)                                                                          \
     static void ask_##name(view a, view b) {                                                       \
-        unix_path_place place = no_place;                                                          \
-        bool is_there = unix_path_##name(a.bytes, a.length, b.bytes, b.length, &place);            \
-        add_place(a, is_there, place);                                                             \
+        unix_path_span span = no_span;                                                             \
+        bool is_there = unix_path_##name(a.bytes, a.length, b.bytes, b.length, &span);             \
+        add_span(a, is_there, span);                                                               \
     }
 #define ASK(answer, name)                                                                          \
     static void ask_##name(view a, view b) {                                                       \
@@ -222,45 +227,46 @@ static void list_chunks(view a, view b) {
         add_##answer(unix_path_##name(a.bytes, a.length, b.bytes, b.length));                      \
     }
 #define MAKE(name)                                                                                 \
-    static size_t write_##name(view a, view b, bool as_url, uint8_t *out, size_t room) {           \
-        (void)b, (void)as_url;                                                                     \
+    static size_t write_##name(view a, view b, uint8_t *out, size_t room) {                        \
+        (void)b;                                                                                   \
         return unix_path_##name(a.bytes, a.length, out, room);                                     \
     }                                                                                              \
-    static void ask_##name(view a, view b) { write_in_each_room(write_##name, a, b, false); }
+    static void ask_##name(view a, view b) { write_in_each_room(write_##name, a, b); }
 #define MAKE_OF_TWO(name)                                                                          \
-    static size_t write_##name(view a, view b, bool as_url, uint8_t *out, size_t room) {           \
-        (void)as_url;                                                                              \
+    static size_t write_##name(view a, view b, uint8_t *out, size_t room) {                        \
         return unix_path_##name(a.bytes, a.length, b.bytes, b.length, out, room);                  \
     }                                                                                              \
-    static void ask_##name(view a, view b) { write_in_each_room(write_##name, a, b, false); }
-#define MAKE_OF_TWO_AS(name)                                                                       \
-    static size_t write_##name(view a, view b, bool as_url, uint8_t *out, size_t room) {           \
-        return unix_path_##name(a.bytes, a.length, b.bytes, b.length, as_url, out, room);          \
-    }                                                                                              \
-    static void ask_##name(view a, view b) {                                                       \
-        write_in_each_room(write_##name, a, b, false);                                             \
-        write_in_each_room(write_##name, a, b, true);                                              \
-    }
+    static void ask_##name(view a, view b) { write_in_each_room(write_##name, a, b); }
 #include "../calls.inc"
 
-// Joins the request in both readings. What refuses it as a path is what it is refused for.
-static void join_below(view a, view b) {
-    size_t answer = write_join_below(a, b, false, room_of_out.begin, 0);
+// Joins the request beneath the root. The error code has to agree with unix_path_check_request.
+static void join_beneath(view a, view b) {
+    size_t answer = write_join_beneath(a, b, room_of_out.begin, 0);
     bool escapes = answer == UNIX_PATH_ESCAPES;
     int32_t reason = unix_path_is_absolute(b.bytes, b.length) ? 1 : 2;
-    CHECK_ROW(unix_path_climbs(b.bytes, b.length) == escapes);
+    CHECK_ROW(unix_path_escapes(b.bytes, b.length) == escapes);
     CHECK_ROW(unix_path_check_request(b.bytes, b.length)
               == (escapes ? reason : answer == UNIX_PATH_NUL_IN_REQUEST ? 3 : 0));
-    ask_join_below(a, b);
+    ask_join_beneath(a, b);
 }
 
-// The calls of which more is asked, and then all.
+// Joins the request as in a chroot. A request that is joined is the root itself if and only if the
+// join is the root's bytes.
+static void join_in_root(view a, view b) {
+    size_t answer = write_join_in_root(a, b, room_of_out.begin, 0);
+    CHECK_ROW(!unix_path_is_length(answer)
+              || unix_path_request_is_root(b.bytes, b.length) == (answer == a.length));
+    ask_join_in_root(a, b);
+}
+
+// The calls with further checks, followed by all calls.
 static const call calls[] = {
     {"compare", 2, ask_order},
     {"common_dir", 2, ask_both_sides},
-    {"join_below", 2, join_below},
+    {"join_beneath", 2, join_beneath},
+    {"join_in_root", 2, join_in_root},
 #define BEGIN(name) {#name, 1, walk_path},
-#define NEXT_PLACE(name) {#name, 1, list_ancestors},
+#define NEXT_SPAN(name) {#name, 1, list_ancestors},
 #define NEXT_CHUNK(name) {#name, 1, list_chunks},
 #define FIND(name) {#name, 1, ask_##name},
 #define FIND_OF_TWO(name) {#name, 2, ask_##name},
@@ -268,11 +274,10 @@ static const call calls[] = {
 #define ASK_TWO(answer, name) {#name, 2, ask_##name},
 #define MAKE(name) {#name, 1, ask_##name},
 #define MAKE_OF_TWO(name) {#name, 2, ask_##name},
-#define MAKE_OF_TWO_AS(name) {#name, 2, ask_##name},
 #include "../calls.inc"
 };
 
-// Cuts off the field up to the next `|`, and the spaces beside it.
+// Cuts off the field up to the next `|`, without the spaces around it.
 static view take_field(view *left) {
     const uint8_t *bar = memchr(left->bytes, '|', left->length);
     size_t length = bar == NULL ? left->length : (size_t)(bar - left->bytes);
@@ -288,7 +293,7 @@ static view take_field(view *left) {
     return field;
 }
 
-// The bytes of a field, at one end of the memory.
+// Returns the bytes of a field, at one end of the memory.
 static view unescaped(view field, fence around, bool at_end) {
     uint8_t bytes[most];
     size_t length = 0;
@@ -313,7 +318,7 @@ static const call *call_of(view name) {
     return NULL;
 }
 
-// Asks the row with its paths at one end of the memory.
+// Makes the call of the row with its paths at one end of the memory.
 static void ask_row(bool at_end) {
     view left = as_view(&row), paths[2] = {{row.bytes, 0}, {row.bytes, 0}};
     const call *it = call_of(take_field(&left));

@@ -1,4 +1,4 @@
-// Bytes that can grow, and the library's calls by their types.
+// Byte buffers that can grow, and the types of the library's calls.
 #ifndef TEXT_H
 #define TEXT_H
 
@@ -14,19 +14,19 @@ typedef struct {
     size_t length;
 } view;
 
-// Bytes that can grow.
+// Bytes that can grow. `room` is the buffer's size.
 typedef struct {
     uint8_t *bytes;
     size_t length, room;
 } text;
 
-// A call that takes a part of a walk.
+// A call that takes a component from a walk.
 typedef bool (*call_of_step)(const void *, size_t, unix_path_walk *, unix_path_part *);
-// A call that finds a place in a path.
-typedef bool (*call_of_place)(const void *, size_t, unix_path_place *);
-// A question about a path, or about two.
+// A call that finds a span in a path.
+typedef bool (*call_of_place)(const void *, size_t, unix_path_span *);
+// A query about two paths.
 typedef bool (*call_of_relation)(const void *, size_t, const void *, size_t);
-// A call that writes its answer into out, of one path or of two.
+// Calls that write their result to a buffer, for one path and for two.
 typedef size_t (*call_of_one)(const void *, size_t, void *, size_t);
 typedef size_t (*call_of_two)(const void *, size_t, const void *, size_t, void *, size_t);
 
@@ -34,8 +34,8 @@ static inline view view_of(const char *string) {
     return (view){(const uint8_t *)string, strlen(string)};
 }
 
-static inline view view_at(view path, unix_path_place place) {
-    return (view){path.bytes + place.start, place.length};
+static inline view view_at(view path, unix_path_span span) {
+    return (view){path.bytes + span.start, span.length};
 }
 
 static inline view as_view(const text *buffer) {
@@ -46,7 +46,7 @@ static inline bool same_bytes(view a, view b) {
     return a.length == b.length && memcmp(a.bytes, b.bytes, a.length) == 0;
 }
 
-// Makes room for at least `room` bytes.
+// Enlarges the buffer to at least `room` bytes.
 static inline void make_room(text *buffer, size_t room) {
     if (buffer->bytes != NULL && buffer->room >= room) {
         return;
@@ -69,7 +69,7 @@ static inline void add_string(text *buffer, const char *string) {
     add(buffer, view_of(string));
 }
 
-// No bytes, and room for some, so that the pointer isn't null.
+// Returns an empty buffer of some size, so that its pointer isn't null.
 static inline text new_text(void) {
     text none = {NULL, 0, 0};
     make_room(&none, 0);
@@ -82,7 +82,8 @@ static inline text copy_of(view bytes) {
     return copy;
 }
 
-// Adds the answer of a call: first into the room that is there, then into as much as it needs.
+// Adds what a call writes: first to the spare bytes of the buffer and, if these are too few, to as
+// many as the call needs.
 static inline void add_one(text *buffer, call_of_one call, view path) {
     size_t room = buffer->room - buffer->length;
     size_t length = call(path.bytes, path.length, buffer->bytes + buffer->length, room);
@@ -93,8 +94,8 @@ static inline void add_one(text *buffer, call_of_one call, view path) {
     buffer->length += length;
 }
 
-// Adds the answer of a call of two paths, as add_one does of a call of one; false where the call is
-// refused, and then nothing is added.
+// Adds what a call of two paths writes, as add_one does for one path. If the call returns an error
+// code, adds nothing and returns false.
 static inline bool add_two(text *buffer, call_of_two call, view a, view b) {
     size_t room = buffer->room - buffer->length;
     uint8_t *end = buffer->bytes + buffer->length;

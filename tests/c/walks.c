@@ -1,4 +1,4 @@
-// Walks from both ends, and walks whose records no call gave.
+// Walks from both ends, and walks from records that no call wrote.
 #define _DEFAULT_SOURCE
 #include "check.h"
 #include "records.h"
@@ -8,7 +8,7 @@ static void walks_from_both_ends(void) {
     each_string("/.a", 6, walks_of);
 }
 
-// A walk whose places aren't in order in the path has ended, and stays as it is.
+// Checks that a walk whose indices aren't in order in the path has ended, and is not changed.
 static void absurd_walks(void) {
     static const size_t values[] = {0, 1, 2, 3, 4, 5, SIZE_MAX / 2, SIZE_MAX / 2 + 1,
                                     SIZE_MAX - 1, SIZE_MAX};
@@ -17,13 +17,13 @@ static void absurd_walks(void) {
     for (size_t at = 0; at < count * count; at++) {
         unix_path_walk walk = {values[at / count], values[at % count]}, before = walk;
         unix_path_part part = no_part;
-        unix_path_place place = no_place;
-        unix_path_as_path(path.bytes, path.length, &walk, &place);
-        CHECK(is_inside(path, place), "%zu, %zu", before.front, before.back);
+        unix_path_span span = no_span;
+        unix_path_as_path(path.bytes, path.length, &walk, &span);
+        CHECK(is_inside(path, span), "%zu, %zu", before.front, before.back);
         if (walk.front < walk.back && walk.back <= path.length) {
             continue;
         }
-        CHECK(place.length == 0, "%zu, %zu", before.front, before.back);
+        CHECK(span.length == 0, "%zu, %zu", before.front, before.back);
         CHECK(!unix_path_next(path.bytes, path.length, &walk, &part), "%zu", at);
         CHECK(!unix_path_next_back(path.bytes, path.length, &walk, &part), "%zu", at);
         CHECK(same_part(part, no_part), "%zu, %zu", before.front, before.back);
@@ -31,22 +31,24 @@ static void absurd_walks(void) {
     }
 }
 
-// A length or a place past the path's end has nothing left, and stays as it is.
+// Checks that past the path's end no ancestor and no chunk is left, and that the length or index is
+// not changed.
 static void absurd_cursors(void) {
     static const size_t values[] = {4, 5, SIZE_MAX / 2, SIZE_MAX - 1, SIZE_MAX};
     view path = view_of("a/b");
     for (size_t at = 0; at < sizeof values / sizeof *values; at++) {
         size_t next = values[at];
-        unix_path_place place = no_place;
+        unix_path_span span = no_span;
         unix_path_chunk chunk = no_chunk;
-        CHECK(!unix_path_next_ancestor(path.bytes, path.length, &next, &place), "%zu", at);
+        CHECK(!unix_path_next_ancestor(path.bytes, path.length, &next, &span), "%zu", at);
         CHECK(!unix_path_next_chunk(path.bytes, path.length, &next, &chunk), "%zu", at);
-        CHECK(same_place(place, no_place) && same_chunk(chunk, no_chunk), "%zu", at);
+        CHECK(same_span(span, no_span) && same_chunk(chunk, no_chunk), "%zu", at);
         CHECK(next == values[at], "%zu", at);
     }
 }
 
-// A naive reading: the parts of the bytes between these places, cut at every slash.
+// Writes the components to `parts` by a naive reading, which cuts the bytes between these indices
+// at every slash, and returns how many there are.
 static size_t cut_at_slashes(view path, size_t front, size_t back, unix_path_part *parts) {
     size_t count = 0;
     for (size_t start = front, end; start <= back; start = end + 1) {
@@ -69,12 +71,13 @@ static size_t cut_at_slashes(view path, size_t front, size_t back, unix_path_par
     return count;
 }
 
-// Any places in order inside the path are a walk over the bytes between them, from either end.
+// Checks that any two indices in order inside the path are a walk over the bytes between them, from
+// either end.
 static void walks_between(view path) {
     for (size_t back = 0; back <= path.length; back++) {
         for (size_t front = 0; front <= back; front++) {
             unix_path_walk walk = {front, back};
-            unix_path_place rest = no_place;
+            unix_path_span rest = no_span;
             unix_path_part part, parts[16], wanted[16];
             size_t count = cut_at_slashes(path, front, back, wanted);
             CHECK(take_all(path, walk, parts) == count, "%zu, %zu", front, back);

@@ -9,14 +9,13 @@
 using OfOne = size_t (*)(const void *, size_t, void *, size_t);
 using OfTwo = size_t (*)(const void *, size_t, const void *, size_t, void *, size_t);
 using Turn = bool (*)(const void *, size_t, unix_path_walk *, unix_path_part *);
-using Place = bool (*)(const void *, size_t, unix_path_place *);
+using Find = bool (*)(const void *, size_t, unix_path_span *);
 using Relation = bool (*)(const void *, size_t, const void *, size_t);
 using Truth = bool (*)(const void *, size_t);
 using Begin = void (*)(const void *, size_t, unix_path_walk *);
-using Left = void (*)(const void *, size_t, const unix_path_walk *, unix_path_place *);
-using Remainder = bool (*)(const void *, size_t, const void *, size_t, unix_path_place *);
-using Below = size_t (*)(const void *, size_t, const void *, size_t, bool, void *, size_t);
-using Ancestor = bool (*)(const void *, size_t, size_t *, unix_path_place *);
+using Left = void (*)(const void *, size_t, const unix_path_walk *, unix_path_span *);
+using Remainder = bool (*)(const void *, size_t, const void *, size_t, unix_path_span *);
+using Ancestor = bool (*)(const void *, size_t, size_t *, unix_path_span *);
 using Chunk = bool (*)(const void *, size_t, size_t *, unix_path_chunk *);
 
 // Each call by its name, with the type of its shape.
@@ -24,16 +23,16 @@ namespace calls {
 #define BEGIN(name) inline constexpr Begin name = unix_path_##name;
 #define LEFT(name) inline constexpr Left name = unix_path_##name;
 #define STEP(name) inline constexpr Turn name = unix_path_##name;
-#define NEXT_PLACE(name) inline constexpr Ancestor name = unix_path_##name;
+#define NEXT_SPAN(name) inline constexpr Ancestor name = unix_path_##name;
 #define NEXT_CHUNK(name) inline constexpr Chunk name = unix_path_##name;
-#define FIND(name) inline constexpr Place name = unix_path_##name;
+#define FIND(name) inline constexpr Find name = unix_path_##name;
 #define FIND_OF_TWO(name) inline constexpr Remainder name = unix_path_##name;
+#define ASK_NOTHING(answer, name) inline constexpr answer (*name)() = unix_path_##name;
 #define ASK(answer, name) inline constexpr answer (*name)(const void *, size_t) = unix_path_##name;
 #define ASK_TWO(answer, name)                                                                      \
     inline constexpr answer (*name)(const void *, size_t, const void *, size_t) = unix_path_##name;
 #define MAKE(name) inline constexpr OfOne name = unix_path_##name;
 #define MAKE_OF_TWO(name) inline constexpr OfTwo name = unix_path_##name;
-#define MAKE_OF_TWO_AS(name) inline constexpr Below name = unix_path_##name;
 #include "../calls.inc"
 }  // namespace calls
 
@@ -41,7 +40,7 @@ namespace {
 
 using namespace std::string_view_literals;
 
-// Returns how often a function differs from its call, on each two of these paths.
+// Returns how many times a function differs from its call, for each two of these paths.
 int wrong_on_paths() {
     const std::array<std::string_view, 6> paths{"",     "/",       "a.b", ".//x//y.tar/.",
                                                 "../a", "a\0\0c"sv};

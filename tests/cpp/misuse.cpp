@@ -1,5 +1,6 @@
-// Uses of unix_path.hpp that a compiler warns of or refuses, one for each number of MISUSE; 0 has
-// none.
+// Misuses of unix_path.hpp that a compiler warns about or rejects, one for each number of MISUSE.
+// MISUSE 0 has none.
+#include <filesystem>
 #include <string>
 
 #if MISUSE == 3 || MISUSE == 4  // no functions that replace null pointers
@@ -15,11 +16,15 @@ bool misuse(const std::string &path);
 
 bool misuse(const std::string &path) {
     unix_path::view view = path;
-#if MISUSE == 1  // the answer isn't looked at
-    view.way("b");
-#elif MISUSE == 2  // a view of a string that is gone
+#if MISUSE == 1  // the result is ignored
+    view.relative_path("b");
+#elif MISUSE == 2  // a view of a string that no longer exists
     unix_path::view gone = path + "/b";
     view = gone;
+#elif MISUSE == 5  // a view of the string that the conversion makes
+    std::filesystem::path file = path;
+    unix_path::view gone(file);
+    view = gone;
 #endif
-    return view.way("b").has_value();
+    return view.relative_path("b").has_value();
 }

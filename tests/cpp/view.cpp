@@ -1,5 +1,5 @@
-// The header for C++: each member hands on what the call of its name answers, and asks for no more
-// memory than it says.
+// The header for C++: each member returns what the call of its name returns, and allocates only
+// where it says so.
 #include "unix_path.hpp"
 
 #include <sys/wait.h>
@@ -43,7 +43,7 @@ std::size_t requests = 0;
 
 }  // namespace
 
-// Not inlined, since gcc would take the pairs apart and warn of them.
+// Not inlined: otherwise gcc no longer sees which new and delete are a pair, and warns about them.
 __attribute__((noinline)) void *operator new(std::size_t size) {
     requests++;
     if (void *block = std::malloc(size == 0 ? 1 : size)) {
@@ -62,7 +62,6 @@ using unix_path::buffer;
 using unix_path::component;
 using unix_path::component_kind;
 using unix_path::error;
-using unix_path::reading;
 using unix_path::result;
 using unix_path::view;
 using namespace std::string_view_literals;
@@ -72,7 +71,8 @@ static_assert(!std::is_constructible_v<view, std::nullptr_t>);
 static_assert(!std::is_convertible_v<view, std::string_view>, "bytes are compared by `bytes()`");
 static_assert(view("a/b").size() == 3 && view().empty() && view("a\0b"sv).has_nul());
 static_assert(std::is_nothrow_invocable_v<unix_path::less, std::string, view>);
-static_assert(noexcept(view().join_below(view(), reading::as_path, std::declval<buffer>())));
+static_assert(noexcept(view().join_beneath(view(), std::declval<buffer>())));
+static_assert(noexcept(view().join_in_root(view(), std::declval<buffer>())));
 static_assert(noexcept(view().join_verbatim(view(), std::declval<buffer>())));
 static_assert(noexcept(view().parent()) && noexcept(view().compare(view())));
 static_assert(!std::is_constructible_v<buffer, const std::string &>);
@@ -82,7 +82,7 @@ static_assert(!std::is_constructible_v<buffer, std::array<char, 4>>);
 static_assert(!std::is_constructible_v<buffer, std::string>);
 static_assert(!std::is_constructible_v<buffer, view>);
 
-// Whether an iterator returns values, and how it steps.
+// True if an iterator returns values of this type and steps as this category does.
 template <typename It, typename Value, typename Category>
 constexpr bool returns =
     std::is_same_v<decltype(*std::declval<It &>()), Value>
@@ -114,7 +114,7 @@ void run(const char *name, void (*test)()) {
     std::printf("%s: %s\n", wrong_checks == 0 ? "passed" : "failed", name);
 }
 
-// Each string of at most `longest` of these letters.
+// Returns each string of at most `longest` of these letters.
 std::vector<std::string> strings(std::string_view letters, std::size_t longest) {
     std::vector<std::string> all{""};
     for (std::size_t begin = 0; longest > 0; longest--) {
@@ -141,7 +141,7 @@ void comparisons() {
 }
 
 void names() {
-    CHECK(unix_path::to_string(view("../x").way("y").error()) == "no_way"sv);
+    CHECK(unix_path::to_string(view("../x").relative_path("y").error()) == "no_relative_path"sv);
     CHECK(unix_path::to_string(error::separator) == "separator"sv);
     CHECK(unix_path::to_string(error::escapes) == "escapes"sv);
     CHECK(unix_path::to_string(error::nul_in_request) == "nul_in_request"sv);
@@ -178,11 +178,13 @@ void results() {
     CHECK(view("/srv").join_verbatim("a").value() == "/srv/a");
     CHECK(view("/srv").join_verbatim("..").value_or("none") == "none");
     CHECK(view("/srv").join_verbatim("a").value_or("none") == "/srv/a");
-    std::string taken = view("/srv/").join_verbatim("a").value_or("") + *view("b").way("b");
+    std::string taken =
+        view("/srv/").join_verbatim("a").value_or("") + *view("b").relative_path("b");
     CHECK(taken == "/srv/a");
 }
 
-// A result that is given up hands on its own string, and one that stays keeps it.
+// Checks that a result that is moved from passes on its own string, and that a result that is not
+// moved from keeps its string.
 void moved_results() {
     const std::string text(100, 'a');
     const auto moves = [&](auto take) {
@@ -211,7 +213,8 @@ answer with_gz(const std::string &path) { return view(path).with_added_extension
 
 std::size_t size_of(const std::string &path) { return path.size(); }
 
-// What a function makes of a value, and that no function is called of an error, which stays.
+// Checks what `and_then` and `transform` return for a value. For an error no function is called,
+// and the error stays.
 void chained_results() {
     const answer joined = view("/srv").join_verbatim("a.b");
     const answer refused = view("/srv").join_verbatim("..");
@@ -232,7 +235,8 @@ void chained_results() {
     CHECK(calls == 0 && *joined.transform(count) == 1 && *joined.and_then(count_on) == 2);
 }
 
-// How much room there has to be is handed on too, and a value needs no value that stands for none.
+// Checks that the size that a buffer needs is passed on too, and that the type of a value needs no
+// default constructor.
 void chained_buffers() {
     char out[2];
     const auto size = [](std::string_view bytes) { return bytes.size(); };
@@ -261,7 +265,7 @@ void checked_requests() {
     CHECK(view("a\0.png"sv).check_request() == request_check::has_nul);
 }
 
-// A name for what stands in the path's own bytes: where it begins and how many they are.
+// Returns a name for a range of the path's own bytes: where it begins and how many bytes it has.
 template <typename T>
 std::string place_of(view path, const std::optional<T> &found) {
     if (!found) {
@@ -272,14 +276,14 @@ std::string place_of(view path, const std::optional<T> &found) {
 
 template <typename Call>
 std::string place_by(view path, Call call) {
-    unix_path_place place;
-    if (!call(path.data(), path.size(), &place)) {
+    unix_path_span span;
+    if (!call(path.data(), path.size(), &span)) {
         return "none";
     }
-    return std::to_string(place.start) + '+' + std::to_string(place.length);
+    return std::to_string(span.start) + '+' + std::to_string(span.length);
 }
 
-// What stands where, beside the calls.
+// Compares the spans that the members find with the spans that the calls find.
 void places() {
     for (const std::string &path : strings("/.ab", 5)) {
         if (path.empty()) {
@@ -306,7 +310,7 @@ std::vector<component> parts_of(view path) {
     return parts;
 }
 
-// Steps of an iterator, to and fro, beside an index into the parts.
+// Compares steps of an iterator in both directions with an index into the components.
 void steps_of(view path, const std::vector<component> &parts, unsigned turns) {
     const unix_path::components all = path.components();
     auto at = all.begin();
@@ -339,7 +343,7 @@ void iterators() {
     }
 }
 
-// The parts from the last to the first, and back, through `->`.
+// Checks the components from the last to the first, and back, through `->`.
 void reversed_parts() {
     for (const std::string &path : strings("/.a", 5)) {
         const std::vector<component> parts = parts_of(path);
@@ -363,7 +367,7 @@ void reversed_parts() {
     CHECK((*std::make_reverse_iterator(all.end())).bytes == "..");
 }
 
-// What an iterator returns outlives it, and stays as the iterator goes on.
+// Checks that what an iterator returns outlives it, and is unchanged as the iterator goes on.
 template <typename Range>
 void outlives(const Range &range) {
     using value = typename Range::value_type;
@@ -388,7 +392,7 @@ void returned_values() {
     CHECK(view("a\xFF"sv).chunks().begin()->broken == "\xFF"sv);
 }
 
-// Parts taken from both ends, and what is left between.
+// Checks components taken from both ends, and the rest between them.
 void walks() {
     for (const std::string &path : strings("/.a", 5)) {
         const std::vector<component> parts = parts_of(path);
@@ -423,7 +427,8 @@ void parents() {
     }
 }
 
-// The chunks stand side by side in the path, and what they show is the lossy text.
+// Checks that the chunks follow one another in the path, and that with their replacements they are
+// the lossy string.
 void chunks() {
     for (const std::string &path : strings("a\xFF\xE2\x82", 5)) {
         const view it = path;
@@ -440,7 +445,7 @@ void chunks() {
     }
 }
 
-// An answer as a string and in buffers of each size, which are the same.
+// Checks that a result as a string is the same as in a buffer of each size.
 void in_each_room(const result<std::string> &whole,
                   const std::function<result<std::string_view>(buffer)> &call) {
     for (std::size_t room = 0; room <= 24; room++) {
@@ -475,12 +480,11 @@ void buffers() {
         in_each_room(key, [=](buffer out) { return a.key(out); });
         in_each_room(unix_path::from_key(key),
                      [&](buffer out) { return unix_path::from_key(key, out); });
-        in_each_room(unix_path::key_end(key),
-                     [&](buffer out) { return unix_path::key_end(key, out); });
+        in_each_room(unix_path::key_range_end(key),
+                     [&](buffer out) { return unix_path::key_range_end(key, out); });
         CHECK(*unix_path::from_key(key) == a.canonical());
         for (const std::string &other : some) {
             const view b = other;
-            const reading how = a.size() % 2 == 0 ? reading::as_path : reading::as_url;
             in_each_room(a.join(b), [=](buffer out) { return a.join(b, out); });
             in_each_room(a.with_file_name(b), [=](buffer out) { return a.with_file_name(b, out); });
             in_each_room(a.with_extension(b.bytes()),
@@ -488,9 +492,9 @@ void buffers() {
             in_each_room(a.with_added_extension(b.bytes()),
                          [=](buffer out) { return a.with_added_extension(b.bytes(), out); });
             in_each_room(a.join_verbatim(b), [=](buffer out) { return a.join_verbatim(b, out); });
-            in_each_room(a.way(b), [=](buffer out) { return a.way(b, out); });
-            in_each_room(a.join_below(b, how),
-                         [=](buffer out) { return a.join_below(b, how, out); });
+            in_each_room(a.relative_path(b), [=](buffer out) { return a.relative_path(b, out); });
+            in_each_room(a.join_beneath(b), [=](buffer out) { return a.join_beneath(b, out); });
+            in_each_room(a.join_in_root(b), [=](buffer out) { return a.join_in_root(b, out); });
         }
     }
     char array[8];
@@ -501,14 +505,14 @@ void buffers() {
     CHECK(view("a").canonical(list)->data() == list.data());
 }
 
-// Each member with a null pointer for the empty path, and for the room of an empty buffer.
+// Checks each member with a null pointer for the empty path, and for an empty buffer.
 void null_views() {
     const view none{std::string_view()}, string = static_cast<const char *>(nullptr);
     const buffer room(nullptr, 0);
     CHECK(none.data() == nullptr && string.data() == nullptr && view().data() == nullptr);
     CHECK(none == "" && none < "a" && none.hash() == view("").hash() && !none.has_nul());
     CHECK(none.starts_with(none) && none.ends_with(string) && view("a").starts_with(none));
-    CHECK(!none.is_absolute() && none.is_utf8() && !none.climbs() && none.common_dir(none) == 0);
+    CHECK(!none.is_absolute() && none.is_utf8() && !none.escapes() && none.common_dir(none) == 0);
     CHECK(none.check_request() == unix_path::request_check::ok && none.is_canonical());
     CHECK(!none.parent() && !none.file_name() && !none.file_stem() && !none.extension());
     CHECK(!none.file_prefix() && none.strip_prefix(none)->empty());
@@ -521,16 +525,17 @@ void null_views() {
     CHECK(none.join(none).empty() && none.join("a") == "a" && view("a").join(none) == "a/"sv);
     CHECK(none.with_file_name(none).empty() && none.with_extension({})->empty());
     CHECK(none.canonical().empty() && none.to_string_lossy().empty() && none.resolved().empty());
-    CHECK(none.join_below(none, reading::as_path)->empty());
+    CHECK(none.join_beneath(none)->empty() && none.join_in_root(none)->empty());
+    CHECK(none.request_is_root() && !none.ends_in_slash());
     CHECK(none.join(none, room)->empty() && none.with_file_name(none, room)->empty());
     CHECK(none.with_added_extension({})->empty() && none.with_added_extension({}, room)->empty());
     CHECK(none.with_extension({}, room)->empty() && none.canonical(room)->empty());
     CHECK(none.to_string_lossy(room)->empty() && none.resolved(room)->empty());
-    CHECK(none.way(none)->empty() && none.way(none, room)->empty());
+    CHECK(none.relative_path(none)->empty() && none.relative_path(none, room)->empty());
     CHECK(none.join_verbatim(none)->empty() && none.join_verbatim(none, room)->empty());
-    CHECK(none.join_below(none, reading::as_url, room)->empty());
+    CHECK(none.join_beneath(none, room)->empty() && none.join_in_root(none, room)->empty());
     CHECK(none.key().empty() && none.key(room)->empty() && unix_path::from_key({})->empty());
-    CHECK(unix_path::from_key({}, room)->empty() && !unix_path::key_end({}, room));
+    CHECK(unix_path::from_key({}, room)->empty() && !unix_path::key_range_end({}, room));
     CHECK(view("a").canonical(room).required_size() == 1);
 }
 
@@ -550,7 +555,7 @@ void maps() {
     CHECK(numbers.find("a//b/.")->second == 3 && numbers.count("ab") == 0);
 }
 
-// What asks for no memory, and that a string is asked for once.
+// Checks which members do not allocate, and that a string is allocated once.
 void memory() {
     const std::string root = "/a/root/that/is/longer/than/a/short/string/can/be", name = "a/../b.c";
     const view a = root, b = name;
@@ -570,19 +575,21 @@ void memory() {
     }
     CHECK(a.join(b, out) && a.with_file_name(b, out) && a.with_extension(".x", out));
     CHECK(a.with_added_extension(".x", out) && a.is_canonical());
-    CHECK(a.canonical(out) && a.to_string_lossy(out) && a.resolved(out) && a.way("/a/b", out));
+    CHECK(a.canonical(out) && a.to_string_lossy(out) && a.resolved(out));
+    CHECK(a.relative_path("/a/b", out));
     CHECK(a.join_verbatim("c", out) && a.join_verbatim(b, out).error() == error::escapes);
-    CHECK(a.join_below(b, reading::as_path, out) && a == a && a <= a && !b.climbs() && length > 0);
+    CHECK(a.join_beneath(b, out) && a.join_in_root(b, out) && a == a && a <= a && length > 0);
+    CHECK(!b.escapes() && !b.request_is_root() && !b.ends_in_slash());
     CHECK(a.strip_prefix("/a/root")->file_name() == "be" && a.common_dir(b) == 0);
     CHECK(requests == before);
     const std::string joined = a.join(b), canonical = a.canonical(), text = a.to_string_lossy();
     CHECK(requests == before + 3);
     const std::string resolved = a.resolved();
-    const auto below = a.join_below(b, reading::as_path);
-    CHECK(requests == before + 5 && resolved == root && *below == root + "/b.c");
+    const auto beneath = a.join_beneath(b);
+    CHECK(requests == before + 5 && resolved == root && *beneath == root + "/b.c");
 }
 
-// Whether a child that looks at what isn't there is ended by std::terminate.
+// Returns true if a child that looks at a missing value is ended by std::terminate.
 bool ends_program(void (*look)()) {
     std::fflush(stdout);
     const pid_t child = fork();

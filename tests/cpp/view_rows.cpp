@@ -1,5 +1,5 @@
-// The rows of tests/rows.txt, asked of the header for C++: each is spelled anew with the answer of
-// the member of its name. A row that is spelled otherwise is wrong, or no row.
+// The rows of tests/rows.txt, for the header for C++. Each is spelled again with the answer of the
+// member of its name. A row that is spelled differently is wrong or not a row.
 #include "unix_path.hpp"
 
 #include <algorithm>
@@ -16,12 +16,11 @@ namespace {
 
 using unix_path::component;
 using unix_path::component_kind;
-using unix_path::reading;
 using unix_path::result;
 using unix_path::view;
 using fields = std::vector<std::string>;
 
-// The field that stands for these bytes.
+// Returns the field that represents these bytes.
 std::string spelled(std::string_view bytes) {
     std::string field;
     for (std::size_t at = 0; at < bytes.size(); at++) {
@@ -36,7 +35,7 @@ std::string spelled(std::string_view bytes) {
     return field;
 }
 
-// The bytes that a field stands for.
+// Returns the bytes that a field represents.
 std::string unescaped(std::string_view field) {
     std::string bytes;
     for (std::size_t at = 0; at < field.size(); at++) {
@@ -52,7 +51,7 @@ std::string unescaped(std::string_view field) {
     return bytes;
 }
 
-// What a member answers of a path, as the fields of a row.
+// Returns the answer of a member for a path, as the fields of a row.
 fields shown(view, const fields &answer) { return answer; }
 
 fields shown(view, bool is_true) { return {is_true ? "true" : "false"}; }
@@ -86,17 +85,12 @@ fields hash_of(view path) {
     return {digits};
 }
 
-// Their order, of which the one from the other side and the operators have to know.
+// Returns the order of two paths, checked against the order of the swapped paths and the operators.
 fields order_of(view a, view b) {
     const int order = a.compare(b);
     const bool is_known = b.compare(a) == -order && (a == b) == (order == 0)
                           && (a < b) == (order < 0) && (a >= b) == (order >= 0);
     return {is_known ? std::to_string(order) : "not from each side"};
-}
-
-fields below(view root, view request) {
-    return {shown(root, root.join_below(request, reading::as_path))[0],
-            shown(root, root.join_below(request, reading::as_url))[0]};
 }
 
 component_kind kind_of(std::string_view part) {
@@ -106,8 +100,8 @@ component_kind kind_of(std::string_view part) {
                           : component_kind::normal;
 }
 
-// The parts of an iterator and those of the reverse iterator, which are the same, and which reach
-// over all that is left of a walk at first.
+// Returns the components of an iterator. Checks that the reverse iterator returns the same, and
+// that the rest of a new walk reaches from the first to the last.
 fields parts_of(view path, view) {
     const unix_path::components all = path.components();
     std::vector<component> parts(all.begin(), all.end());
@@ -146,18 +140,18 @@ fields chunks_of(view path, view) {
     return taken;
 }
 
-// A view, with the calls that the header has as an operator or as a function, and with those of
-// whose answers more is asked.
+// A view, with the calls that the header has as operators or functions, and those with further
+// checks.
 struct all_calls : view {
     explicit all_calls(view path) : view(path) {}
     fields compare(view b) const { return order_of(*this, b); }
     fields hash() const { return hash_of(*this); }
     bool equal(view b) const { return *this == b && !(*this != b); }
     result<std::string> from_key() const { return unix_path::from_key(bytes()); }
-    result<std::string> key_end() const { return unix_path::key_end(bytes()); }
+    result<std::string> key_range_end() const { return unix_path::key_range_end(bytes()); }
 };
 
-// A call, how many paths it takes, and what asks it.
+// A call: its name, the number of its paths, and the function that makes it.
 struct call {
     std::string_view name;
     std::size_t paths;
@@ -166,7 +160,7 @@ struct call {
 
 const call calls[] = {
 #define BEGIN(name) {#name, 1, parts_of},
-#define NEXT_PLACE(name) {#name, 1, ancestors_of},
+#define NEXT_SPAN(name) {#name, 1, ancestors_of},
 #define NEXT_CHUNK(name) {#name, 1, chunks_of},
 #define FIND(name) {#name, 1, [](view a, view) { return shown(a, all_calls(a).name()); }},
 #define ASK(answer, name) FIND(name)
@@ -175,11 +169,10 @@ const call calls[] = {
     {#name, 2, [](view a, view b) { return shown(a, all_calls(a).name(b.bytes())); }},
 #define ASK_TWO(answer, name) FIND_OF_TWO(name)
 #define MAKE_OF_TWO(name) FIND_OF_TWO(name)
-#define MAKE_OF_TWO_AS(name) {#name, 2, below},
 #include "../calls.inc"
 };
 
-// Cuts off the field up to the next `|`, and the spaces beside it.
+// Cuts off the field up to the next `|`, without the spaces around it.
 std::string_view take_field(std::string_view &left) {
     const std::size_t length = std::min(left.find('|'), left.size());
     std::string_view field = left.substr(0, length);
@@ -193,7 +186,8 @@ std::string_view take_field(std::string_view &left) {
     return field;
 }
 
-// The row anew, with the answer that is found now.
+// Makes the row's call, and returns the row written with the result that the call has now. Returns
+// a message if there is no call of this name.
 std::string asked(std::string_view row) {
     const std::string_view name = take_field(row);
     const auto call = std::find_if(std::begin(calls), std::end(calls),

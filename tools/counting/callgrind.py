@@ -1,25 +1,25 @@
-"""Counts instructions by valgrind's callgrind, for tools/count.
+"""Counts instructions with valgrind's callgrind, for tools/count.
 
-Only those of one file count, the program's. Those of the C library and of the loader stay out,
-since the C library picks its functions by the processor and by its version.
+Only the program's own instructions count. Those of the C library and of the loader are left out,
+because the C library chooses its functions by the processor and by its version.
 """
 import os
 import subprocess
 import sys
 import tempfile
 
-# Options that keep the file short and plain, and leave out a user's own.
+# Options that keep the file short and plain, and ignore the user's own options.
 PLAIN = ["--command-line-only=yes", "--tool=callgrind", "--dump-line=no", "--compress-strings=no",
          "--compress-pos=no", "--combine-dumps=yes"]
-# The loader finds all functions before the start, and no other variable is there.
+# The loader resolves all functions before the start, and the program has no other variables.
 VARIABLES = {"PATH": os.environ.get("PATH", ""), "LC_ALL": "C", "LD_BIND_NOW": "1"}
 
 
 def read_parts(lines, program):
-    """The instructions of the program's own code in each part of callgrind's file.
+    """Returns the instructions of the program's own code in each part of callgrind's file.
 
-    A part begins with `part:`. A line that begins with a digit has a place and a number of
-    instructions, which are those of a whole call where the line before it begins with `calls=`.
+    A part begins with `part:`. A line that begins with a digit has a position and a number of
+    instructions. After a line that begins with `calls=`, they are those of a whole call.
     """
     parts, is_own, is_call = [], False, False
     for line in lines:
@@ -34,12 +34,13 @@ def read_parts(lines, program):
 
 
 def counts(program, words, source=b"", options=()):
-    """What callgrind counts while the program runs with these words on that standard input: a
-    number for each part that these options tell apart, and one for what is left at the end."""
+    """Returns what callgrind counts while the program runs with these arguments on that standard
+    input: a number for each part into which these options split the run, and one for the rest."""
     folder, name = os.path.split(os.path.realpath(program))
     with tempfile.TemporaryDirectory() as place:
         file = f"{place}/counts"
-        # The program is named without its folder, whose name has another length elsewhere.
+        # The program is named without its directory, since the length of the directory's name
+        # varies.
         run = subprocess.run(["valgrind", *PLAIN, *options, f"--callgrind-out-file={file}",
                               f"./{name}", *words], cwd=folder, env=VARIABLES, input=source,
                              stdout=subprocess.DEVNULL, stderr=subprocess.PIPE, check=False)

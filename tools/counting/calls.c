@@ -2,10 +2,10 @@
  *
  * calls FILE
  *
- * The file holds records: four numbers of 32 bits, which are the lengths of the call's name and of
- * two paths and whether a row ends with this record; then the name, behind `unix_path_`, and both
- * paths. A call of one path, or of a key, gets the first. At a row's end `end_row` is called, so
- * that callgrind writes down what it counted and begins anew.
+ * The file consists of records. A record has four numbers of 32 bits: the length of the call's
+ * name, the lengths of two paths, and whether a row ends with this record. Then come the name
+ * without `unix_path_`, and both paths. A call with one path or a key gets the first. At the end of
+ * a row `end_row` is called, so that callgrind writes its counts and starts counting again.
  */
 #define UNIX_PATH_EXPORTS_ONLY
 #include "unix_path.h"
@@ -25,46 +25,44 @@ static size_t out_length;
 #define B b.bytes, b.length
 #define OUT out, out_length
 
-/* Makes the call if this is its name. */
+/* Makes the call if it has this name. */
 #define CALL(name, ...)                                                                           \
     if (length == sizeof #name - 1 && memcmp(bytes, #name, length) == 0) {                        \
         __VA_ARGS__;                                                                              \
         return true;                                                                              \
     }
 
-/* Makes the call of this name on both paths, as each of its shape is made; false if there is none.
- * A request with a root is one of a URL. */
+/* Makes the call with this name on both paths, in the way of its shape. Returns false if there is
+ * no such call. */
 static bool make_call(const uint8_t *bytes, size_t length, path a, path b)
 {
     unix_path_walk walk = {0, a.length};
     unix_path_part part;
-    unix_path_place place;
+    unix_path_span span;
     unix_path_chunk chunk;
     size_t last = a.length, first = 0;
-    bool as_url = b.length > 0 && b.bytes[0] == '/';
 #define BEGIN(name) CALL(name, unix_path_##name(A, &walk))
-#define LEFT(name) CALL(name, unix_path_##name(A, &walk, &place))
+#define LEFT(name) CALL(name, unix_path_##name(A, &walk, &span))
 #define STEP(name) CALL(name, while (unix_path_##name(A, &walk, &part)))
-#define NEXT_PLACE(name) CALL(name, while (unix_path_##name(A, &last, &place)))
+#define NEXT_SPAN(name) CALL(name, while (unix_path_##name(A, &last, &span)))
 #define NEXT_CHUNK(name) CALL(name, while (unix_path_##name(A, &first, &chunk)))
-#define FIND(name) CALL(name, unix_path_##name(A, &place))
-#define FIND_OF_TWO(name) CALL(name, unix_path_##name(A, B, &place))
+#define FIND(name) CALL(name, unix_path_##name(A, &span))
+#define FIND_OF_TWO(name) CALL(name, unix_path_##name(A, B, &span))
 #define ASK(answer, name) CALL(name, unix_path_##name(A))
 #define ASK_TWO(answer, name) CALL(name, unix_path_##name(A, B))
 #define MAKE(name) CALL(name, unix_path_##name(A, OUT))
 #define MAKE_OF_TWO(name) CALL(name, unix_path_##name(A, B, OUT))
-#define MAKE_OF_TWO_AS(name) CALL(name, unix_path_##name(A, B, as_url, OUT))
 #include "../../tests/calls.inc"
     return false;
 }
 
-/* Whose end callgrind waits for. */
+/* callgrind writes its counts when this function returns. */
 __attribute__((noinline)) void end_row(void)
 {
     __asm__ volatile("" ::: "memory");
 }
 
-/* The bytes of a file, and how many there are; NULL if it can't be read. */
+/* Returns the bytes of a file, and sets their number; NULL if it can't be read. */
 static uint8_t *read_all(const char *name, size_t *length)
 {
     FILE *file = fopen(name, "rb");
@@ -76,7 +74,7 @@ static uint8_t *read_all(const char *name, size_t *length)
     return bytes != NULL && fread(bytes, 1, *length, file) == *length ? bytes : NULL;
 }
 
-/* Runs the record at this place. Gives where it ends; NULL if there is no such call. */
+/* Runs the record at this address. Returns where it ends; NULL if there is no such call. */
 static const uint8_t *run_record(const uint8_t *record)
 {
     uint32_t head[4];

@@ -1,7 +1,7 @@
 """Counts the instructions of the calls from C, each on the families of paths that suit it.
 
-calls.c makes the calls, each as those of its shape are made. What they answer isn't looked at:
-tests do that.
+calls.c makes the calls, each as its shape requires. Their answers aren't checked, because tests
+check them.
 """
 import os
 import re
@@ -19,19 +19,20 @@ from repository import ROOT
 
 
 def compiler():
-    """The command of the C compiler, as words; None if it isn't there."""
+    """Returns the command of the C compiler, as words; None if it doesn't exist."""
     words = shlex.split(os.environ.get("CC") or "cc")
     return words if shutil.which(words[0]) else None
 
 
 def read_calls(checkout):
-    """The names of the calls that the header of a checkout declares."""
+    """Returns the names of the calls that the header of a checkout declares."""
     with open(f"{checkout}/include/unix_path.h", encoding="utf-8") as file:
         return set(re.findall(r"^\w+ unix_path_(\w+)\(const", file.read(), re.M))
 
 
 def rows_of(checkout):
-    """The rows of the calls from C that a checkout has; a call that is gone by now has none."""
+    """Returns the rows of the calls from C that a checkout has. A call that is gone by now has
+    none."""
     shapes = {it.name: it.shape for it in call_shapes.read_calls()}
     rows = families.rows(read_calls(checkout), shapes)
     lacking = read_calls(checkout) & read_calls(ROOT) - {row.call for row in rows}
@@ -41,7 +42,7 @@ def rows_of(checkout):
 
 
 def records_of(rows):
-    """What calls.c reads: the calls of these rows, with the paths of each."""
+    """Yields the input of calls.c: the calls of these rows, with the paths of each."""
     for row in rows:
         for number, (first, second) in enumerate(row.pairs, 1):
             yield struct.pack("<4I", len(row.call), len(first), len(second),
@@ -50,17 +51,17 @@ def records_of(rows):
 
 
 def build_calls(checkout, library, program):
-    """Builds calls.c over the library. A checkout from before a call was there is counted
-    without it."""
+    """Builds calls.c with the library. In a checkout that lacks a call, the other calls are
+    counted."""
     linked = [] if checkout == ROOT else ["-Wl,--unresolved-symbols=ignore-all"]
     subprocess.run([*compiler(), "-std=c11", "-O2", f"-I{ROOT}/include",
                     f"{ROOT}/tools/counting/calls.c", library, *linked, "-o", program], check=True)
 
 
 def count_calls(checkout, library):
-    """The rows of the calls from C."""
+    """Returns the rows of the calls from C."""
     rows = rows_of(checkout)
-    # Only what a call does counts, and not what the program around it does.
+    # Only the instructions inside the calls count, not those of the program around them.
     options = [f"--toggle-collect=unix_path_{it}" for it in sorted({row.call for row in rows})]
     with tempfile.TemporaryDirectory() as folder:
         program = f"{folder}/calls"

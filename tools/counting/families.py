@@ -1,15 +1,15 @@
 """The paths on which tools/count counts the calls from C: families, each of several sizes.
 
-A family makes two paths from a size; a call of one path gets the first. PAIRS and PATHS say which
-calls are counted on which family, and OTHERS on which those are that no list names, by their
-shapes. A row is a call, a family and a size.
+A family makes two paths from a size; a call with one path uses the first. PAIRS and PATHS list the
+calls that are counted on each family. OTHERS lists, by shape, the families for calls that no list
+names. A row is a call, a family and a size.
 """
 import collections
 
 # A row: its name, the call, and the pairs of paths whose instructions are added up.
 Row = collections.namedtuple("Row", "name call pairs")
 
-# The sizes around each edge of a block, and one far behind the last edge.
+# The sizes around each edge of a block, and one far above the last edge.
 EDGES = {16: (15, 16, 17), 32: (31, 32, 33), 64: (63, 64, 65), 128: (127, 128, 129), 4000: (4000,)}
 SHORT = {16: EDGES[16]}
 DEPTHS = {depth: (depth,) for depth in (0, 1, 4)}
@@ -20,23 +20,24 @@ FOLDERS = b"usr/share/doc/packages/lib/main/www/static/img/include/"
 
 
 def plain(size):
-    """So many bytes of parts that are names, without a root."""
+    """Returns this many bytes of components that are names, without a root."""
     path = (FOLDERS * (size // len(FOLDERS) + 1))[:size]
     return path[:-1] + b"x" if path.endswith(b"/") else path
 
 
 def name(size):
-    """One name of so many bytes, and no name for less than one."""
+    """Returns one name of this many bytes, or no name for less than one."""
     return b"n" * max(size, 0)
 
 
 def cut(size, repeated):
-    """So many of these bytes, or a few less, in whole repetitions; at least one."""
+    """Returns about this many bytes: as many whole repetitions as fit, and at least one."""
     return repeated * max(size // len(repeated), 1)
 
 
 def respelled_once(path):
-    """The path with its middle slash spelled otherwise, or the first one behind its middle."""
+    """Returns the path with another spelling of the first slash in its second half or, if there is
+    none, of its first slash."""
     at = path.find(b"/", len(path) // 2)
     at = path.find(b"/") if at < 0 else at
     return path[:at] + b"/." + path[at:]
@@ -47,43 +48,44 @@ def respelled_each(path):
 
 
 def behind_dots(size, dots):
-    """Two paths whose last names go on apart behind so many dots."""
+    """Returns two paths whose last names differ after this many dots."""
     common = b"x/" + name(size - dots - 3) + b"." * dots
     return common + b"b", common + b"c"
 
 
 def dots_first(size, dots):
-    """Two paths whose last names begin with so many dots, and then go on apart."""
+    """Returns two paths whose last names begin with this many dots, and then differ."""
     common = plain(size - dots - 2) + b"/" + b"." * dots
     return common + b"b", common + b"c"
 
 
 def two_folders(size, letters):
-    """One last name, with so many letters behind its dot, in two folders."""
+    """Returns one last name, with this many letters after its dot, in two directories."""
     last = b"/conf." + b"jsonld"[:letters]
     folder = plain(max(size - len(last), 1))
     return folder + last, folder[:-1] + b"-" + last
 
 
 def above(size):
-    """The folder above a path of so many bytes."""
+    """Returns the parent of a path of this many bytes."""
     return plain(size).rpartition(b"/")[0]
 
 
-# Families of pairs: how both paths are made from a size, the sizes, and the calls.
+# Families of pairs: the function that makes both paths from a size, the sizes, and the calls.
 MOST = "equal compare starts_with ends_with strip_prefix"
 PREFIX = "starts_with strip_prefix compare"
 ORDER = "compare starts_with"
 PAIRS = [
     ("same", lambda n: (plain(n), plain(n)), EDGES, MOST + " common_dir"),
     ("next_listed", lambda n: (plain(n - 4) + b"-007", plain(n - 4) + b"-008"), EDGES,
-     MOST + " common_dir way"),
+     MOST + " common_dir relative_path"),
     ("respelled_once", lambda n: (plain(n), respelled_once(plain(n))), EDGES, MOST),
-    ("respelled_each", lambda n: (plain(n), respelled_each(plain(n))), EDGES, MOST + " way"),
+    ("respelled_each", lambda n: (plain(n), respelled_each(plain(n))), EDGES,
+     MOST + " relative_path"),
     ("ups_respelled", lambda n: (cut(n, b"../"), cut(n, b".././")), EDGES, MOST),
-    ("folder_above", lambda n: (plain(n), above(n)), EDGES, "way equal " + PREFIX),
+    ("folder_above", lambda n: (plain(n), above(n)), EDGES, "relative_path equal " + PREFIX),
     ("folder_above_slash", lambda n: (plain(n), above(n) + b"/"), EDGES, PREFIX),
-    ("folder_below", lambda n: (above(n), plain(n)), EDGES, "way " + ORDER),
+    ("folder_below", lambda n: (above(n), plain(n)), EDGES, "relative_path " + ORDER),
     ("folder_below_slash", lambda n: (above(n) + b"/", plain(n)), EDGES, "compare"),
     ("slash_behind", lambda n: (plain(n), plain(n) + b"/"), EDGES, MOST),
     ("empty_base", lambda n: (plain(n), b""), EDGES, "starts_with strip_prefix"),
@@ -112,8 +114,8 @@ PAIRS = [
     ("other_last_name", lambda n: (plain(n - 10) + b"/conf.json", b"app.json"), EDGES,
      "equal ends_with"),
     ("other_last_names", lambda n: (plain(n - 10) + b"/conf.json", plain(n - 9) + b"/app.json"),
-     EDGES, "way equal ends_with compare"),
-    ("up_late", lambda n: (plain(n - 5) + b"/../x", plain(n)), EDGES, "way"),
+     EDGES, "relative_path equal ends_with compare"),
+    ("up_late", lambda n: (plain(n - 5) + b"/../x", plain(n)), EDGES, "relative_path"),
     ("tail_slashes", lambda n: (b"a" + b"/" * n, b"a"), SCORES, MOST),
     ("tail_dots", lambda n: (b"a" + b"/." * n, b"a"), SCORES, MOST),
     ("front_respelled", lambda n: (b"x/" + name(n - 4) + b"/y", b"x/./" + name(n - 4)), EDGES,
@@ -122,7 +124,7 @@ PAIRS = [
      "equal compare"),
 ]
 
-# Families of paths, and of what goes with a path.
+# Families of paths, and of a path with its other arguments.
 SPELLED = "is_canonical canonical resolved"
 PLACES = "parent file_name file_stem extension file_prefix"
 WALKS = "components next next_back as_path next_ancestor next_chunk"
@@ -160,7 +162,7 @@ PATHS = [
     ("tail_slashes", lambda n: (b"a" + b"/" * n, b""), SCORES, "key"),
 ]
 
-# Families of keys, and of bytes that are none.
+# Families of keys, and of bytes that are not a key.
 KEYS = [
     ("key_plain", lambda n: plain(n).replace(b"/", b"\0") + b"\0", EDGES),
     ("key_rooted", lambda n: b"\0\1" + plain(n).replace(b"/", b"\0") + b"\0", EDGES),
@@ -170,12 +172,12 @@ KEYS = [
     ("no_key", plain, EDGES),
 ]
 
-# Families of requests, which `climbs`, `check_request` and the joins with a root get.
+# Families of requests, for `escapes`, `check_request` and the joins with a root.
 REQUESTS = [
     ("plain", plain, EDGES),
     ("slash_end", lambda n: plain(n - 1) + b"/", EDGES),
-    ("climbs_late", lambda n: name(n - 6) + b"/../..", EDGES),
-    ("climbs_first", lambda n: b"../" + plain(n - 3), SHORT),
+    ("escapes_late", lambda n: name(n - 6) + b"/../..", EDGES),
+    ("escapes_first", lambda n: b"../" + plain(n - 3), SHORT),
     ("comes_down", lambda n: cut(n, b"a/../"), EDGES),
     ("name_comes_down", lambda n: name(n - 5) + b"/../a", EDGES),
     ("up_late", lambda n: plain(n - 5) + b"/../x", EDGES),
@@ -185,16 +187,16 @@ REQUESTS = [
 ]
 ROOT = b"/srv/www"
 
-# Families of requests that `join_below` gets as paths of URLs, since they have a root.
+# Families of requests with a root, for `join_in_root`.
 URLS = [
     ("rooted", lambda n: b"/" + plain(n - 1), EDGES),
     ("rooted_slash_end", lambda n: b"/" + plain(n - 2) + b"/", EDGES),
-    ("rooted_climbs_late", lambda n: b"/" + name(n - 7) + b"/../..", EDGES),
-    ("rooted_climbs_first", lambda n: b"/../" + plain(n - 4), SHORT),
+    ("rooted_escapes_late", lambda n: b"/" + name(n - 7) + b"/../..", EDGES),
+    ("rooted_escapes_first", lambda n: b"/../" + plain(n - 4), SHORT),
 ]
 
 # Families for a call that no list above names, by the shapes of tools/call_shapes.py.
-OF_A_PATH = "BEGIN LEFT STEP NEXT_PLACE NEXT_CHUNK FIND ASK MAKE"
+OF_A_PATH = "BEGIN LEFT STEP NEXT_SPAN NEXT_CHUNK FIND ASK MAKE"
 OF_TWO = "FIND_OF_TWO ASK_TWO"
 OTHERS = [
     ("plain", lambda n: (plain(n), b"new.rs"), EDGES, f"{OF_A_PATH} MAKE_OF_TWO"),
@@ -205,24 +207,24 @@ OTHERS = [
     ("next_listed", lambda n: (plain(n - 4) + b"-007", plain(n - 4) + b"-008"), EDGES, OF_TWO),
     ("respelled_each", lambda n: (plain(n), respelled_each(plain(n))), EDGES,
      f"{OF_TWO} MAKE_OF_TWO"),
-    ("comes_down", lambda n: (ROOT, cut(n, b"a/../")), EDGES, "MAKE_OF_TWO_AS"),
 ]
 
 
 def families():
-    """Each family: its name, how its paths are made, its sizes, and the calls."""
+    """Yields each family: its name, the function that makes its paths, its sizes, and the calls."""
     yield from PAIRS + PATHS
     for title, make, sizes in REQUESTS:
-        yield title, lambda n, make=make: (make(n), b""), sizes, "climbs check_request"
-        yield title, lambda n, make=make: (ROOT, make(n)), sizes, "join_verbatim join_below"
+        yield title, lambda n, make=make: (make(n), b""), sizes, "escapes check_request"
+        yield title, lambda n, make=make: (ROOT, make(n)), sizes, "join_verbatim join_beneath"
     for title, make, sizes in URLS:
-        yield title, lambda n, make=make: (ROOT, make(n)), sizes, "join_below"
+        yield title, lambda n, make=make: (ROOT, make(n)), sizes, "join_in_root"
     for title, make, sizes in KEYS:
-        yield title, lambda n, make=make: (make(n), b""), sizes, "from_key key_end"
+        yield title, lambda n, make=make: (make(n), b""), sizes, "from_key key_range_end"
 
 
 def families_of(shapes):
-    """Each family, with the calls of these shapes, by their names, that no family names."""
+    """Yields each family that OTHERS has for a shape, with the calls of that shape that no list
+    names."""
     found = list(families())
     named = {call for *_, calls in found for call in calls.split()}
     others = {call: shape for call, shape in shapes.items() if call not in named}
@@ -233,7 +235,7 @@ def families_of(shapes):
 
 
 def rows(calls, shapes):
-    """The rows of these calls, each family's one after the other."""
+    """Returns the rows of these calls, family by family."""
     return [Row(f"{call} {title} {size}", call, [make(length) for length in lengths])
             for title, make, sizes, named in families_of(shapes)
             for call in named.split() if call in calls

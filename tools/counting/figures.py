@@ -1,4 +1,4 @@
-"""The figures of tools/count, and the file in which they stand."""
+"""The figures of tools/count, and the file that has them."""
 import collections
 import os
 import re
@@ -7,7 +7,7 @@ from repository import ROOT
 from toolchain import version
 
 FILE = f"{ROOT}/bench/counts.txt"
-# How far a figure may be from the file's, as a part of it.
+# The part of the file's figure by which a count may differ from it.
 MOST = 0.03
 HEAD = """\
 # Instructions of the built programs, without those of the C library. tools/count writes this file,
@@ -16,12 +16,13 @@ HEAD = """\
 HOLDS = re.compile(r"^# holds for: (.*)$", re.M)
 ROW = re.compile(r"^(\w[\w ]*\w) +(-|\d+) +(\d+) +(-|[\d.]+)$", re.M)
 
-# What the file says of a row.
+# The figures of a row in the file.
 Figures = collections.namedtuple("Figures", "start now")
 
 
 def read_file():
-    """The figures of the file by row, and the versions of the toolchain that they hold for."""
+    """Returns the figures of the file by row, and the versions of the toolchain that they hold
+    for."""
     if not os.path.exists(FILE):
         return {}, [version()]
     with open(FILE, encoding="utf-8") as file:
@@ -32,7 +33,7 @@ def read_file():
 
 
 def ratio(figures):
-    """How many times as many instructions as at the start, or None."""
+    """Returns the number of instructions as a multiple of the baseline's, or None."""
     return figures.now / figures.start if figures.start else None
 
 
@@ -48,7 +49,7 @@ def write_file(rows, versions):
 
 
 def fault(name, now, rows):
-    """What is wrong with a row's count, or None."""
+    """Returns what is wrong with a row's count, or None."""
     if name not in rows:
         return f"{now} instructions, and no row of the file"
     before = rows[name].now
@@ -58,8 +59,8 @@ def fault(name, now, rows):
 
 
 def faults_of(found, left_out, rows):
-    """What is wrong, by row: with what was counted, and with rows that neither were counted nor
-    had to be left out."""
+    """Returns what is wrong, by row: with the counts, and with rows that were neither counted nor
+    left out for a reason."""
     faults = {name: fault(name, now, rows) for name, now in found.items()}
     gone = [name for name in rows if name not in found and name not in left_out]
     faults.update(dict.fromkeys(gone, "a row of the file that is no longer counted"))
@@ -67,7 +68,7 @@ def faults_of(found, left_out, rows):
 
 
 def list_risen(rows):
-    """Prints the rows that take more instructions than at the start, the most first."""
+    """Prints the rows that take more instructions than at the baseline, largest factor first."""
     risen = {name: it for name, it in rows.items() if it.start and it.now > it.start}
     for name, it in sorted(risen.items(), key=lambda item: -ratio(item[1])):
         print(f"{name:38} {it.start:>9} {it.now:>9} {ratio(it):>9.2f}")

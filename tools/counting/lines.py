@@ -1,6 +1,6 @@
-"""Made-up lines for every command of pathtool, whose answers tools/count counts.
+"""Random lines for every command of pathtool, whose instructions tools/count counts.
 
-The generator of random numbers stands here, so that the lines are the same with every Python.
+The generator of random numbers is defined here, so that the lines are the same with every Python.
 """
 import re
 
@@ -21,7 +21,7 @@ class Lines:
         self.state = seed
 
     def below(self, limit):
-        """A number from 0 on below this, by Steele's SplitMix64."""
+        """Returns a random number from 0 to `limit` - 1, by Steele's SplitMix64."""
         self.state = (self.state + 0x9E3779B97F4A7C15) & MASK
         z = (self.state ^ (self.state >> 30)) * 0xBF58476D1CE4E5B9 & MASK
         z = (z ^ (z >> 27)) * 0x94D049BB133111EB & MASK
@@ -31,11 +31,11 @@ class Lines:
         return items[self.below(len(items))]
 
     def respelled(self, path):
-        """The path with another spelling of its slashes, once in four times; else the path."""
+        """Returns the path, one time in four with another spelling of its slashes."""
         return path.replace(b"/", self.one_of(SPELLINGS)) if self.below(4) == 0 else path
 
     def path(self):
-        """A path of one name to nine, with a root or without, now and then with dots."""
+        """Returns a path of one to nine names, with or without a root, and sometimes with dots."""
         parts = [self.one_of(FOLDERS) for _ in range(self.below(9))]
         if self.below(8) == 0:
             parts.insert(self.below(len(parts) + 1), self.one_of([b".", b".."]))
@@ -49,19 +49,19 @@ class Lines:
         return [self.path(), self.path()]
 
     def with_base(self):
-        """A path, and a folder above it; or, once in three times, another path."""
+        """Returns a path and a prefix of it; or, one time in three, another path."""
         path = self.path()
         folder = path[:path.rfind(b"/") + 1 if self.below(2) else self.below(len(path))]
         return [path, self.path() if self.below(3) == 0 else self.respelled(folder)]
 
     def with_end(self):
-        """A path, and its last bytes; or, once in three times, another path."""
+        """Returns a path and its last bytes; or, one time in three, another path."""
         path = self.path()
         end = path[self.below(len(path)):]
         return [path, self.path() if self.below(3) == 0 else self.respelled(end)]
 
     def compared(self):
-        """A path and the next one in its folder, the same path, or another one."""
+        """Returns a path and another path in its directory, the same path, or any other path."""
         path = self.path()
         others = [path[:path.rfind(b"/") + 1] + self.one_of(NAMES), path, self.path()]
         return [path, self.respelled(self.one_of(others))]
@@ -78,25 +78,28 @@ class Lines:
         return [self.path(), *(self.edit() for _ in range(self.below(9)))]
 
     def under(self):
-        """A base and some paths, of which many start with it."""
+        """Returns a base and some paths, many of which start with it."""
         base = self.one_of([b"/usr", b"/usr/share", b"src"])
         return [base, *(self.respelled(base) + b"/" + self.path() if self.below(3) else self.path()
                         for _ in range(self.below(40)))]
 
 
-# How the fields of a line are made, by what tools/commands.txt says to stand behind the first one.
+# The functions that make the fields of a line, by the fields after the first one in
+# tools/commands.txt.
 FIELDS = {"": Lines.one_path, "B": Lines.joined, "BASE": Lines.with_base, "END": Lines.with_end,
           "Q": Lines.compared, "TURNS": Lines.walked, "EDIT..": Lines.edited, "P..": Lines.under}
 
 
 def read_commands():
-    """The names of the commands, as the program's definition lists them, and one that is none."""
+    """Returns the names of the commands, as the program's definition lists them, and a name that is
+    none."""
     with open(f"{ROOT}/crates/pathtool/specs/Answers.antt", encoding="utf-8") as file:
-        return re.findall(r'^    (?:∷ )?\(codes "(\w+)", ', file.read(), re.M) + ["other"]
+        return re.findall(r'^    (?:∷ )?\(\s*codes "(\w+)",\s', file.read(), re.M) + ["other"]
 
 
 def lines_of(command, seed):
-    """The lines of a command, as bytes; of one that the table lacks, with a path each."""
+    """Returns the lines of a command, as bytes. A command that the table lacks gets one path in
+    each line."""
     behind = {row.name: row.behind for row in read_rows()}.get(command, "")
     lines = Lines(seed)
     return b"".join(b"\t".join([command.encode(), *FIELDS[behind](lines)]) + b"\n"

@@ -1,4 +1,4 @@
-//! The C functions of `called.rt.in`: calls behind functions that aren't inlined.
+//! The C functions of `called.rt.in`: calls inside functions that are not inlined.
 use crate::calls::Start;
 
 extern "C" {

@@ -1,7 +1,7 @@
-//! C functions of one byte string or of two, each of which answers a number.
+//! C functions of one or two byte strings, each of which returns a number.
 use std::hint::black_box;
 
-/// Where a byte string starts; its length is passed behind it.
+/// The start of a byte string; its length is the next argument.
 pub type Start = *const u8;
 pub type OfOne = unsafe extern "C" fn(Start, usize) -> u64;
 pub type OfTwo = unsafe extern "C" fn(Start, usize, Start, usize) -> u64;
@@ -13,7 +13,7 @@ pub enum Call {
 }
 
 impl Call {
-    /// Its answers to all of these paths, as one number.
+    /// Returns the call's results for all of these paths, as one number.
     pub fn sum(self, paths: &[Vec<u8>], others: &[Vec<u8>]) -> u64 {
         let mut sum: u64 = 0;
         match black_box(self) {
@@ -32,7 +32,7 @@ impl Call {
         sum
     }
 
-    /// These places of paths sorted by this call, as one number.
+    /// Sorts these indices of paths by this call, and returns the new order as one number.
     pub fn sort(self, order: &[usize], paths: &[Vec<u8>]) -> u64 {
         let Call::Two(call) = black_box(self) else {
             panic!("a sort compares two paths");

@@ -1,4 +1,4 @@
-//! The time that the processor ran a program, to which other programs on a busy machine add little.
+//! The CPU time of a program, to which other programs on a busy machine add little.
 
 #[repr(C)]
 struct Time {
@@ -11,11 +11,11 @@ extern "C" {
     fn getrusage(who: i32, usage: *mut [i64; 18]) -> i32;
 }
 
-/// CLOCK_THREAD_CPUTIME_ID and RUSAGE_CHILDREN of Linux.
+/// `CLOCK_THREAD_CPUTIME_ID` and `RUSAGE_CHILDREN` of Linux.
 const THIS_THREAD: i32 = 3;
 const CHILDREN: i32 = -1;
 
-/// The seconds that this thread ran.
+/// Returns the CPU time of this thread, in seconds.
 pub fn of_this_thread() -> f64 {
     let mut time = Time {
         seconds: 0,
@@ -25,8 +25,8 @@ pub fn of_this_thread() -> f64 {
     time.seconds as f64 + time.nanoseconds as f64 * 1e-9
 }
 
-/// The seconds that the processor ran the programs that this one started and waited for, and the
-/// system for them.
+/// Returns the CPU time of the programs that this one started and waited for, in seconds, including
+/// the system's time for them.
 pub fn of_children() -> f64 {
     let mut usage = [0; 18];
     unsafe { getrusage(CHILDREN, &mut usage) };

@@ -1,4 +1,4 @@
-//! Hostile paths of 10^4 to 10^7 bytes for each command of `pathtool`: its time a byte.
+//! Hostile paths of 10^4 to 10^7 bytes for each command of `pathtool`: its time per byte.
 use crate::clock;
 use crate::commands;
 use crate::lines::push_line;
@@ -9,7 +9,7 @@ use crate::timing::Timer;
 use std::fs::write;
 use std::process::Stdio;
 
-/// Prints a line for each command and shape, with the nanoseconds a byte at each size.
+/// Prints a line for each command and shape, with the nanoseconds per byte at each size.
 pub fn print(options: &Options) {
     let timer = Timer {
         clock: clock::of_children,
@@ -17,8 +17,9 @@ pub fn print(options: &Options) {
     };
     let time =
         |command: &str, piece: &[u8], at: usize| nanoseconds(options, &timer, command, piece, at);
-    // An unknown command costs what reading does. An answer is made in up to four buffers that grow
-    // too, and for a long line these are new memory.
+    // An unknown command takes only the time to read its line. Other commands also build the
+    // answer, in up to four growing buffers. For a long line these are freshly allocated, so a byte
+    // may cost more.
     let reading: [f64; SIZES.len()] = std::array::from_fn(|at| time("unknown", b"a", at));
     let fresh = memory(&options.timer());
     let memory =
@@ -40,8 +41,8 @@ pub fn print(options: &Options) {
     println!("\n{grown} lines have a time a byte that grows\n");
 }
 
-/// The program's least time of several runs in nanoseconds a byte: on a path of this shape and
-/// size, or on so many of them that they have 10^6 bytes.
+/// Returns the program's shortest time of several runs in nanoseconds per byte: on a path of this
+/// shape and size, or on so many such paths that together they have 10^6 bytes.
 fn nanoseconds(options: &Options, timer: &Timer, command: &str, piece: &[u8], at: usize) -> f64 {
     let path: Vec<u8> = piece.iter().copied().cycle().take(SIZES[at]).collect();
     let mut lines = vec![];
@@ -51,7 +52,7 @@ fn nanoseconds(options: &Options, timer: &Timer, command: &str, piece: &[u8], at
     (least(options, timer, &lines) - least(options, timer, b"")) * 1e9 / lines.len() as f64
 }
 
-/// The least seconds that the program takes for these lines.
+/// Returns the shortest time in seconds that the program takes for these lines.
 fn least(options: &Options, timer: &Timer, lines: &[u8]) -> f64 {
     let input = format!("{}/lines", options.folder);
     write(&input, lines).expect("the folder can be written to");

@@ -1,18 +1,18 @@
-//! The commands of `pathtool`, by the table that the other tools read too.
+//! The commands of `pathtool`, from the table that the other tools also read.
 
 const TABLE: &str = include_str!("../../../tools/commands.txt");
 
 /// A command of the program.
 pub struct Command {
     pub name: &'static str,
-    /// What stands behind its first field, such as `BASE` or `EDIT..`; nothing for no field.
+    /// What follows its first field, such as `BASE` or `EDIT..`; empty for no field.
     pub behind: &'static str,
     pub group: &'static str,
-    /// Whether std::path answers it alike.
+    /// True if std::path returns the same answers.
     pub is_std: bool,
 }
 
-/// The command that the row says, which has the form `NAME FIELDS | GROUP | STD`.
+/// Returns the command of a row of the form `NAME FIELDS | GROUP | STD`.
 fn read(row: &'static str) -> Option<Command> {
     let mut cells = row.split(" | ");
     let mut fields = cells.next()?.split(' ');
@@ -24,13 +24,13 @@ fn read(row: &'static str) -> Option<Command> {
     })
 }
 
-/// Each command of the table.
+/// Returns each command of the table.
 pub fn all() -> impl Iterator<Item = Command> {
     let rows = TABLE.lines().filter(|line| !line.starts_with([' ', '#']));
     rows.map(|row| read(row).unwrap_or_else(|| panic!("no row of commands.txt: {row}")))
 }
 
-/// What stands behind the first field of the command; nothing if it is unknown.
+/// Returns what follows the first field of the command, or nothing if the command is unknown.
 pub fn behind(name: &str) -> &'static str {
     all()
         .find(|command| command.name == name)

@@ -2,19 +2,19 @@
 use crate::random::Random;
 use std::ops::Range;
 
-/// The bytes of a slice that is timed at once.
+/// The number of bytes in a slice that is timed at once.
 const SLICE: usize = 1 << 18;
 
-/// What a call is given beside each path of a corpus.
+/// The second argument of a call for each path of a corpus.
 #[derive(Clone, Copy, PartialEq)]
 pub enum Other {
     Nothing,
     Same,
     Next,
     Respelled,
-    /// Its parts up to the middle.
+    /// Its components up to the middle.
     Front,
-    /// Its parts from the middle on.
+    /// Its components from the middle on.
     Behind,
     Name,
     Extension,
@@ -27,7 +27,7 @@ pub struct Corpus {
 }
 
 impl Corpus {
-    /// The second argument beside each path.
+    /// Returns the second argument for each path.
     pub fn others(&self, other: Other) -> Vec<Vec<u8>> {
         let mut random = Random(77);
         let paths = self.paths.iter();
@@ -48,7 +48,7 @@ impl Corpus {
     }
 }
 
-/// The places of the paths in slices of about the same number of bytes.
+/// Returns the indices of the paths in slices of about the same number of bytes.
 pub fn slices(paths: &[Vec<u8>]) -> Vec<Range<usize>> {
     let mut slices = vec![];
     let (mut start, mut bytes) = (0, 0);
@@ -62,7 +62,7 @@ pub fn slices(paths: &[Vec<u8>]) -> Vec<Range<usize>> {
     slices
 }
 
-/// All four corpora.
+/// Returns all four corpora.
 pub fn corpora() -> Vec<Corpus> {
     let realistic = realistic(40_000);
     let non_utf8 = non_utf8(&realistic);
@@ -77,7 +77,8 @@ pub fn corpora() -> Vec<Corpus> {
     .collect()
 }
 
-/// What is before and behind the middle one of the path's slashes; twice the path if it has none.
+/// Returns what is before and after the middle one of the path's slashes, or twice the path if it
+/// has none.
 fn at_middle(path: &[u8]) -> (&[u8], &[u8]) {
     let slashes: Vec<usize> = (0..path.len()).filter(|at| path[*at] == b'/').collect();
     match slashes.get(slashes.len() / 2) {
@@ -86,7 +87,7 @@ fn at_middle(path: &[u8]) -> (&[u8], &[u8]) {
     }
 }
 
-/// The same parts, with more slashes and dots between them.
+/// Returns a path with the same components and more slashes and dots between them.
 fn other_spelling(path: &[u8], random: &mut Random) -> Vec<u8> {
     let mut bytes = Vec::with_capacity(path.len() * 2);
     for byte in path {
@@ -116,7 +117,7 @@ const ENDINGS: [&str; 12] = [
     ".rs", ".c", ".h", ".cpp", ".py", ".md", ".json", ".tar.gz", ".test.ts", "", ".html", ".yaml",
 ];
 
-/// A name of one to three words.
+/// Returns a name of one to three words.
 fn name(random: &mut Random) -> String {
     let mut name = random.one_of(&WORDS).to_string();
     for _ in 0..random.below(3) {
@@ -126,7 +127,8 @@ fn name(random: &mut Random) -> String {
     name
 }
 
-/// The sorted listing of a source tree, which grows at random folders until it has so many files.
+/// Returns the sorted listing of a source tree, which grows at random directories until it has this
+/// many files.
 pub fn realistic(count: usize) -> Vec<Vec<u8>> {
     let mut random = Random(1);
     let mut folders = vec!["/home/build/checkout".to_string()];
@@ -153,11 +155,12 @@ const PIECES: [&str; 16] = [
     "a.", "/././/",
 ];
 
-/// What stands before and behind a stretch.
+/// What is before and after a run.
 #[rustfmt::skip]
 const ENDS: [(&str, &str); 5] = [("", ""), ("/", "/."), ("a", "/b"), ("../", "//"), ("./", "n.x")];
 
-/// Stretches of each of the pieces, of 1 to 100,000 bytes; the longest with nothing at their ends.
+/// Returns runs of each of the pieces, of 1 to 100,000 bytes; the longest runs have nothing at
+/// their ends.
 fn adversarial() -> Vec<Vec<u8>> {
     let mut paths = vec![];
     for piece in PIECES {
@@ -174,8 +177,8 @@ fn adversarial() -> Vec<Vec<u8>> {
     paths
 }
 
-/// Sorted paths of a thousand parts and 4,096 bytes; each begins with some parts of one before it,
-/// and then goes another way.
+/// Returns sorted paths of about a thousand components and 4,096 bytes, each of which shares a
+/// prefix with one before it.
 fn deep(count: usize) -> Vec<Vec<u8>> {
     let mut random = Random(3);
     let mut paths: Vec<Vec<u8>> = vec![];
@@ -197,14 +200,14 @@ fn deep(count: usize) -> Vec<Vec<u8>> {
     paths
 }
 
-/// Bytes that are no UTF-8: alone, Latin-1, cut short, too long, a surrogate.
+/// Invalid bytes: a single byte, Latin-1, truncated, too long, a surrogate.
 #[rustfmt::skip]
 const BROKEN: [&[u8]; 7] = [
     b"\xff", b"caf\xe9", b"\xe2\x82", b"\xc0\xaf", b"\xed\xa0\x80", b"\xf0\x9f\x93", b"\x80\x80",
 ];
 
-/// Every second path of a listing with text of other scripts in it, and in three of four with bytes
-/// that are no UTF-8.
+/// Returns every second path of the listing, with texts of other scripts inserted. In three of four
+/// of these paths, invalid bytes are inserted too.
 fn non_utf8(listing: &[Vec<u8>]) -> Vec<Vec<u8>> {
     let texts = ["naïve", "Übersicht", "файл", "文件夹", "λ", "📁"];
     let mut random = Random(4);
@@ -225,7 +228,7 @@ fn non_utf8(listing: &[Vec<u8>]) -> Vec<Vec<u8>> {
     paths
 }
 
-/// Puts bytes behind some ASCII byte of the path.
+/// Inserts bytes after some ASCII byte of the path.
 fn insert(path: &mut Vec<u8>, bytes: &[u8], random: &mut Random) {
     let mut at = random.below(path.len());
     while !path[at].is_ascii() {

@@ -1,6 +1,6 @@
-//! A number for the bytes of an answer, by which two sides are compared.
+//! A number for the bytes of a result, by which two sides are compared.
 
-/// A number for some bytes: of their length, the first and the last.
+/// Returns a number for some bytes, computed from their length, first byte and last byte.
 pub fn digest(bytes: &[u8]) -> u64 {
     let (Some(first), Some(last)) = (bytes.first(), bytes.last()) else {
         return 0;

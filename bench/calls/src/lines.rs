@@ -3,10 +3,11 @@ use crate::commands;
 use crate::corpora::corpora;
 use crate::random::Random;
 
-/// A word for some commands, and these.
+/// A name for some commands, and these commands.
 pub type Group = (&'static str, Vec<&'static str>);
 
-/// The groups of the commands that std::path answers alike, and all of these together.
+/// Returns the groups of the commands that std::path answers the same way, and a group of all of
+/// these.
 pub fn groups() -> Vec<Group> {
     let mut groups: Vec<Group> = vec![];
     for command in commands::all().filter(|command| command.is_std) {
@@ -20,7 +21,8 @@ pub fn groups() -> Vec<Group> {
     groups
 }
 
-/// The paths that lines are made of: realistic ones, and of each eighth line broken ones.
+/// The paths from which lines are made: realistic paths and, for about one line in eight, paths
+/// that may be invalid UTF-8.
 pub struct Paths {
     realistic: Vec<Vec<u8>>,
     broken: Vec<Vec<u8>>,
@@ -34,7 +36,7 @@ impl Paths {
         Paths { realistic, broken }
     }
 
-    /// So many bytes of lines, each with one of the commands.
+    /// Returns lines of at least `len` bytes in all, each with one of the commands.
     pub fn lines(&self, commands: &[&str], len: usize) -> Vec<u8> {
         let mut random = Random(8);
         let mut lines = vec![];
@@ -54,7 +56,7 @@ impl Paths {
     }
 }
 
-/// Adds the line of the command for a path, beside which there is a next one.
+/// Appends the line of the command for a path, given the path after it.
 pub fn push_line(command: &str, path: &[u8], next: &[u8], lines: &mut Vec<u8>) {
     lines.extend_from_slice(command.as_bytes());
     lines.push(b'\t');
@@ -63,7 +65,7 @@ pub fn push_line(command: &str, path: &[u8], next: &[u8], lines: &mut Vec<u8>) {
     lines.push(b'\n');
 }
 
-/// Adds the fields that the command has behind its path, each with a tab before it.
+/// Appends the fields that follow the path of the command, each with a tab before it.
 fn push_fields(command: &str, path: &[u8], next: &[u8], line: &mut Vec<u8>) {
     let half = path.len() / 2;
     match commands::behind(command) {
@@ -79,7 +81,7 @@ fn push_fields(command: &str, path: &[u8], next: &[u8], line: &mut Vec<u8>) {
     }
 }
 
-/// Adds paths of which some stand under the first, each with a tab before it.
+/// Appends paths, some of which are below the first, each with a tab before it.
 fn push_paths(path: &[u8], next: &[u8], line: &mut Vec<u8>) {
     push_field(path, line);
     line.extend_from_slice(b"//docs/notes.txt");
@@ -88,7 +90,7 @@ fn push_paths(path: &[u8], next: &[u8], line: &mut Vec<u8>) {
     line.extend_from_slice(b"/./docs/index.html");
 }
 
-/// Adds a tab and the field.
+/// Appends a tab and the field.
 fn push_field(field: &[u8], line: &mut Vec<u8>) {
     line.push(b'\t');
     line.extend_from_slice(field);

@@ -1,5 +1,5 @@
-//! Times the calls of `rows.rs` beside std's on the same bytes, and `pathtool` beside a program
-//! over `std::path`; prints our time over std's, and what is above its target.
+//! Times the calls of `rows.rs` and of std on the same bytes, and `pathtool` and a program over
+//! `std::path`. Prints the ratio of our time to std's, and which ratios are above their targets.
 mod calls;
 mod clock;
 mod command_sizes;

@@ -1,40 +1,40 @@
-//! What the words of the command line ask for.
+//! The options of the command line.
 use crate::clock;
 use crate::timing::Timer;
 use std::process::ExitCode;
 
-/// What can be timed, and over what.
-const PARTS: [&str; 6] = ["calls", "texts", "tables", "programs", "sizes", "face"];
+/// The parts that can be timed, and the corpora.
+const PARTS: [&str; 6] = ["calls", "texts", "tables", "programs", "sizes", "binding"];
 const CORPORA: [&str; 4] = ["realistic", "adversarial", "deep", "non_utf8"];
 
-/// Whether each of the words is one of the names.
+/// Returns true if each of the words is one of the names.
 fn are_known(words: &[String], names: &[&str]) -> bool {
     words.iter().all(|word| names.contains(&word.as_str()))
 }
 
-/// Each option is a word `name=value`; a list has commas between.
+/// The options. Each is a word `name=value`, in which commas separate the items of a list.
 pub struct Options {
-    /// What is timed.
+    /// The parts that are timed.
     pub parts: Vec<String>,
-    /// How the names of the rows begin that are shown; none for all.
+    /// Prefixes of the names of the rows that are shown; none for all.
     pub only: Vec<String>,
     /// The corpora that are used; none for all.
     pub corpora: Vec<String>,
     pub reps: usize,
-    /// Where files may be written.
+    /// The directory to which files may be written.
     pub folder: String,
-    /// The programs that are compared, ours and Rust's.
+    /// The programs that are compared, ours first.
     pub programs: [String; 2],
 }
 
-/// The words between commas.
+/// Returns the words between commas.
 fn list(value: &str) -> Vec<String> {
     value.split(',').map(String::from).collect()
 }
 
 impl Options {
-    /// The options of the command line. Where a word of it sets none, that is said, and the status
-    /// to exit with is given.
+    /// Returns the options of the command line. If a word sets none, prints it and returns the exit
+    /// status.
     pub fn from_arguments() -> Result<Options, ExitCode> {
         Options::read(std::env::args().skip(1)).map_err(|word| {
             eprintln!("no such option: {word}");
@@ -42,7 +42,7 @@ impl Options {
         })
     }
 
-    /// The options that these words set, or the first word that sets none.
+    /// Returns the options that these words set, or the first word that sets none.
     fn read(words: impl Iterator<Item = String>) -> Result<Options, String> {
         let mut options = Options {
             parts: list("calls,texts,tables,programs"),
@@ -60,7 +60,7 @@ impl Options {
         Ok(options)
     }
 
-    /// Sets the option that the word names; false if it names none.
+    /// Sets the option that the word names; returns false if it names none.
     fn set(&mut self, word: &str) -> bool {
         let Some((name, value)) = word.split_once('=') else {
             return false;
@@ -87,22 +87,22 @@ impl Options {
         true
     }
 
-    /// Whether that is timed.
+    /// Returns true if that part is timed.
     pub fn has_part(&self, part: &str) -> bool {
         self.parts.iter().any(|name| name == part)
     }
 
-    /// Whether the row is shown.
+    /// Returns true if the row is shown.
     pub fn has_row(&self, row: &str) -> bool {
         self.only.is_empty() || self.only.iter().any(|name| row.starts_with(name.as_str()))
     }
 
-    /// Whether the corpus is used.
+    /// Returns true if the corpus is used.
     pub fn has_corpus(&self, corpus: &str) -> bool {
         self.corpora.is_empty() || self.corpora.iter().any(|name| name == corpus)
     }
 
-    /// How the calls are timed.
+    /// Returns the timer for the calls.
     pub fn timer(&self) -> Timer {
         Timer {
             reps: self.reps,

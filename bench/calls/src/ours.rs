@@ -1,4 +1,4 @@
-//! The C functions of `lib.rt.in` and of the files beside it.
+//! The C functions of `lib.rt.in` and of the files next to it.
 use crate::calls::Start;
 
 extern "C" {

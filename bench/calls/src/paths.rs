@@ -22,7 +22,7 @@ pub fn print(options: &Options, score: &mut Score) {
     println!();
 }
 
-/// The ratio of the row on the corpus.
+/// Returns the ratio of the row on the corpus.
 fn measure(row: &Row, corpus: &Corpus, options: &Options) -> Measure {
     let paths = &corpus.paths;
     let slices = slices(paths);
@@ -45,7 +45,7 @@ fn measure(row: &Row, corpus: &Corpus, options: &Options) -> Measure {
     )
 }
 
-/// The places of each slice in another order.
+/// Returns the indices of each slice in another order.
 fn orders(slices: &[Range<usize>]) -> Vec<Vec<usize>> {
     let mut random = Random(5);
     let mut orders: Vec<Vec<usize>> = slices.iter().map(|slice| slice.clone().collect()).collect();

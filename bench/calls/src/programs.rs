@@ -1,4 +1,4 @@
-//! The table of `pathtool` beside a program over `std::path` that answers the same lines.
+//! The table of `pathtool`, compared with a program over `std::path` that answers the same lines.
 use crate::clock;
 use crate::lines::{groups, Paths};
 use crate::options::Options;
@@ -8,7 +8,7 @@ use std::fs::{read, write, File};
 use std::iter::once_with;
 use std::process::{Command, Stdio};
 
-/// How many bytes the lines of a group have.
+/// The number of bytes in the lines of a group.
 const LEN: usize = 2 << 20;
 
 /// Prints a line for each group of commands.
@@ -44,7 +44,7 @@ pub fn print(options: &Options, score: &mut Score) {
     println!();
 }
 
-/// Runs the program on a file. The answer is its exit status.
+/// Runs the program on a file. Returns its exit status.
 pub fn run(program: &str, input: &str, output: Stdio) -> u64 {
     let input = File::open(input).expect("the lines are there");
     let status = Command::new(program)
@@ -55,7 +55,7 @@ pub fn run(program: &str, input: &str, output: Stdio) -> u64 {
     u64::from(!status.success())
 }
 
-/// What the program writes.
+/// Returns what the program writes.
 fn output(program: &str, input: &str, folder: &str) -> Vec<u8> {
     let output = format!("{folder}/answers");
     let file = File::create(&output).expect("the folder can be written to");

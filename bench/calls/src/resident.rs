@@ -1,4 +1,4 @@
-//! The memory that work takes, as Linux counts the memory of this process.
+//! The memory that work needs, by Linux's count for this process.
 use std::fs::{read_to_string, write};
 use std::hint::black_box;
 
@@ -6,17 +6,18 @@ extern "C" {
     fn malloc_trim(pad: usize) -> i32;
 }
 
-/// The kibibytes that are resident at most while the work is done, beyond those before it.
+/// Returns the most kibibytes that are resident while the work is done, in addition to those before
+/// it.
 pub fn most(work: impl Fn() -> u64) -> u64 {
     unsafe { malloc_trim(0) };
-    // Counts the most anew from what is resident now.
+    // Resets the peak to what is resident now.
     write("/proc/self/clear_refs", "5").expect("Linux counts anew");
     let before = kibibytes("VmRSS:");
     black_box(work());
     kibibytes("VmHWM:") - before
 }
 
-/// The number that stands behind the word in the status of this process.
+/// Returns the number after the word in the status of this process.
 fn kibibytes(word: &str) -> u64 {
     let status = read_to_string("/proc/self/status").expect("Linux tells it");
     let line = status.lines().find_map(|line| line.strip_prefix(word));

@@ -1,4 +1,4 @@
-//! The rows of the table: a call on both sides, and what its second argument is.
+//! The rows of the table: a call on both sides, and its second argument.
 use crate::calls::{Call, OfOne, OfTwo};
 use crate::corpora::Other;
 use crate::ours::*;
@@ -14,13 +14,13 @@ pub struct Row {
 }
 
 impl Row {
-    /// Whether the row times a sort by the call, and not each call.
+    /// Returns true if the row times a sort by the call, and not each call.
     pub fn is_sort(&self) -> bool {
         self.name == "sort"
     }
 }
 
-/// A row of a call that takes a path alone.
+/// Returns a row of a call with only a path.
 fn one(name: &'static str, ours: OfOne, std: OfOne) -> Row {
     let (ours, std, other) = (Call::One(ours), Call::One(std), Other::Nothing);
     Row {
@@ -31,7 +31,7 @@ fn one(name: &'static str, ours: OfOne, std: OfOne) -> Row {
     }
 }
 
-/// A row of a call that takes something else too.
+/// Returns a row of a call with a path and a second argument.
 fn two(name: &'static str, ours: OfTwo, std: OfTwo, other: Other) -> Row {
     let (ours, std) = (Call::Two(ours), Call::Two(std));
     Row {
@@ -42,7 +42,7 @@ fn two(name: &'static str, ours: OfTwo, std: OfTwo, other: Other) -> Row {
     }
 }
 
-/// Every row, in the order of the table.
+/// Returns every row, in the order of the table.
 pub fn rows() -> Vec<Row> {
     [walks(), queries(), comparisons(), edits(), texts()]
         .into_iter()
@@ -50,7 +50,7 @@ pub fn rows() -> Vec<Row> {
         .collect()
 }
 
-/// The walks over parts.
+/// Returns the rows of walks over components.
 fn walks() -> Vec<Row> {
     vec![
         one("parts", ours_parts, std::parts),
@@ -61,7 +61,7 @@ fn walks() -> Vec<Row> {
     ]
 }
 
-/// What is asked of a path.
+/// Returns the rows of questions about a path.
 fn queries() -> Vec<Row> {
     let (front, behind) = (Other::Front, Other::Behind);
     vec![
@@ -76,7 +76,7 @@ fn queries() -> Vec<Row> {
     ]
 }
 
-/// Equality, order and hash.
+/// Returns the rows of equality, order and hash.
 fn comparisons() -> Vec<Row> {
     vec![
         two("eq same", ours_eq, std::eq, Other::Same),
@@ -91,7 +91,7 @@ fn comparisons() -> Vec<Row> {
     ]
 }
 
-/// The edits and the copies.
+/// Returns the rows of edits and copies.
 #[rustfmt::skip]
 fn edits() -> Vec<Row> {
     vec![
@@ -109,12 +109,12 @@ fn edits() -> Vec<Row> {
         two("push and pop", ours_push_pop, std::push_pop, Other::Name),
         one("canonical", ours_canonical, std::canonical),
         one("resolved", ours_resolved, std_within::resolved),
-        // Rust has no keys: both sides give the canonical form.
+        // Rust has no keys: both sides make the canonical form.
         one("key and back", ours_key_and_back, std::canonical),
     ]
 }
 
-/// The calls that read text.
+/// Returns the rows of calls that read text.
 #[rustfmt::skip]
 pub fn texts() -> Vec<Row> {
     vec![

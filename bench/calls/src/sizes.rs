@@ -1,14 +1,14 @@
-//! Hostile paths of 10^4 to 10^7 bytes: our time a byte, which is not to grow with the size.
+//! Hostile paths of 10^4 to 10^7 bytes: our time per byte, which must not grow with the size.
 use crate::corpora::{Corpus, Other};
 use crate::options::Options;
 use crate::rows::{rows, Row};
 use crate::timing::Timer;
 use std::hint::black_box;
 
-/// The bytes of the paths.
+/// The lengths of the paths.
 pub const SIZES: [usize; 4] = [10_000, 100_000, 1_000_000, 10_000_000];
 
-/// What is repeated in a path, and a word for it.
+/// What is repeated in a path, with its name.
 pub const SHAPES: [(&str, &[u8]); 8] = [
     ("/", b"/"),
     (".", b"."),
@@ -20,7 +20,7 @@ pub const SHAPES: [(&str, &[u8]); 8] = [
     ("FF", b"\xff"),
 ];
 
-/// Prints a line for each call and shape, with the nanoseconds a byte at each size.
+/// Prints a line for each call and shape, with the nanoseconds per byte at each size.
 pub fn print(options: &Options) {
     let timer = options.timer();
     let memory = memory(&timer);
@@ -41,13 +41,13 @@ pub fn print(options: &Options) {
     println!("\n{grown} lines have a time a byte that grows\n");
 }
 
-/// The nanoseconds a byte at a size, and whether they grew.
+/// The nanoseconds per byte at a size, and whether they grew.
 pub struct Time {
     pub nanoseconds: f64,
     pub is_grown: bool,
 }
 
-/// A cell for each size.
+/// Returns a cell for each size.
 pub fn cells(times: &[Time]) -> String {
     let cell = |at: usize| match times.get(at) {
         Some(time) if time.is_grown => format!("{:9.3} *", time.nanoseconds),
@@ -57,13 +57,14 @@ pub fn cells(times: &[Time]) -> String {
     (0..SIZES.len()).map(cell).collect()
 }
 
-/// The time at each size; none behind one that grew threefold, which could take for ever.
+/// Returns the time at each size, up to one that grew threefold, after which the next could take
+/// too long.
 pub fn times(time: &dyn Fn(usize) -> f64, memory: &[f64; 4]) -> Vec<Time> {
     let mut times: Vec<Time> = vec![];
     for at in 0..SIZES.len() {
         let mut now = time(at);
         let mut before = times.last().map_or(now, |time| time.nanoseconds);
-        // Both sizes are timed anew where it grew, since other work may be at fault.
+        // If the time grew, both sizes are timed again, since other work may be the cause.
         for _ in 0..4 {
             if at == 0 || now <= 1.3 * before + memory[at] {
                 break;
@@ -81,7 +82,7 @@ pub fn times(time: &dyn Fn(usize) -> f64, memory: &[f64; 4]) -> Vec<Time> {
     times
 }
 
-/// Our time with a path of this shape and size.
+/// Returns our time with a path of this shape and size.
 fn time(row: &Row, piece: &[u8], at: usize, timer: &Timer) -> f64 {
     let path = piece.iter().copied().cycle().take(SIZES[at]).collect();
     let (name, paths) = ("hostile", vec![path]);
@@ -90,8 +91,9 @@ fn time(row: &Row, piece: &[u8], at: usize, timer: &Timer) -> f64 {
     least(SIZES[at], timer, &|| row.ours.sum(&corpus.paths, &others))
 }
 
-/// What a byte may cost at each size beyond what it costs at the size before: to copy it, and to
-/// have three times as many in a string that grows, as text that is shown may.
+/// Returns by how much a byte may cost more at each size than at the size before: by the cost of
+/// copying it, and of appending three bytes for it to a string that grows, which displayed text may
+/// need.
 pub fn memory(timer: &Timer) -> [f64; 4] {
     let copies = SIZES.map(|size| {
         let bytes = vec![b'a'; size];
@@ -111,7 +113,7 @@ pub fn memory(timer: &Timer) -> [f64; 4] {
     memory
 }
 
-/// The least time of several runs, in nanoseconds a byte.
+/// Returns the shortest time of several runs, in nanoseconds per byte.
 fn least(size: usize, timer: &Timer, call: &dyn Fn() -> u64) -> f64 {
     let rounds = (SIZES[2] / size).max(1);
     let best = (0..timer.reps.min(5))

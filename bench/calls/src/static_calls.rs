@@ -1,5 +1,5 @@
-//! The calls of `include/unix_path.h` from Rust, with nothing of the crate for Rust in between:
-//! what each static call takes.
+//! The calls of `include/unix_path.h` from Rust, without the crate for Rust: the cost of each
+//! static call.
 use crate::calls::Start;
 
 #[repr(C)]
@@ -8,7 +8,7 @@ struct Walk {
     back: usize,
 }
 
-/// Where an answer stands, and of which kind a part is.
+/// The position of a result, and the kind of a component.
 #[repr(C)]
 #[derive(Default)]
 struct Span {
@@ -41,15 +41,15 @@ extern "C" {
 
 impl Span {
     fn of(self, path: &[u8]) -> &[u8] {
-        // SAFETY: the library answers places in the path.
+        // SAFETY: the library returns spans inside the path.
         unsafe { path.get_unchecked(self.start..self.start + self.length) }
     }
 }
 
-// The bytes at the place that the call answers.
+// Returns the bytes of the span that the call finds.
 fn find(call: unsafe extern "C" fn(Start, usize, *mut Span) -> bool, path: &[u8]) -> Option<&[u8]> {
     let mut span = Span::default();
-    // SAFETY: the path is read, and the place is written, whose kind is left as it is.
+    // SAFETY: the path is read, and the span is written, except its kind.
     unsafe { call(path.as_ptr(), path.len(), &mut span) }.then(|| span.of(path))
 }
 
@@ -61,7 +61,7 @@ pub fn file_name(path: &[u8]) -> Option<&[u8]> {
     find(unix_path_file_name, path)
 }
 
-// The bytes of each part, as the step takes them.
+// Returns the bytes of each component that the step takes.
 fn take_parts(step: Step, path: &[u8]) -> impl Iterator<Item = &[u8]> {
     let mut walk = Walk {
         front: 0,
@@ -84,23 +84,24 @@ pub fn parts_behind(path: &[u8]) -> impl Iterator<Item = &[u8]> {
 }
 
 pub fn starts_with(path: &[u8], base: &[u8]) -> bool {
-    // SAFETY: both are read.
+    // SAFETY: both paths are read.
     unsafe { unix_path_starts_with(path.as_ptr(), path.len(), base.as_ptr(), base.len()) }
 }
 
 pub fn equal(path: &[u8], other: &[u8]) -> bool {
-    // SAFETY: both are read.
+    // SAFETY: both paths are read.
     unsafe { unix_path_equal(path.as_ptr(), path.len(), other.as_ptr(), other.len()) }
 }
 
 pub fn compare(path: &[u8], other: &[u8]) -> i32 {
-    // SAFETY: both are read.
+    // SAFETY: both paths are read.
     unsafe { unix_path_compare(path.as_ptr(), path.len(), other.as_ptr(), other.len()) }
 }
 
-/// Writes the canonical form into the capacity of a buffer, which is enough.
+/// Writes the canonical form to `out`, whose capacity must be at least `path.len()`, and returns
+/// it.
 pub fn canonical<'o>(path: &[u8], out: &'o mut Vec<u8>) -> &'o [u8] {
-    // SAFETY: the path is read, and the capacity is written, as far as the call answers.
+    // SAFETY: the path is read, and as much of the capacity is written as the call returns.
     unsafe {
         let length =
             unix_path_canonical(path.as_ptr(), path.len(), out.as_mut_ptr(), out.capacity());
@@ -109,10 +110,11 @@ pub fn canonical<'o>(path: &[u8], out: &'o mut Vec<u8>) -> &'o [u8] {
     out
 }
 
-/// Writes the join into the capacity of a buffer, which is enough.
+/// Writes the join to `out`, whose capacity must be at least `base.len() + 1 + path.len()`, and
+/// returns it.
 pub fn join<'o>(base: &[u8], path: &[u8], out: &'o mut Vec<u8>) -> &'o [u8] {
     let (begin, room) = (out.as_mut_ptr(), out.capacity());
-    // SAFETY: both paths are read, and the capacity is written, as far as the call answers.
+    // SAFETY: both paths are read, and as much of the capacity is written as the call returns.
     unsafe {
         let (start, length) = (path.as_ptr(), path.len());
         let length = unix_path_join(base.as_ptr(), base.len(), start, length, begin, room);

@@ -1,5 +1,5 @@
-//! Rust's side: the functions of `lib.rt.in` over `std::path`, as C functions too, so that both
-//! sides pay for the same call.
+//! Rust's side: the functions of `lib.rt.in` over `std::path`, also as C functions, so that the
+//! call costs both sides the same.
 use crate::calls::Start;
 use crate::digest::digest;
 use std::cmp::Ordering;
@@ -10,40 +10,40 @@ use std::os::unix::ffi::OsStrExt;
 use std::path::{Path, PathBuf};
 use std::slice;
 
-/// The answer where there is none.
+/// The number that is returned if there is no result.
 pub const NONE: u64 = u64::MAX;
 
-/// The bytes that were passed.
+/// Returns the bytes that were passed.
 pub unsafe fn bytes_of<'a>(start: Start, len: usize) -> &'a [u8] {
     slice::from_raw_parts(start, len)
 }
 
-/// The bytes that were passed, as a string of the system.
+/// Returns the bytes that were passed, as a string of the system.
 unsafe fn text_of<'a>(start: Start, len: usize) -> &'a OsStr {
     OsStr::from_bytes(bytes_of(start, len))
 }
 
-/// The bytes that were passed, as a path.
+/// Returns the bytes that were passed, as a path.
 pub unsafe fn path_of<'a>(start: Start, len: usize) -> &'a Path {
     Path::new(text_of(start, len))
 }
 
-/// The number of several answers, with one more behind them.
+/// Returns the number for the results so far, extended by one more result.
 pub fn add(sum: u64, bytes: &[u8]) -> u64 {
     sum.wrapping_mul(31).wrapping_add(digest(bytes))
 }
 
-/// The number of a string, or that there is none.
+/// Returns the number of a string, or the number for none.
 fn some(text: Option<&OsStr>) -> u64 {
     text.map_or(NONE, |text| digest(text.as_bytes()))
 }
 
-/// The number of a path.
+/// Returns the number of a path.
 pub fn digest_of_path(path: &Path) -> u64 {
     digest(path.as_os_str().as_bytes())
 }
 
-/// The parts, front first.
+/// Takes the components, first to last.
 pub unsafe extern "C" fn parts(path: Start, len: usize) -> u64 {
     let mut sum = 0;
     for part in path_of(path, len).components() {
@@ -52,7 +52,7 @@ pub unsafe extern "C" fn parts(path: Start, len: usize) -> u64 {
     sum
 }
 
-/// The parts, the last first.
+/// Takes the components, last to first.
 pub unsafe extern "C" fn parts_behind(path: Start, len: usize) -> u64 {
     let mut sum = 0;
     for part in path_of(path, len).components().rev() {
@@ -61,7 +61,7 @@ pub unsafe extern "C" fn parts_behind(path: Start, len: usize) -> u64 {
     sum
 }
 
-/// The parts, in front and behind in turns.
+/// Takes the components, alternating between both ends.
 pub unsafe extern "C" fn parts_both(path: Start, len: usize) -> u64 {
     let mut sum = 0;
     let mut left = path_of(path, len).components();
@@ -74,19 +74,19 @@ pub unsafe extern "C" fn parts_both(path: Start, len: usize) -> u64 {
     sum
 }
 
-/// What is left after the first part.
+/// Returns the number of the rest after the first component.
 pub unsafe extern "C" fn as_path(path: Start, len: usize) -> u64 {
     let mut left = path_of(path, len).components();
     left.next();
     digest_of_path(left.as_path())
 }
 
-/// The parent.
+/// Returns the number of the parent.
 pub unsafe extern "C" fn parent(path: Start, len: usize) -> u64 {
     some(path_of(path, len).parent().map(Path::as_os_str))
 }
 
-/// The path and all above it.
+/// Takes the path and its ancestors.
 pub unsafe extern "C" fn ancestors(path: Start, len: usize) -> u64 {
     let mut sum = 0;
     for path in path_of(path, len).ancestors() {
@@ -95,41 +95,41 @@ pub unsafe extern "C" fn ancestors(path: Start, len: usize) -> u64 {
     sum
 }
 
-/// The file name.
+/// Returns the number of the file name.
 pub unsafe extern "C" fn file_name(path: Start, len: usize) -> u64 {
     some(path_of(path, len).file_name())
 }
 
-/// The stem of the path's file name.
+/// Returns the number of the file name's stem.
 pub unsafe extern "C" fn file_stem(path: Start, len: usize) -> u64 {
     some(path_of(path, len).file_stem())
 }
 
-/// The extension of the path's file name.
+/// Returns the number of the file name's extension.
 pub unsafe extern "C" fn extension(path: Start, len: usize) -> u64 {
     some(path_of(path, len).extension())
 }
 
-/// The path's file name up to its first dot.
+/// Returns the number of the file name up to its first dot.
 pub unsafe extern "C" fn file_prefix(path: Start, len: usize) -> u64 {
     some(path_of(path, len).file_prefix())
 }
 
-/// Whether the base begins the path.
+/// Returns 1 if the path starts with the base, and otherwise 0.
 pub unsafe extern "C" fn starts_with(path: Start, len: usize, base: Start, base_len: usize) -> u64 {
     path_of(path, len)
         .starts_with(path_of(base, base_len))
         .into()
 }
 
-/// Whether the child ends the path.
+/// Returns 1 if the path ends with the child, and otherwise 0.
 pub unsafe extern "C" fn ends_with(path: Start, len: usize, child: Start, child_len: usize) -> u64 {
     path_of(path, len)
         .ends_with(path_of(child, child_len))
         .into()
 }
 
-/// What follows the base.
+/// Returns the number of what follows the base.
 pub unsafe extern "C" fn strip_prefix(
     path: Start,
     len: usize,
@@ -142,12 +142,12 @@ pub unsafe extern "C" fn strip_prefix(
     }
 }
 
-/// Whether the two are equal.
+/// Returns 1 if the paths are equal, and otherwise 0.
 pub unsafe extern "C" fn eq(path: Start, len: usize, other: Start, other_len: usize) -> u64 {
     (path_of(path, len) == path_of(other, other_len)).into()
 }
 
-/// 0, 1 or 2: less, equal or greater.
+/// Returns 0, 1 or 2: less, equal or greater.
 pub unsafe extern "C" fn cmp(path: Start, len: usize, other: Start, other_len: usize) -> u64 {
     match path_of(path, len).cmp(path_of(other, other_len)) {
         Ordering::Less => 0,
@@ -169,26 +169,26 @@ impl Hasher for Count {
     }
 }
 
-/// What a cheap hasher makes of the path.
+/// Returns a cheap hasher's hash of the path.
 pub unsafe extern "C" fn hash_cheap(path: Start, len: usize) -> u64 {
     let mut hasher = Count(0);
     path_of(path, len).hash(&mut hasher);
     hasher.finish()
 }
 
-/// What SipHash makes of the path.
+/// Returns SipHash's hash of the path.
 pub unsafe extern "C" fn hash_sip(path: Start, len: usize) -> u64 {
     let mut hasher = DefaultHasher::new();
     path_of(path, len).hash(&mut hasher);
     hasher.finish()
 }
 
-/// The join of the two.
+/// Joins the paths.
 pub unsafe extern "C" fn join(path: Start, len: usize, other: Start, other_len: usize) -> u64 {
     digest_of_path(&path_of(path, len).join(path_of(other, other_len)))
 }
 
-/// A copy with that file name.
+/// Makes a copy with that file name.
 pub unsafe extern "C" fn with_file_name(
     path: Start,
     len: usize,
@@ -198,7 +198,7 @@ pub unsafe extern "C" fn with_file_name(
     digest_of_path(&path_of(path, len).with_file_name(text_of(name, name_len)))
 }
 
-/// A copy with that extension.
+/// Makes a copy with that extension.
 pub unsafe extern "C" fn with_extension(
     path: Start,
     len: usize,
@@ -208,7 +208,7 @@ pub unsafe extern "C" fn with_extension(
     digest_of_path(&path_of(path, len).with_extension(text_of(end, end_len)))
 }
 
-/// A copy with that extension added.
+/// Makes a copy with that extension added.
 pub unsafe extern "C" fn with_added_extension(
     path: Start,
     len: usize,
@@ -218,7 +218,7 @@ pub unsafe extern "C" fn with_added_extension(
     digest_of_path(&path_of(path, len).with_added_extension(text_of(end, end_len)))
 }
 
-/// Pushes and pops, four times.
+/// Pushes and pops four times.
 pub unsafe extern "C" fn push_pop(path: Start, len: usize, other: Start, other_len: usize) -> u64 {
     let mut edited = path_of(path, len).to_path_buf();
     let mut sum = 0;
@@ -231,26 +231,26 @@ pub unsafe extern "C" fn push_pop(path: Start, len: usize, other: Start, other_l
     sum
 }
 
-/// A copy whose extension is set.
+/// Sets the extension of a copy.
 pub unsafe extern "C" fn set_extension(path: Start, len: usize, end: Start, end_len: usize) -> u64 {
     let mut edited = path_of(path, len).to_path_buf();
     edited.set_extension(text_of(end, end_len));
     digest_of_path(&edited)
 }
 
-/// A copy onto which the extension is added.
+/// Adds the extension to a copy.
 pub unsafe extern "C" fn add_extension(path: Start, len: usize, end: Start, end_len: usize) -> u64 {
     let mut edited = path_of(path, len).to_path_buf();
     edited.add_extension(text_of(end, end_len));
     digest_of_path(&edited)
 }
 
-/// The shortest path with the same parts.
+/// Makes the canonical form.
 pub unsafe extern "C" fn canonical(path: Start, len: usize) -> u64 {
     digest_of_path(&path_of(path, len).components().collect::<PathBuf>())
 }
 
-/// The length of the text, if it is text.
+/// Returns the length of the text, if it is valid UTF-8.
 pub unsafe extern "C" fn to_str(path: Start, len: usize) -> u64 {
     match path_of(path, len).to_str() {
         Some(text) => text.len() as u64,
@@ -258,12 +258,12 @@ pub unsafe extern "C" fn to_str(path: Start, len: usize) -> u64 {
     }
 }
 
-/// The length of the lossy text.
+/// Returns the length of the lossy text.
 pub unsafe extern "C" fn to_string_lossy(path: Start, len: usize) -> u64 {
     path_of(path, len).to_string_lossy().len() as u64
 }
 
-/// The length of what is printed.
+/// Returns the length of what is printed.
 pub unsafe extern "C" fn display(path: Start, len: usize) -> u64 {
     let mut text = String::new();
     match write!(text, "{}", path_of(path, len).display()) {
@@ -272,7 +272,7 @@ pub unsafe extern "C" fn display(path: Start, len: usize) -> u64 {
     }
 }
 
-/// The lengths of the chunks.
+/// Returns a number for the lengths of the chunks.
 pub unsafe extern "C" fn chunks(bytes: Start, len: usize) -> u64 {
     let mut sum: u64 = 0;
     for chunk in bytes_of(bytes, len).utf8_chunks() {

@@ -1,17 +1,17 @@
-//! Rust's side of the tables: a `BTreeMap` and a `HashMap` from paths, and a list of paths, asked
-//! as `tables.rt.in` asks ours.
+//! Rust's side of the tables: a `BTreeMap` and a `HashMap` from paths, and a list of paths, used as
+//! `tables.rt.in` uses ours.
 use crate::calls::Start;
 use crate::std_calls::{add, bytes_of, path_of, NONE};
 use std::collections::{BTreeMap, HashMap};
 use std::path::PathBuf;
 
-/// The paths that these lines are.
+/// Returns the paths that these lines are.
 unsafe fn paths_of(lines: Start, len: usize) -> impl Iterator<Item = PathBuf> {
     let lines = bytes_of(lines, len).split(|byte| *byte == b'\n');
     lines.map(|line| path_of(line.as_ptr(), line.len()).to_path_buf())
 }
 
-/// A table of these paths, with the number of the line at each.
+/// Returns a table of the paths that these lines are, each with the number of its line.
 unsafe fn table_of(lines: Start, len: usize) -> BTreeMap<PathBuf, u64> {
     let mut table = BTreeMap::new();
     for (number, path) in (0..).zip(paths_of(lines, len)) {
@@ -20,7 +20,7 @@ unsafe fn table_of(lines: Start, len: usize) -> BTreeMap<PathBuf, u64> {
     table
 }
 
-/// What is found at these paths, looked up so many times.
+/// Returns a number for what is found at these paths, each looked up this many times.
 fn sum(paths: &[PathBuf], rounds: u64, find: impl Fn(&PathBuf) -> Option<u64>) -> u64 {
     let asked = (0..rounds).flat_map(|_| paths);
     asked.fold(0, |sum: u64, path| match find(path) {
@@ -29,12 +29,13 @@ fn sum(paths: &[PathBuf], rounds: u64, find: impl Fn(&PathBuf) -> Option<u64>) -
     })
 }
 
-/// How many paths a table of these lines has.
+/// Returns the number of paths in a table of these lines.
 pub unsafe extern "C" fn fill(lines: Start, len: usize) -> u64 {
     table_of(lines, len).len() as u64
 }
 
-/// What a table of these lines has at others, looked up so many times.
+/// Returns a number for what a table of these lines has at other paths, each looked up this many
+/// times.
 pub unsafe extern "C" fn get(
     lines: Start,
     len: usize,
@@ -47,7 +48,8 @@ pub unsafe extern "C" fn get(
     sum(&paths, rounds, |path| table.get(path).copied())
 }
 
-/// What a map by hash of these lines has at others, looked up so many times.
+/// Returns a number for what a hash map of these lines has at other paths, each looked up this many
+/// times.
 pub unsafe extern "C" fn get_hashed(
     lines: Start,
     len: usize,
@@ -60,7 +62,8 @@ pub unsafe extern "C" fn get_hashed(
     sum(&paths, rounds, |path| table.get(path).copied())
 }
 
-/// The middle one of the paths that these lines are; if `rounds` isn't 0, of the sorted ones.
+/// Returns a number for the middle one of the paths that these lines are. The paths are sorted
+/// before if `rounds` is not 0.
 pub unsafe extern "C" fn sort(
     lines: Start,
     len: usize,

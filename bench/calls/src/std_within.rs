@@ -3,12 +3,13 @@ use crate::calls::Start;
 use crate::std_calls::{digest_of_path, path_of};
 use std::path::{Component, Path, PathBuf};
 
-/// The path with each `..` dropped together with the name before it.
+/// Returns the number of the path with each `..` dropped together with the name before it.
 pub unsafe extern "C" fn resolved(path: Start, len: usize) -> u64 {
     digest_of_path(&resolved_path(path_of(path, len)))
 }
 
-/// A fold over the parts: a name is pushed, and `..` pops one, or stays where there is none to pop.
+/// Folds over the components: a name is pushed, and `..` pops a name, is dropped after the root, or
+/// stays if there is nothing to pop.
 fn resolved_path(path: &Path) -> PathBuf {
     let mut kept = PathBuf::with_capacity(path.as_os_str().len());
     for part in path.components() {

@@ -1,6 +1,7 @@
 //! What no job of `crates/path_jobs` measures of tables, trees and keys: the memory of a
-//! `PathTable` and of a `PathTree` beside a `BTreeMap` of paths; look-ups in a tree by keys that
-//! were kept, and by views beside a map by hash; and a sort of keys beside Rust's sort of paths.
+//! `PathTable` and of a `PathTree`, compared with a `BTreeMap` of paths; lookups in a tree by
+//! stored keys, and by views compared with a hash map; and a sort of keys, compared with Rust's
+//! sort of paths.
 use crate::calls::Start;
 use crate::corpora::realistic;
 use crate::options::Options;
@@ -12,7 +13,7 @@ use crate::table::Table;
 use crate::timing::{median, Measure, Score, Timer};
 use std::time::Instant;
 
-/// How many paths a table has, how often each is looked up, and how many paths are sorted.
+/// The number of paths in a table, of lookups for each, and of paths that are sorted.
 const PATHS: usize = 200_000;
 const ROUNDS: u64 = 5;
 const SORTED: usize = 1_000_000;
@@ -20,7 +21,7 @@ const SORTED: usize = 1_000_000;
 type OfLines = unsafe extern "C" fn(Start, usize) -> u64;
 type OfAsked = unsafe extern "C" fn(Start, usize, Start, usize, u64) -> u64;
 
-/// The order in which paths are put in, as lines; lines that are looked up; and lines that are
+/// The order in which paths are inserted, as lines; lines that are looked up; and lines that are
 /// sorted.
 struct Lines {
     order: &'static str,
@@ -34,9 +35,9 @@ struct Lines {
 enum Work {
     /// Fills a table, whose memory is measured.
     Fill([OfLines; 2]),
-    /// Looks paths up, which is timed without the table that is made before.
+    /// Looks paths up. The time to make the table is not counted.
     Get([OfAsked; 2]),
-    /// Sorts paths or keys, which is timed without the list that is made before.
+    /// Sorts paths or keys. The time to make the list is not counted.
     Sort([OfAsked; 2]),
 }
 
@@ -68,7 +69,7 @@ pub fn print(options: &Options, score: &mut Score) {
     println!();
 }
 
-/// The lines of a listing in order, and in another order.
+/// Returns the lines of a listing in path order, and in another order.
 fn lines() -> [Lines; 2] {
     let mut random = Random(9);
     let mut paths = realistic(PATHS + PATHS / 50);
@@ -87,13 +88,13 @@ fn lines() -> [Lines; 2] {
     })
 }
 
-/// The paths, with a newline between two of them.
+/// Returns the paths, with a newline between two of them.
 fn lines_of(paths: &[Vec<u8>]) -> Vec<u8> {
     paths.join(&b'\n')
 }
 
-/// The median of the ratios of several rounds, in which the sides run in turns; `seconds` times one
-/// side.
+/// Returns the median of the ratios of several rounds, in which the sides alternate; `seconds`
+/// times one side.
 fn time_ratio(timer: &Timer, seconds: impl Fn(OfAsked) -> f64, [ours, std]: [OfAsked; 2]) -> f64 {
     let start = Instant::now();
     let mut ratios = vec![];
@@ -108,7 +109,7 @@ fn time_ratio(timer: &Timer, seconds: impl Fn(OfAsked) -> f64, [ours, std]: [OfA
 }
 
 impl Lines {
-    /// Our time over std's, or our memory over that of std.
+    /// Returns the ratio of our time to std's, or of our memory to std's.
     fn measure(&self, work: Work, timer: &Timer) -> Measure {
         match work {
             Work::Fill(calls) => self.memory(calls),
@@ -117,7 +118,7 @@ impl Lines {
         }
     }
 
-    /// The bytes that the process has more at most while the table is filled, as a ratio.
+    /// Returns the ratio of the most additional memory of the process while the table is filled.
     fn memory(&self, calls: [OfLines; 2]) -> Measure {
         let fill = |call: OfLines| unsafe { call(self.paths.as_ptr(), self.paths.len()) };
         let is_same = fill(calls[0]) == fill(calls[1]);
@@ -126,7 +127,8 @@ impl Lines {
         Measure { ratio, is_same }
     }
 
-    /// The time of so many rounds, without what is made before, as a ratio.
+    /// Returns the ratio of the times of this many rounds, without the time to make the table or
+    /// list.
     fn time(
         &self,
         calls: [OfAsked; 2],

@@ -1,6 +1,6 @@
-//! The greatest ratios that are wanted, and where answers may differ.
+//! The target ratios, and the rows whose results may differ.
 
-/// A row's name, a corpus ("" is any) and our time over std's. The first line that fits holds.
+/// A row's name, a corpus ("" is any) and the target ratio. The first line that matches is used.
 const TARGETS: &[(&str, &str, f64)] = &[
     ("parts", "realistic", 0.65),
     ("parts", "deep", 0.65),
@@ -31,7 +31,7 @@ const TARGETS: &[(&str, &str, f64)] = &[
     ("tree memory", "", 1.1),
 ];
 
-/// The greatest ratio that is wanted of a row on a corpus: 1 if no line of the table says another.
+/// Returns the target ratio of a row on a corpus: 1 if the table has none.
 pub fn target(row: &str, corpus: &str) -> f64 {
     TARGETS
         .iter()
@@ -39,7 +39,7 @@ pub fn target(row: &str, corpus: &str) -> f64 {
         .map_or(1.0, |found| found.2)
 }
 
-/// Whether the two sides answer differently on purpose: each feeds a hasher in its own way.
+/// Returns true if the results of both sides differ on purpose: each feeds a hasher in its own way.
 pub fn may_differ(row: &str) -> bool {
     row.starts_with("hash")
 }

@@ -1,4 +1,4 @@
-//! Tests of the search for enough rounds, and of printing. tools/check_bench runs them.
+//! Tests of the search for enough rounds, and of printing. `tools/check_bench` runs them.
 #![allow(dead_code)] // The modules have more for the programs.
 mod table;
 mod targets;
@@ -40,7 +40,7 @@ fn slow_work_has_few_rounds() {
     assert_eq!(enough_rounds(slow), 2);
 }
 
-/// A clock that stands still.
+/// A clock that does not advance.
 fn stopped() -> f64 {
     0.0
 }

@@ -1,14 +1,14 @@
-//! The table of the calls that read text: scripts and lengths, and bytes that are no text.
+//! The table of the calls that read text: scripts and lengths, and invalid bytes.
 use crate::options::Options;
 use crate::random::Random;
 use crate::rows::{texts, Row};
 use crate::table::Table;
 use crate::timing::{Score, Timer};
 
-/// The bytes of a row's sources.
+/// The most bytes that a row's strings have together.
 const LEN: usize = 4096;
 
-/// A row's name, whether its bytes are broken, and the strings that are read.
+/// A row's name, whether its strings are invalid UTF-8, and the strings.
 struct Sources {
     name: String,
     is_broken: bool,
@@ -36,7 +36,8 @@ pub fn print(options: &Options, score: &mut Score) {
 }
 
 impl Sources {
-    /// The ratio of a call; none for `to_str` over broken bytes, since it ends at the first one.
+    /// Returns the ratio of a call, as text. It is `-` for `to_str` with invalid bytes, since that
+    /// call ends at the first of them.
     fn cell(&self, row: &Row, timer: &Timer, score: &mut Score) -> String {
         if self.is_broken && row.name == "to_str" {
             return "-".to_string();
@@ -49,10 +50,10 @@ impl Sources {
     }
 }
 
-/// A text with letters that Latin-1 has.
+/// Text with letters that Latin-1 has.
 const FRENCH: &str = "L'été, où l'âne brait, Noël s'ennuie à mâcher des bûches. ";
 
-/// A text of each script.
+/// Text of each script.
 #[rustfmt::skip]
 const SCRIPTS: [(&str, &str); 5] = [
     ("ASCII", "The listing of a folder, /opt/tool-1.2/readme.txt among it; "),
@@ -62,7 +63,7 @@ const SCRIPTS: [(&str, &str); 5] = [
     ("emoji", "🌲🌳📁📂🗂🔑🧭"),
 ];
 
-/// Text of several scripts, in strings of several lengths.
+/// Returns text of several scripts, in strings of several lengths.
 fn well_formed() -> Vec<Sources> {
     let mut random = Random(6);
     let widths: String = (0..LEN)
@@ -83,7 +84,8 @@ fn well_formed() -> Vec<Sources> {
     all
 }
 
-/// Whole characters of a text that goes on and on, from one of them on, up to so many bytes.
+/// Returns whole characters of an endlessly repeated text, from one of them on, up to this many
+/// bytes.
 fn beginning_of(text: &str, from: usize, len: usize) -> Vec<u8> {
     let mut beginning = String::new();
     for next in text.chars().cycle().skip(from) {
@@ -95,7 +97,7 @@ fn beginning_of(text: &str, from: usize, len: usize) -> Vec<u8> {
     beginning.into_bytes()
 }
 
-/// Bytes that are no UTF-8.
+/// Returns invalid bytes.
 #[rustfmt::skip]
 fn broken() -> Vec<Sources> {
     let every = |step: usize| -> Vec<u8> {

@@ -1,37 +1,37 @@
-//! Our time over std's, and how it is shown.
+//! The ratio of our time to std's, and how it is printed.
 use crate::targets::{may_differ, target};
 use std::hint::black_box;
 use std::time::{Duration, Instant};
 
-/// What a side does with a slice of the work; the number stands for its answers.
+/// What a side does with a slice of the work. The number represents its results.
 pub type Work<'a> = &'a dyn Fn(usize) -> u64;
 
-/// Our time over std's, and whether both answered the same.
+/// The ratio of our time to std's, and whether both sides returned the same.
 pub struct Measure {
     pub ratio: f64,
     pub is_same: bool,
 }
 
-/// Each time is of at least so many seconds.
+/// The shortest time that is measured, in seconds.
 const SHORTEST: f64 = 1e-4;
 
-/// A round takes longer than `SHORTEST` over this.
+/// The most rounds; a round takes longer than `SHORTEST` divided by this.
 pub const MOST_ROUNDS: usize = 1 << 16;
 
-/// What is measured in so much time is long enough, whatever the clock says.
+/// The longest search for enough rounds, whatever the clock says.
 const LONGEST_SEARCH: Duration = Duration::from_millis(100);
 
 /// How work is timed.
 pub struct Timer {
-    /// How often each slice of the work is timed.
+    /// The number of times that each slice of the work is timed.
     pub reps: usize,
-    /// After so many seconds no slice is timed any more.
+    /// The number of seconds after which no more slices are timed.
     pub budget: f64,
     pub clock: fn() -> f64,
 }
 
 impl Timer {
-    /// The median of the ratios on each of the slices, over and over.
+    /// Returns the median of the ratios on each of the slices, timed repeatedly.
     pub fn compare(&self, slices: usize, ours: Work, std: Work) -> Measure {
         let is_same = (0..slices).all(|slice| ours(slice) == std(slice));
         let start = Instant::now();
@@ -46,8 +46,9 @@ impl Timer {
         Measure { ratio, is_same }
     }
 
-    /// Our time over std's on one slice. The sides run right after each other and in turns, so that
-    /// a busy machine slows both, and neither finds the bytes nearer than the other does.
+    /// Returns the ratio of our time to std's on one slice. The sides run right after each other,
+    /// alternating, so that a busy machine slows both, and neither finds the bytes in a faster
+    /// cache.
     fn ratio_on(&self, slice: usize, ours: Work, std: Work) -> f64 {
         let [one, other] =
             [ours, std].map(|work| enough_rounds(|rounds| self.seconds(work, slice, rounds)));
@@ -56,7 +57,7 @@ impl Timer {
         (a + d) / (b + c)
     }
 
-    /// The seconds that the work on this slice takes, done so many times.
+    /// Returns the seconds that the work on this slice takes, repeated for this many rounds.
     pub fn seconds(&self, work: Work, slice: usize, rounds: usize) -> f64 {
         let start = (self.clock)();
         for _ in 0..rounds {
@@ -66,8 +67,8 @@ impl Timer {
     }
 }
 
-/// Returns how many rounds take at least `SHORTEST` seconds: doubles them until the clock measures
-/// that. A clock that stands still or goes back can't keep it from ending.
+/// Returns the number of rounds that take at least `SHORTEST` seconds: doubles it until the clock
+/// measures that. It ends even if the clock stops or goes back.
 pub fn enough_rounds(seconds: impl Fn(usize) -> f64) -> usize {
     let start = Instant::now();
     let mut rounds = 1;
@@ -81,13 +82,13 @@ pub fn enough_rounds(seconds: impl Fn(usize) -> f64) -> usize {
     rounds
 }
 
-/// The middle one of the numbers.
+/// Returns the median of the numbers.
 pub fn median(mut numbers: Vec<f64>) -> f64 {
     numbers.sort_by(f64::total_cmp);
     numbers[numbers.len() / 2]
 }
 
-/// How many ratios were shown, and how many of them were marked.
+/// The number of ratios that were printed, and of those that were marked.
 #[derive(Default)]
 pub struct Score {
     pub shown: usize,
@@ -96,13 +97,13 @@ pub struct Score {
     pub different: usize,
 }
 
-/// What the mark ~ says.
+/// The explanation of the mark ~.
 const ON_PURPOSE: &str = "\
 ~ The answers differ on purpose: each side feeds a hasher in its own way. Our cheap one is
   that of Rattle's maps, FoldHasher; Rust's only counts the bytes.";
 
 impl Score {
-    /// Prints what the numbers and marks were.
+    /// Prints an explanation of the numbers and marks.
     pub fn print(&self) {
         if self.shown == 0 {
             return;
@@ -123,8 +124,8 @@ impl Score {
         }
     }
 
-    /// The ratio, with its target behind it if it is above that, and a mark if the answers differ:
-    /// `~` if they do so on purpose, `DIFFERS` if they must not.
+    /// Returns the ratio, followed by its target if the ratio is above it, and by a mark if the
+    /// results differ: `~` if they differ on purpose, `DIFFERS` if they must not.
     pub fn cell(&mut self, measure: &Measure, row: &str, corpus: &str) -> String {
         let wanted = target(row, corpus);
         let mut cell = format!("{:.2}", measure.ratio);

@@ -1,4 +1,4 @@
-//! A digest of answers: lengths and bytes folded into one number, as `crates/path_jobs` does.
+//! A digest of results: lengths and bytes folded into one number, as `crates/path_jobs` does.
 use std::ffi::OsStr;
 use std::os::unix::ffi::OsStrExt;
 use std::path::Path;
@@ -17,7 +17,7 @@ impl Digest {
         self.add(u64::from(flag));
     }
 
-    /// Adds the bytes, eight at once, and their number.
+    /// Adds the bytes, eight at a time, and their number.
     pub fn add_bytes(&mut self, bytes: &[u8]) {
         let (words, rest) = bytes.as_chunks::<8>();
         for word in words {
@@ -33,7 +33,7 @@ impl Digest {
         self.add_bytes(path.as_os_str().as_bytes());
     }
 
-    /// Adds the text, or a number that no text adds first.
+    /// Adds the text, or a number that no text begins with.
     pub fn add_text(&mut self, text: Option<&OsStr>) {
         match text {
             Some(text) => self.add_bytes(text.as_bytes()),

@@ -1,5 +1,5 @@
-//! A tree of files in memory is filled, looked up and listed below its folders: the calls of
-//! `table.rs` without a map by hash, and the nearest entry above a path.
+//! Fills a tree of files in memory, looks files up and lists directories: the calls of `table.rs`
+//! without a hash map, and the nearest entry above a path.
 use crate::digest::Digest;
 use crate::lines::path_of;
 use crate::table::{filled, look_up, path_in, remove, Table};
@@ -7,7 +7,8 @@ use crate::tree::{shuffled, Tree};
 use std::ops::Bound::{Included, Unbounded};
 use std::path::Path;
 
-/// Lists what is below some folders: all large ones, and one in eight of those with 16 files.
+/// Lists the entries below some directories: below all large ones, and below one in eight of the
+/// directories with 16 files.
 fn list_below(tree: Tree, files: &Table, count: u64, digest: &mut Digest) {
     let mut buffer = Vec::new();
     for place in 0..count / 32 {
@@ -24,7 +25,7 @@ fn list_below(tree: Tree, files: &Table, count: u64, digest: &mut Digest) {
     }
 }
 
-/// The entry with the longest path that begins this one, and what follows it.
+/// Returns the entry with the longest path that this path starts with, and what follows it.
 fn nearest<'a>(files: &Table, path: &'a Path) -> Option<(&'a Path, u64)> {
     let found = path
         .ancestors()
@@ -33,7 +34,8 @@ fn nearest<'a>(files: &Table, path: &'a Path) -> Option<(&'a Path, u64)> {
     Some((path.strip_prefix(base).ok()?, value))
 }
 
-/// Finds the nearest entry above a path below each file: the file, if it wasn't removed.
+/// Finds, for each file, the nearest entry above a path below it: the file itself, unless it was
+/// removed.
 fn find_nearest(tree: Tree, files: &Table, seed: u64, count: u64) -> u64 {
     let mut buffer = Vec::new();
     let mut sum = 0_u64;
@@ -48,8 +50,8 @@ fn find_nearest(tree: Tree, files: &Table, seed: u64, count: u64) -> u64 {
     sum
 }
 
-/// Fills a tree with `count` files, looks up each, lists some folders, removes some files, and
-/// finds the nearest file above a path below each.
+/// Fills a tree with `count` files, looks up each, lists some directories, removes some files, and
+/// finds, for each file, the nearest entry above a path below it.
 pub fn run(seed: u64, count: u64) -> u64 {
     let mut digest = Digest::default();
     let tree = Tree::new("/srv/volumes/store", seed);

@@ -1,9 +1,9 @@
-//! Byte strings behind each other in one buffer.
+//! Consecutive byte strings in one buffer.
 use std::ffi::OsStr;
 use std::os::unix::ffi::OsStrExt;
 use std::path::Path;
 
-/// The bytes as a path.
+/// Returns the bytes as a path.
 pub fn path_of(bytes: &[u8]) -> &Path {
     Path::new(OsStr::from_bytes(bytes))
 }
@@ -15,7 +15,7 @@ pub struct Lines {
 }
 
 impl Lines {
-    /// The buffer, for the bytes of the next line; `end_line` ends it.
+    /// Returns the buffer, for the bytes of the next line, which `end_line` ends.
     pub fn buffer(&mut self) -> &mut Vec<u8> {
         &mut self.bytes
     }
@@ -24,7 +24,7 @@ impl Lines {
         self.ends.push(self.bytes.len());
     }
 
-    /// The lines as paths.
+    /// Returns the lines as paths.
     pub fn paths(&self) -> Vec<&Path> {
         let starts = std::iter::once(0).chain(self.ends.iter().copied());
         starts

@@ -1,17 +1,17 @@
-//! Long and awkward paths: a thousand parts, stretches of filler, lists of edits, and broken text.
+//! Long and awkward paths: many components, runs of filler, lists of edits, and invalid bytes.
 use crate::digest::Digest;
 use crate::lines::path_of;
 use crate::manifest::canonical;
 use crate::random::Random;
 use std::path::{Component, Path, PathBuf};
 
-/// How many names a deep path has, of about 4,096 bytes.
+/// The number of names in a deep path, which has about 3,800 bytes.
 const NAMES: usize = 850;
 
-/// What long stretches repeat: filler, a name and a `..`.
+/// What long runs repeat: filler, a name and a `..`.
 static IDLE: [&str; 8] = ["/.", "./", "//", "/./", "/", "/./././", "/a", "/.."];
 
-/// Text of several scripts, and what is no UTF-8: Latin-1, cut short, a surrogate.
+/// Text of several scripts, and invalid bytes: Latin-1, a truncated character, a surrogate.
 static TEXTS: [&[u8]; 16] = [
     b"plain-name",
     b"na\xC3\xAFve",
@@ -40,7 +40,7 @@ enum Edit {
     AddExtension(&'static str),
 }
 
-/// Sets the bytes to a path of many names of one to six letters, one in eight behind a `.`.
+/// Sets the bytes to a path of many names of one to six letters, one in eight after a `.`.
 pub fn make_deep(bytes: &mut Vec<u8>, random: &mut Random) {
     bytes.clear();
     for _ in 0..NAMES {
@@ -52,7 +52,7 @@ pub fn make_deep(bytes: &mut Vec<u8>, random: &mut Random) {
     }
 }
 
-/// Sets the bytes to 16 stretches of some 24,000 bytes in all, three in four of them of filler.
+/// Sets the bytes to 16 runs of about 22,500 bytes in all, three in four of them of filler.
 fn make_filler(bytes: &mut Vec<u8>, random: &mut Random) {
     bytes.clear();
     bytes.push(b'x');
@@ -65,7 +65,7 @@ fn make_filler(bytes: &mut Vec<u8>, random: &mut Random) {
     }
 }
 
-/// Sets the bytes to a path of a dozen names, in which texts stand, one in eight of them broken.
+/// Sets the bytes to a path of a dozen names made of texts. About one path in 16 has invalid bytes.
 fn make_text(bytes: &mut Vec<u8>, random: &mut Random) {
     bytes.clear();
     for _ in 0..12 {
@@ -79,7 +79,7 @@ fn make_text(bytes: &mut Vec<u8>, random: &mut Random) {
     }
 }
 
-/// Adds the length and the kind of a part.
+/// Adds the length and the kind of a component.
 fn add_part(part: Option<Component>, digest: &mut Digest) {
     digest.add(match part {
         Some(Component::Normal(name)) => 8 | ((name.len() as u64) << 4),
@@ -91,7 +91,7 @@ fn add_part(part: Option<Component>, digest: &mut Digest) {
     });
 }
 
-/// Walks the path from the front, from behind, and by turns from both ends.
+/// Walks the path from the front, from the back, and from both ends, alternating.
 fn walk(path: &Path, digest: &mut Digest) {
     for part in path.components() {
         add_part(Some(part), digest);
@@ -111,7 +111,7 @@ fn walk(path: &Path, digest: &mut Digest) {
     }
 }
 
-/// Compares the path with its canonical spelling, and with one that has another last part.
+/// Compares the path with its canonical form, and with a path that has one more component.
 fn compare(path: &Path, digest: &mut Digest) {
     let mut other = canonical(path);
     digest.add_path(&other);
@@ -125,7 +125,7 @@ fn compare(path: &Path, digest: &mut Digest) {
     }
 }
 
-/// The edit that a random word stands for. Nearly one in three is a pop.
+/// Returns the edit that a random word represents. Nearly one in three is a pop.
 fn edit_of(word: u64) -> Edit {
     match word & 15 {
         0..=4 => Edit::Pop,
@@ -139,7 +139,7 @@ fn edit_of(word: u64) -> Edit {
     }
 }
 
-/// Makes one edit. Gives what it answers; none for an edit that always takes place.
+/// Makes one edit. Returns its result, or `None` for an edit that always succeeds.
 fn apply_one(path: &mut PathBuf, edit: &Edit) -> Option<bool> {
     match edit {
         Edit::Push(other) => {
@@ -170,8 +170,8 @@ fn edit(path: &Path, random: &mut Random, digest: &mut Digest) {
     digest.add_path(&edited);
 }
 
-/// Shows the path as text, and, if it is text, makes a string of it, as JSON has, and a path of
-/// that.
+/// Writes the path as text. If it is valid UTF-8, also makes a string of it, like a JSON value, and
+/// a path from that string.
 fn show(path: &Path, digest: &mut Digest) {
     digest.add_bytes(path.to_string_lossy().as_bytes());
     digest.add_bytes(format!("{}", path.display()).as_bytes());
@@ -181,8 +181,9 @@ fn show(path: &Path, digest: &mut Digest) {
     }
 }
 
-/// Walks and compares `count` deep paths, and shows twenty texts with each. With one in 32 it also
-/// applies a list of edits, and walks and compares a path of long stretches.
+/// Walks and compares `count` deep paths, and writes for each, as text, twenty paths with names in
+/// several scripts. For one in 32, it also applies a list of edits, and walks and compares a path
+/// with long runs of filler.
 pub fn run(seed: u64, count: u64) -> u64 {
     let mut digest = Digest::default();
     let mut random = Random::new(seed);

@@ -1,21 +1,23 @@
-//! The jobs of `crates/path_jobs` over `std::path`, timed beside it by `bench/run`.
+//! The jobs of `crates/path_jobs` over `std::path`. `bench/run` compares their times.
 //!
-//! `path_jobs JOB SEED COUNT` makes the same inputs from the seed as the program there, asks the
-//! calls of Rust's own library, and prints a digest of all answers; `path_jobs all SEED COUNT` runs
-//! each job. The same words print the same in both, so each run is also a test of both.
+//! `path_jobs JOB SEED COUNT` makes the same inputs from the seed as that program, calls Rust's own
+//! library, and prints a digest of all results. `path_jobs all SEED COUNT` runs each job. Both
+//! programs print the same for the same arguments, so each run also tests both.
 //!
-//! Each call there is the call of that name here. What has no such call, or another meaning:
-//! - `canonical` collects the components; an edit list is a loop; a table is a `BTreeMap`, and what
-//!   is below a folder a range of it; so is a tree. A look-up borrows its path, which a `PathTable`
-//!   can't, and a `PathTree` can. The entry nearest to a path is looked for among its ancestors.
-//! - `within.rs` has what `std::path` lacks for paths from outside, `common_dir` stands in
-//!   `rules.rs`, and `server.rs` checks a request once by these.
-//! - JSON, for which Rust's library has nothing, is the string that such a value holds.
-//! - An empty answer of `strip_prefix` may stand elsewhere in its path, and a part feeds a hasher
-//!   other bytes: the digests have the answer's bytes, and no hash. Each `HashMap` hashes as its
-//!   library does of itself, here by SipHash.
-//! - A `/` in an extension is refused there, and panics here: no job has one. No call here tells
-//!   that memory is short.
+//! Each call of that program is the call of the same name here, except where std has no such call
+//! or its meaning differs:
+//! - `canonical` collects the components. An edit list is a loop. A table or a tree is a
+//!   `BTreeMap`, and the entries below a directory are a range of it. A lookup borrows its path,
+//!   which is impossible for a `PathTable` and possible for a `PathTree`. The entry nearest to a
+//!   path is looked up among its ancestors.
+//! - `within.rs` has what `std::path` lacks for paths from outside, `common_dir` is in `rules.rs`,
+//!   and `server.rs` uses these to check a request once.
+//! - A JSON value, for which Rust's library has nothing, is the string that it contains.
+//! - An empty result of `strip_prefix` may be at another position in its path, and a component
+//!   feeds a hasher other bytes. So the digests have the bytes of results, and no hash. Each
+//!   `HashMap` hashes as its library does by default, here with SipHash.
+//! - A `/` in an extension is an error there and panics here; no job has one. No call here returns
+//!   an error if an allocation fails.
 mod digest;
 mod keyed;
 mod lines;
@@ -33,7 +35,7 @@ mod within;
 use std::env;
 use std::process::ExitCode;
 
-/// A job: its name, and what runs it with a seed and a count, and gives the digest.
+/// A job: its name, and a function that runs it with a seed and a count and returns the digest.
 type Job = (&'static str, fn(u64, u64) -> u64);
 
 static JOBS: [Job; 8] = [
@@ -47,7 +49,7 @@ static JOBS: [Job; 8] = [
     ("tree", keyed::run),
 ];
 
-/// Runs the jobs of this name, or all, and prints their digests. Gives whether there are any.
+/// Runs the jobs of this name, or all, and prints their digests. Returns whether there are any.
 fn run(name: &str, seed: u64, count: u64) -> bool {
     let asked = JOBS.iter().filter(|job| name == "all" || name == job.0);
     let mut is_job = false;
@@ -58,7 +60,8 @@ fn run(name: &str, seed: u64, count: u64) -> bool {
     is_job
 }
 
-/// Runs what the words behind the program's name ask for. None if they ask for nothing.
+/// Runs what the arguments after the program's name request. Returns `None` if they request
+/// nothing.
 fn answer() -> Option<()> {
     let mut words = env::args().skip(1);
     let job = words.next()?;

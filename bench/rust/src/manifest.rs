@@ -1,4 +1,4 @@
-//! Manifests are put in order: the paths of two listings, each once, in canonical form.
+//! Sorts manifests: the paths of two listings, each once, in canonical form.
 use crate::digest::Digest;
 use crate::lines::Lines;
 use crate::random::Random;
@@ -6,12 +6,12 @@ use crate::tree::{noise_of, shuffled, Tree};
 use std::collections::BTreeSet;
 use std::path::{Path, PathBuf};
 
-/// The shortest path with the same parts.
+/// Returns the canonical form of the path.
 pub fn canonical(path: &Path) -> PathBuf {
     path.components().collect()
 }
 
-/// The noise for a path: one word in five gives the path another spelling.
+/// Returns the noise for a path: one word in five gives the path another spelling.
 fn noise(word: u64) -> u64 {
     if word.is_multiple_of(5) {
         noise_of(word >> 8)
@@ -20,8 +20,8 @@ fn noise(word: u64) -> u64 {
     }
 }
 
-/// The paths of `count` files as a walk over the tree gives them, and then as many in another
-/// order, of which one in ten is a file of the walk in another spelling.
+/// Returns the paths of `count` files in the order of a walk over the tree, followed by as many in
+/// another order, of which one in ten is a file of the walk in another spelling.
 fn listing(tree: Tree, seed: u64, count: u64) -> Lines {
     let mut random = Random::new(seed);
     let mut lines = Lines::default();
@@ -46,7 +46,7 @@ fn listing(tree: Tree, seed: u64, count: u64) -> Lines {
     lines
 }
 
-/// The paths as a set in canonical form.
+/// Adds the paths as a set in canonical form.
 fn order_set(paths: &[&Path], digest: &mut Digest) {
     let set: BTreeSet<PathBuf> = paths.iter().map(|path| canonical(path)).collect();
     for path in &set {
@@ -54,7 +54,7 @@ fn order_set(paths: &[&Path], digest: &mut Digest) {
     }
 }
 
-/// The paths in canonical form, sorted, and each once.
+/// Adds the paths in canonical form, sorted, each once.
 fn order_list(paths: &[&Path], digest: &mut Digest) {
     let mut list: Vec<PathBuf> = paths.iter().map(|path| canonical(path)).collect();
     list.sort();
@@ -64,7 +64,7 @@ fn order_list(paths: &[&Path], digest: &mut Digest) {
     }
 }
 
-/// Orders two manifests of twice `count` paths each, one as a set and one as a list.
+/// Sorts two manifests of `2 * count` paths each, one as a set and one as a list.
 pub fn run(seed: u64, count: u64) -> u64 {
     let mut digest = Digest::default();
     let packages = listing(Tree::new("usr/lib/packages", seed), seed, count);

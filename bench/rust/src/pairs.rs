@@ -1,4 +1,4 @@
-//! Paths are compared, matched and walked beside paths near them, and each answer is in the digest.
+//! Compares, matches and walks paths and similar paths, and adds each result to the digest.
 use crate::digest::Digest;
 use crate::lines::path_of;
 use crate::long::make_deep;
@@ -9,10 +9,11 @@ use std::cmp::Ordering;
 use std::os::unix::ffi::OsStrExt;
 use std::path::{Component, Path};
 
-/// What a byte is changed to.
+/// The bytes to which a byte is changed.
 static BYTES: [u8; 4] = [b'/', b'.', b'b', 0xFF];
 
-/// Adds the path with a separator for each slash, by three bits of the noise, from the lowest on.
+/// Appends the path with a separator for each slash, selected by three bits of the noise, from the
+/// lowest up.
 fn push_respelled(out: &mut Vec<u8>, path: &[u8], noise: u64) {
     let mut noise = noise;
     for byte in path {
@@ -25,8 +26,8 @@ fn push_respelled(out: &mut Vec<u8>, path: &[u8], noise: u64) {
     }
 }
 
-/// A part of the path, or all of it: what stands before or behind the place, the path's parent, or
-/// its file name.
+/// Returns a part of the path, or all of it: what is before or after the index, the path's parent,
+/// or its file name.
 fn part_of(path: &[u8], place: usize, word: u64) -> &[u8] {
     match word & 7 {
         0 => &path[..place],
@@ -41,8 +42,8 @@ fn bytes_of(path: &Path) -> &[u8] {
     path.as_os_str().as_bytes()
 }
 
-/// Sets the bytes to a path near the given one: to a part of it or all of it, half of them in
-/// another spelling, some with another byte at a place, and some with more behind.
+/// Sets the bytes to a path similar to the given one: to a part of it or all of it, half of the
+/// times in another spelling, sometimes with another byte at an index, and sometimes with a suffix.
 fn make_near(near: &mut Vec<u8>, path: &[u8], word: u64) {
     let place = (word >> 32) as usize % (path.len() + 1);
     let noise = if word & 1 == 0 {
@@ -64,7 +65,7 @@ fn make_near(near: &mut Vec<u8>, path: &[u8], word: u64) {
     }
 }
 
-/// Adds how two paths compare.
+/// Adds the order and the equality of two paths.
 fn compare(first: &Path, second: &Path, digest: &mut Digest) {
     digest.add_flag(first == second);
     digest.add(match first.cmp(second) {
@@ -84,7 +85,7 @@ fn match_ends(path: &Path, other: &Path, digest: &mut Digest) {
     }
 }
 
-/// Adds the kind and the bytes of a part.
+/// Adds the kind and the bytes of a component.
 fn add_part(part: Component, digest: &mut Digest) {
     digest.add(match part {
         Component::RootDir => 1,
@@ -96,8 +97,8 @@ fn add_part(part: Component, digest: &mut Digest) {
     digest.add_bytes(part.as_os_str().as_bytes());
 }
 
-/// Walks the path from both ends, each bit of `turns` a step, and adds the part that each step
-/// takes, and what it leaves.
+/// Walks the path from both ends, with one bit of `turns` for each step, and adds the component
+/// that each step takes, and the rest.
 fn walk(path: &Path, turns: u64, digest: &mut Digest) {
     let mut walk = path.components();
     let mut turns = turns;
@@ -116,7 +117,7 @@ fn walk(path: &Path, turns: u64, digest: &mut Digest) {
     }
 }
 
-/// Adds the answers for a path and one near it.
+/// Adds the results for a path and a similar one.
 fn answer(path: &[u8], near: &mut Vec<u8>, random: &mut Random, digest: &mut Digest) {
     make_near(near, path, random.next());
     let (path, other) = (path_of(path), path_of(near));
@@ -126,8 +127,8 @@ fn answer(path: &[u8], near: &mut Vec<u8>, random: &mut Random, digest: &mut Dig
     walk(other, random.next(), digest);
 }
 
-/// Answers for `count` paths, by turns files of a tree and requests, and for one in 64 a deep path
-/// beside it.
+/// Runs the job for `count` paths, alternating files of a tree and requests, and after one in 64 of
+/// them for a deep path.
 pub fn run(seed: u64, count: u64) -> u64 {
     let mut digest = Digest::default();
     let mut random = Random::new(seed);

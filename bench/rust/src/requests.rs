@@ -1,9 +1,9 @@
-//! Requests are resolved under a root, as servers and sandboxes do.
+//! Resolves requests under a root, as servers and sandboxes do.
 use crate::digest::Digest;
 use crate::lines::path_of;
 use crate::random::Random;
 use crate::tree::{noise_of, push_tag, Tree};
-use crate::within::{climbs, join_verbatim, join_within, resolved, way};
+use crate::within::{escapes, join_verbatim, join_within, relative_path, resolved};
 use std::path::Path;
 
 pub static ROOTS: [&str; 8] = [
@@ -17,10 +17,10 @@ pub static ROOTS: [&str; 8] = [
     "/",
 ];
 
-/// Hidden folders, of which one stands in front of some requests.
+/// Hidden directories, one of which begins some requests.
 static HIDDEN: [&str; 4] = [".well-known/acme", ".git/objects", ".config/app", ".cache"];
 
-/// Beginnings of requests with `..`, `.` or a root; some of them climb.
+/// Prefixes of requests, with `..`, `.` or a root; some of them escape.
 static UPS: [&str; 8] = [
     "../",
     "a/../../",
@@ -32,7 +32,7 @@ static UPS: [&str; 8] = [
     "./",
 ];
 
-/// Adds a request that a hostile client sends: `../` by the hundred, or any bytes.
+/// Appends a request that a hostile client sends: many `..`, or any bytes.
 fn push_hostile(out: &mut Vec<u8>, random: &mut Random, place: u64) {
     let word = random.next();
     push_tag(out, place);
@@ -48,8 +48,9 @@ fn push_hostile(out: &mut Vec<u8>, random: &mut Random, place: u64) {
     }
 }
 
-/// Adds a request. Most are plain paths, some with a hidden name in front; one in ten has `.`, `..`
-/// or `//`, a few climb, and a few are hostile. No two requests are the same: `place` is in each.
+/// Appends a request. Most are plain paths, some with a leading hidden name; one in ten has `.`,
+/// `..` or `//`, a few escape, and a few are hostile. No two requests are the same: each contains
+/// `place`.
 pub fn push_request(out: &mut Vec<u8>, tree: Tree, random: &mut Random, place: u64) {
     let word = random.next();
     let number = word >> 24;
@@ -75,8 +76,8 @@ pub fn push_request(out: &mut Vec<u8>, tree: Tree, random: &mut Random, place: u
     tree.push_short(out, number, noise, place);
 }
 
-/// Adds the answer to a request: the join within the root, and what follows the root in it; 0 if
-/// the request leaves the root.
+/// Adds the result for a request: the join within the root, and what follows the root in it; 0 if
+/// the request escapes.
 fn answer(root: &Path, request: &Path, digest: &mut Digest) {
     match join_within(root, request) {
         Some(path) => {
@@ -89,28 +90,28 @@ fn answer(root: &Path, request: &Path, digest: &mut Digest) {
     }
 }
 
-/// Adds the answer of those who trust no link: the verbatim join, if the request has no root, no
-/// `..` and no NUL.
+/// Adds the result for callers that trust no link: the verbatim join, if the request has no root,
+/// no `..` and no NUL.
 fn answer_verbatim_join(root: &Path, request: &Path, digest: &mut Digest) {
-    digest.add_flag(climbs(request));
+    digest.add_flag(escapes(request));
     match join_verbatim(root, request) {
         Some(path) => digest.add_path(&path),
         None => digest.add(0),
     }
 }
 
-/// Adds the answer of a mapper of links: what the request resolves to, and the way to it from a
-/// page.
+/// Adds the result for a program that maps links: what the request resolves to, and the relative
+/// path to it from a page.
 fn answer_link(page: &Path, request: &Path, digest: &mut Digest) {
     digest.add_path(&resolved(request));
-    match way(page, request) {
+    match relative_path(page, request) {
         Some(path) => digest.add_path(&path),
         None => digest.add(1),
     }
 }
 
-/// Answers `count` requests: each under three roots, and each as a link on the page of the request
-/// before it.
+/// Runs the job for `count` requests: each under three roots and verbatim under one more, and each
+/// as a link on the page of the request before it.
 pub fn run(seed: u64, count: u64) -> u64 {
     let mut digest = Digest::default();
     let mut random = Random::new(seed);

@@ -1,4 +1,4 @@
-//! A build's rules are matched against its sources.
+//! Matches a build's rules against its sources.
 use crate::digest::Digest;
 use crate::lines::{path_of, Lines};
 use crate::random::Random;
@@ -10,7 +10,8 @@ const BASES: u64 = 40;
 
 const SUFFIXES: u64 = 20;
 
-/// The folders that rules are for, one in four of them in another spelling than its sources.
+/// Returns the directories that rules are for, one in four of them in another spelling than the
+/// sources have.
 fn bases(tree: Tree, random: &mut Random) -> Vec<PathBuf> {
     let mut bases = Vec::new();
     let mut bytes = Vec::new();
@@ -28,7 +29,8 @@ fn bases(tree: Tree, random: &mut Random) -> Vec<PathBuf> {
     bases
 }
 
-/// The ends of paths that rules are for: a file's name, and at times its folder's name before it.
+/// Returns the suffixes of paths that rules are for: a file's name, and for half of them its
+/// directory's name before it.
 fn suffixes(tree: Tree, random: &mut Random) -> Lines {
     let mut suffixes = Lines::default();
     for place in 0..SUFFIXES {
@@ -49,7 +51,7 @@ fn suffixes(tree: Tree, random: &mut Random) -> Lines {
     suffixes
 }
 
-/// Adds the names that rules ask for.
+/// Adds the names that rules use.
 fn add_names(source: &Path, digest: &mut Digest) {
     digest.add_text(source.file_name());
     digest.add_text(source.file_stem());
@@ -57,7 +59,8 @@ fn add_names(source: &Path, digest: &mut Digest) {
     digest.add_text(source.file_prefix());
 }
 
-/// How many bytes stand before what differs in both paths, up to the last slash there.
+/// Returns the length of the longest common prefix of both paths that is empty or ends with a
+/// slash.
 fn common_dir(source: &Path, before: &Path) -> usize {
     let (source, before) = (source.as_os_str().as_bytes(), before.as_os_str().as_bytes());
     let pairs = source.iter().zip(before);
@@ -66,7 +69,8 @@ fn common_dir(source: &Path, before: &Path) -> usize {
     slash.map_or(0, |place| place + 1)
 }
 
-/// The last of the bases that the source is below. All are asked, as `crates/path_jobs` does.
+/// Returns the last of the bases that the source is below. All are checked, as in
+/// `crates/path_jobs`.
 fn base_of<'a>(source: &Path, bases: &'a [PathBuf]) -> Option<&'a Path> {
     let mut found = None;
     for base in bases {
@@ -77,27 +81,28 @@ fn base_of<'a>(source: &Path, bases: &'a [PathBuf]) -> Option<&'a Path> {
     found
 }
 
-/// How many of the suffixes the source ends with.
+/// Returns the number of suffixes that the source ends with.
 fn suffix_count(source: &Path, suffixes: &[&Path]) -> usize {
     let ends = suffixes.iter().filter(|suffix| source.ends_with(suffix));
     ends.count()
 }
 
-/// The output of a source: what is behind the base, below another folder, with another extension.
+/// Returns the output of a source: what follows the base, below another directory, with another
+/// extension.
 fn output_of(source: &Path, base: &Path) -> PathBuf {
     let rest = source.strip_prefix(base).unwrap_or(source);
     let object = Path::new("/work/out/debug/objects").join(rest);
     object.with_extension("o")
 }
 
-/// The list of what a source depends on, beside it.
+/// Returns the path of a source's list of dependencies, in the same directory.
 fn list_of(source: &Path) -> PathBuf {
     let mut list = source.with_file_name("depends");
     list.add_extension("d");
     list
 }
 
-/// Adds where the source stands: how deep, and how much it shares with the source before it.
+/// Adds the position of the source: its depth, and how much it shares with the source before it.
 fn add_place(source: &Path, before: &Path, digest: &mut Digest) {
     for folder in source.ancestors() {
         digest.add(folder.as_os_str().len() as u64);

@@ -1,29 +1,29 @@
-//! Requests are joined below roots as a server does that makes its roots once, checks each request
-//! once, and joins it in a buffer that it keeps.
+//! Joins requests below roots like a server that creates its roots once, checks each request once,
+//! and joins it in a buffer that it keeps.
 use crate::digest::Digest;
 use crate::lines::path_of;
 use crate::random::Random;
 use crate::requests::{push_request, ROOTS};
 use crate::tree::Tree;
-use crate::within::{climbs, push_resolved, resolved};
+use crate::within::{escapes, push_resolved, resolved};
 use std::os::unix::ffi::OsStrExt;
 use std::path::{Path, PathBuf};
 
-/// Why a request is refused, as the number that stands for it in the digest.
+/// The reason why a request is refused, as the number that represents it in the digest.
 #[derive(Clone, Copy)]
 enum Refusal {
     Rooted = 1,
-    Climbs = 2,
+    Escapes = 2,
     Nul = 3,
 }
 
-/// Sets `names` to the names that the request stands for: the request, resolved.
+/// Sets `names` to the names of the resolved request.
 fn check(request: &Path, names: &mut PathBuf) -> Result<(), Refusal> {
     if request.has_root() {
         return Err(Refusal::Rooted);
     }
-    if climbs(request) {
-        return Err(Refusal::Climbs);
+    if escapes(request) {
+        return Err(Refusal::Escapes);
     }
     if request.as_os_str().as_bytes().contains(&0) {
         return Err(Refusal::Nul);
@@ -51,8 +51,8 @@ fn answer(root: &Path, file: &mut PathBuf, names: &Path, digest: &mut Digest) {
     }
 }
 
-/// Answers the requests of the job `requests` with this seed and count, each below the same roots:
-/// three that are resolved, and one as it stands.
+/// Runs the job for the requests of the job `requests` with this seed and count, each below the
+/// same roots: three that are resolved, and one verbatim.
 pub fn run(seed: u64, count: u64) -> u64 {
     let mut digest = Digest::default();
     let mut random = Random::new(seed);

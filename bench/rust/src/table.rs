@@ -1,4 +1,4 @@
-//! A tree of files in memory is filled, looked up and listed below its folders.
+//! Fills a tree of files in memory, looks files up and lists directories.
 use crate::digest::Digest;
 use crate::lines::path_of;
 use crate::random::Random;
@@ -10,14 +10,14 @@ use std::path::{Path, PathBuf};
 /// A table of paths, each with the number of its file.
 pub type Table = BTreeMap<PathBuf, u64>;
 
-/// The path of a file, made in a buffer that keeps its memory.
+/// Returns the path of a file, made in a buffer that keeps its memory.
 pub fn path_in<'a>(buffer: &'a mut Vec<u8>, tree: Tree, number: u64, noise: u64) -> &'a Path {
     buffer.clear();
     tree.push(buffer, number, noise);
     path_of(buffer)
 }
 
-/// A table of `count` files, inserted in an order that looks random.
+/// Returns a table of `count` files, inserted in an order that looks random.
 pub fn filled(tree: Tree, seed: u64, count: u64) -> Table {
     let mut buffer = Vec::new();
     let mut table = Table::new();
@@ -28,8 +28,8 @@ pub fn filled(tree: Tree, seed: u64, count: u64) -> Table {
     table
 }
 
-/// Looks up each file by another spelling of its path. One look-up in three is of a path in the
-/// same folder at which no file stands.
+/// Looks up each file by another spelling of its path. One lookup in three is of a path in the same
+/// directory at which there is no file.
 pub fn look_up(tree: Tree, table: &Table, seed: u64, count: u64) -> u64 {
     let mut buffer = Vec::new();
     let mut random = Random::new(seed);
@@ -45,7 +45,7 @@ pub fn look_up(tree: Tree, table: &Table, seed: u64, count: u64) -> u64 {
     sum
 }
 
-/// Removes every eighth file that was put in.
+/// Removes every eighth file that was inserted.
 pub fn remove(tree: Tree, table: &mut Table, seed: u64, count: u64) -> u64 {
     let mut buffer = Vec::new();
     let mut sum = 0_u64;
@@ -58,7 +58,8 @@ pub fn remove(tree: Tree, table: &mut Table, seed: u64, count: u64) -> u64 {
     sum
 }
 
-/// Lists what is below some folders: all large ones, and one in eight of those with 16 files.
+/// Lists the entries below some directories: below all large ones, and below one in eight of the
+/// directories with 16 files.
 fn list_below(tree: Tree, table: &Table, count: u64, digest: &mut Digest) {
     let mut buffer = Vec::new();
     for place in 0..count / 32 {
@@ -77,8 +78,8 @@ fn list_below(tree: Tree, table: &Table, count: u64, digest: &mut Digest) {
     }
 }
 
-/// Looks up each file's number in a map by hash, by another spelling of its path. One look-up in
-/// three is of a path in the same folder at which no file stands.
+/// Looks up each file's number in a hash map, by another spelling of its path. One lookup in three
+/// is of a path in the same directory at which there is no file.
 fn find_by_hash(tree: Tree, table: &Table, random: &mut Random) -> u64 {
     let mut numbers: HashMap<PathBuf, u64> = HashMap::new();
     for (path, number) in table {
@@ -97,8 +98,8 @@ fn find_by_hash(tree: Tree, table: &Table, random: &mut Random) -> u64 {
     sum
 }
 
-/// Fills a table with `count` files, looks up each, lists some folders, removes some files, and
-/// looks up the others by hash.
+/// Fills a table with `count` files, looks up each, lists some directories, removes some files, and
+/// looks up the other files in a hash map.
 pub fn run(seed: u64, count: u64) -> u64 {
     let mut digest = Digest::default();
     let mut random = Random::new(seed ^ (1 << 32));

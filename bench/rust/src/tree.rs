@@ -1,4 +1,5 @@
-//! The paths of a made-up tree of files, each told by its number, as `crates/path_jobs` makes them.
+//! The paths of a synthetic file tree, as `crates/path_jobs` makes them. A file is identified by
+//! its number.
 use crate::random::mix;
 
 #[rustfmt::skip]
@@ -18,15 +19,15 @@ static ENDINGS: [&str; 16] = [
     ".o", ".txt", ".so.1", ".js",
 ];
 
-/// A tree of 2^20 files below one folder, whose names the seed makes.
+/// A tree of 2^20 files below one directory, whose names are derived from the seed.
 #[derive(Clone, Copy)]
 pub struct Tree<'a> {
     prefix: &'a str,
     seed: u64,
 }
 
-/// What stands between two names or behind the last one: `/`, or more if the lowest three bits of
-/// `noise` are 5 or greater.
+/// Returns the separator between two names or after the last one: `/`, or more if the lowest three
+/// bits of `noise` are 5 or greater.
 pub fn separator(noise: u64) -> &'static str {
     match noise & 7 {
         5 => "//",
@@ -36,7 +37,7 @@ pub fn separator(noise: u64) -> &'static str {
     }
 }
 
-/// Noise that gives a path another spelling, in one or two places.
+/// Returns noise that gives a path another spelling, in one or two places.
 pub fn noise_of(random: u64) -> u64 {
     let first = match (random >> 8) & 3 {
         0 => 5 + random % 3,
@@ -51,7 +52,7 @@ fn push_text(out: &mut Vec<u8>, text: &str) {
     out.extend_from_slice(text.as_bytes());
 }
 
-/// Adds a dot and the lowest 24 bits of the tag as six letters.
+/// Appends a dot and the lowest 24 bits of the tag as six letters.
 pub fn push_tag(out: &mut Vec<u8>, tag: u64) {
     out.push(b'.');
     out.extend((0..6).map(|place| b'a' + ((tag >> (4 * place)) & 15) as u8));
@@ -63,8 +64,8 @@ impl<'a> Tree<'a> {
         Tree { prefix, seed }
     }
 
-    /// Adds a name of one or two words. `place` tells the file or folder from others; of the 64
-    /// words the first one is among the `span` that begin at `first`.
+    /// Appends a name of one or two words. `place` identifies the file or directory. The first word
+    /// is among the `span` of the 64 words that begin at `first`.
     fn push_name(self, out: &mut Vec<u8>, place: u64, first: u64, span: u64) {
         let random = mix(self.seed ^ place);
         push_text(out, WORDS[((first + random % span) & 63) as usize]);
@@ -74,7 +75,7 @@ impl<'a> Tree<'a> {
         }
     }
 
-    /// Adds the names of the folders of a file, each with a separator before it.
+    /// Appends the names of the directories of a file, each with a separator before it.
     fn push_folders(self, out: &mut Vec<u8>, number: u64, noise: u64) {
         push_text(out, separator(noise));
         self.push_name(
@@ -99,7 +100,7 @@ impl<'a> Tree<'a> {
         );
     }
 
-    /// Adds the names of a file's inner folders, each with a separator before it.
+    /// Appends the names of a file's inner directories, each with a separator before it.
     fn push_inner(self, out: &mut Vec<u8>, number: u64, noise: u64) {
         push_text(out, separator(noise >> 9));
         self.push_name(
@@ -114,13 +115,13 @@ impl<'a> Tree<'a> {
         self.push_name(out, (6 << 32) | (number >> 4), ((number >> 4) & 7) << 3, 8);
     }
 
-    /// Whether the file stands in a folder of 8,192 files, as one in eight does. The others stand
-    /// in folders of 16.
+    /// Returns true if the file is in a directory of 8,192 files, as one in eight is. The other
+    /// files are in directories of 16.
     pub fn is_in_large(self, number: u64) -> bool {
         mix(self.seed ^ (number >> 13)) & 7 == 0
     }
 
-    /// Adds a file's name and its ending. One in a hundred has a byte that is no UTF-8.
+    /// Appends a file's name and its ending. One name in a hundred has an invalid byte.
     fn push_file(self, out: &mut Vec<u8>, number: u64, is_in_large: bool) {
         let random = mix(self.seed ^ ((7 << 32) | number));
         let place = (8 << 32) | number;
@@ -137,9 +138,9 @@ impl<'a> Tree<'a> {
         push_text(out, ENDINGS[((random >> 32) & 15) as usize]);
     }
 
-    /// Adds the path of a file, with the folder of the tree. Without noise the spelling is
-    /// canonical. Each separator has three bits of the noise, from the lowest on, and what stands
-    /// behind the file's name those from the 22nd on.
+    /// Appends the path of a file, with the directory of the tree. Without noise, the path is in
+    /// canonical form. Each separator uses three bits of the noise, from the lowest up; the
+    /// separator after the file's name uses three bits from the 22nd on.
     pub fn push(self, out: &mut Vec<u8>, number: u64, noise: u64) {
         let is_in_large = self.is_in_large(number);
         push_text(out, self.prefix);
@@ -154,13 +155,13 @@ impl<'a> Tree<'a> {
         }
     }
 
-    /// Adds a name that goes by the highest bits of the number.
+    /// Appends a name determined by the highest bits of the number.
     pub fn push_first(self, out: &mut Vec<u8>, number: u64) {
         self.push_name(out, (9 << 32) | (number >> 12), 0, 64);
     }
 
-    /// Adds one to five names that go by the number, each with a separator before it, a tag and an
-    /// ending.
+    /// Appends one to five names determined by the number, each with a separator before it, a tag
+    /// and an ending.
     pub fn push_short(self, out: &mut Vec<u8>, number: u64, noise: u64, tag: u64) {
         for level in 0..1 + number % 5 {
             push_text(out, separator(noise >> (3 * level)));
@@ -171,7 +172,7 @@ impl<'a> Tree<'a> {
     }
 }
 
-/// The number of a file, another one for each place below 2^19. These places give all even numbers,
+/// Returns the number of a file. The places below 2^19 have all even numbers below 2^20, each once,
 /// in an order that looks random.
 pub fn shuffled(place: u64, seed: u64) -> u64 {
     (place.wrapping_mul(0x9E37_79B9).wrapping_add(seed) & 0x7_FFFF) << 1

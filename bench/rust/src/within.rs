@@ -1,9 +1,9 @@
-//! Paths from outside by names alone, for which `std::path` has no calls.
+//! Paths from outside, lexically, for which `std::path` has no calls.
 use std::os::unix::ffi::OsStrExt;
 use std::path::{Component, Path, PathBuf};
 
-/// Adds the parts to a resolved path: `..` takes away the name before it, and is dropped behind the
-/// root.
+/// Appends the components to a resolved path: `..` removes the name before it, and is dropped after
+/// the root.
 pub fn push_resolved<'a>(kept: &mut PathBuf, parts: impl Iterator<Item = Component<'a>>) {
     for part in parts {
         match part {
@@ -17,15 +17,15 @@ pub fn push_resolved<'a>(kept: &mut PathBuf, parts: impl Iterator<Item = Compone
     }
 }
 
-/// The path with each `..` dropped together with the name before it.
+/// Returns the path with each `..` dropped together with the name before it.
 pub fn resolved(path: &Path) -> PathBuf {
     let mut kept = PathBuf::with_capacity(path.as_os_str().len());
     push_resolved(&mut kept, path.components());
     kept
 }
 
-/// Whether the path has a root or, read from the left, ever goes above where it starts.
-pub fn climbs(path: &Path) -> bool {
+/// Returns true if the path has a root, or some prefix of its components has more `..` than names.
+pub fn escapes(path: &Path) -> bool {
     let mut depth = 0_usize;
     for part in path.components() {
         match part {
@@ -38,9 +38,9 @@ pub fn climbs(path: &Path) -> bool {
     false
 }
 
-/// The request joined to the root and resolved; `None` if it climbs.
+/// Returns the request joined to the root and resolved, or `None` if it escapes.
 pub fn join_within(root: &Path, request: &Path) -> Option<PathBuf> {
-    if climbs(request) {
+    if escapes(request) {
         return None;
     }
     let len = root.as_os_str().len() + 1 + request.as_os_str().len();
@@ -49,8 +49,8 @@ pub fn join_within(root: &Path, request: &Path) -> Option<PathBuf> {
     Some(kept)
 }
 
-/// The request joined to the root, both as they stand; `None` if the request has a root, a `..` or
-/// a NUL.
+/// Returns the request joined to the root, both verbatim, or `None` if the request has a root, a
+/// `..` or a NUL.
 pub fn join_verbatim(root: &Path, request: &Path) -> Option<PathBuf> {
     let leaves = |part| matches!(part, Component::RootDir | Component::ParentDir);
     if request.components().any(leaves) || request.as_os_str().as_bytes().contains(&0) {
@@ -59,22 +59,23 @@ pub fn join_verbatim(root: &Path, request: &Path) -> Option<PathBuf> {
     Some(root.join(request))
 }
 
-/// The way from one path to another by names: `..` for each name that is left of the first, and
-/// then what is left of the other. `None` if no path without a root leads there.
-pub fn way(from: &Path, to: &Path) -> Option<PathBuf> {
+/// Returns the relative path from one path to another, lexically: `..` for each name that remains
+/// of the first, followed by what remains of the other. Returns `None` if no path without a root
+/// leads there.
+pub fn relative_path(from: &Path, to: &Path) -> Option<PathBuf> {
     let (from, to) = (resolved(from), resolved(to));
     if from.has_root() != to.has_root() {
         return None;
     }
     let pairs = from.components().zip(to.components());
     let shared = pairs.take_while(|(left, right)| left == right).count();
-    let mut way = PathBuf::with_capacity(from.as_os_str().len() + to.as_os_str().len());
+    let mut steps = PathBuf::with_capacity(from.as_os_str().len() + to.as_os_str().len());
     for part in from.components().skip(shared) {
         if part == Component::ParentDir {
             return None;
         }
-        way.push("..");
+        steps.push("..");
     }
-    way.extend(to.components().skip(shared));
-    Some(way)
+    steps.extend(to.components().skip(shared));
+    Some(steps)
 }

@@ -1,14 +1,16 @@
-//! Paths that are made of others, in a buffer that the caller passes.
+//! Functions that make a path and write it to a buffer that the caller passes.
 //!
-//! The answer stands at the beginning of the buffer, and the bytes behind it stay as they were. If
-//! a call fails, nothing is written. None allocates.
+//! A function writes its result to the beginning of the buffer and returns it. The rest of the
+//! buffer is unchanged, and so is all of it if the function fails. Each function fails with
+//! [`Error::Short`] if the buffer is too short for the result and no other error applies. Only the
+//! other errors are named below.
 use crate::error::Error;
 use crate::ffi::{Make, MakeOfTwo};
 
-/// `path` joined to `base`: `path` alone if it has a root; else `base` and `path`, with a slash
-/// between them if one is missing.
+/// Joins two trusted paths; for a request from outside use [`join_beneath`].
 ///
-/// Fails only with `Short`. Does not allocate. As Rust's `Path::join`.
+/// The result is `path` if it has a root; otherwise it is `base` and `path`, with a slash between
+/// them if one is missing. Nothing is resolved, so `..` may lead out of the base.
 ///
 /// ```
 /// let mut out = [0; 16];
@@ -20,9 +22,8 @@ pub fn join<'o>(base: &[u8], path: &[u8], out: &'o mut [u8]) -> Result<&'o [u8],
     MakeOfTwo::JOIN.write(base, path, out)
 }
 
-/// The path with `name` in place of its file name, or with `name` joined to it if it has none.
-///
-/// Fails only with `Short`. Does not allocate. As Rust's `Path::with_file_name`.
+/// Replaces the file name of the path with `name`, or joins `name` to the path if it has no file
+/// name.
 ///
 /// ```
 /// let mut out = [0; 16];
@@ -33,12 +34,12 @@ pub fn with_file_name<'o>(path: &[u8], name: &[u8], out: &'o mut [u8]) -> Result
     MakeOfTwo::WITH_FILE_NAME.write(path, name, out)
 }
 
-/// The path with `extension` in place of its own, or added if it has none. An empty `extension`
-/// takes the old one away. A path without a file name stays as it is.
+/// Replaces the extension of the file name, or adds `extension` if it has none. An empty
+/// `extension` removes the old one. A path without a file name is unchanged.
 ///
-/// Fails with `Separator` exactly if the extension has a slash, and with `Short`. Does not
-/// allocate. As Rust's `Path::with_extension`, except that Rust's panics for a separator, and gives
-/// `..` for `..a` whatever the extension is.
+/// Fails with `Separator` if and only if the extension contains a slash. Rust's
+/// `Path::with_extension` panics for a separator, and returns `..` for `..a` whatever the extension
+/// is.
 ///
 /// ```
 /// use unix_path_rattle::{with_extension, Error};
@@ -55,11 +56,11 @@ pub fn with_extension<'o>(
     MakeOfTwo::WITH_EXTENSION.write(path, extension, out)
 }
 
-/// The path with `extension` added to its file name, behind a dot. A path without a file name stays
-/// as it is, and so does each path if the extension is empty.
+/// Appends a dot and `extension` to the file name. An empty `extension` changes nothing. A path
+/// without a file name is unchanged.
 ///
-/// Fails with `Separator` exactly if the extension has a slash, and with `Short`. Does not
-/// allocate. As Rust's `Path::with_added_extension`, which panics for a separator.
+/// Fails with `Separator` if and only if the extension contains a slash. Rust's
+/// `Path::with_added_extension` panics for a separator.
 ///
 /// ```
 /// use unix_path_rattle::{with_added_extension, Error};
@@ -76,10 +77,10 @@ pub fn with_added_extension<'o>(
     MakeOfTwo::WITH_ADDED_EXTENSION.write(path, extension, out)
 }
 
-/// The shortest path with the same parts.
+/// Writes the canonical form of the path: the shortest path with the same components.
 ///
-/// It has at most as many bytes as the path. Fails only with `Short`. Does not allocate. As
-/// `path.components().collect::<PathBuf>()` in Rust.
+/// Its length is at most `path.len()`. Equivalent to `path.components().collect::<PathBuf>()` in
+/// Rust.
 ///
 /// ```
 /// let mut out = [0; 16];
@@ -90,10 +91,9 @@ pub fn canonical<'o>(path: &[u8], out: &'o mut [u8]) -> Result<&'o [u8], Error> 
     Make::CANONICAL.write(path, out)
 }
 
-/// The path as UTF-8, with U+FFFD for what isn't.
+/// Writes the path as valid UTF-8, with U+FFFD in place of invalid bytes.
 ///
-/// It has at most three times as many bytes as the path. Fails only with `Short`. Does not
-/// allocate. As Rust's `Path::to_string_lossy`.
+/// Its length is at most `3 * path.len()`.
 ///
 /// ```
 /// let mut out = [0; 16];
@@ -105,13 +105,14 @@ pub fn to_string_lossy<'o>(path: &[u8], out: &'o mut [u8]) -> Result<&'o [u8], E
     Make::TO_STRING_LOSSY.write(path, out)
 }
 
-/// The path with each `..` dropped together with the name before it, in canonical spelling: `.` is
-/// dropped too, and so is `..` behind the root. Without a root, a `..` with no name before it stays
-/// in front. An answer of no bytes stands for the current directory.
+/// Resolves each `..` lexically: it is dropped together with the name before it.
 ///
-/// It goes by names alone: if a part before a `..` may be a link, only the system knows where that
-/// `..` leads. It has at most as many bytes as the path. Fails only with `Short`. Does not allocate.
-/// Not in Rust's std.
+/// The result is in canonical form: each `.` is dropped too, and so is a `..` after the root.
+/// Without a root, a `..` with no name before it stays, at the beginning of the result. An empty
+/// result means the current directory. Its length is at most `path.len()`.
+///
+/// Symbolic links are not followed: if a component before a `..` is one, the result may name
+/// another file.
 ///
 /// ```
 /// let mut out = [0; 16];
@@ -123,13 +124,64 @@ pub fn resolved<'o>(path: &[u8], out: &'o mut [u8]) -> Result<&'o [u8], Error> {
     Make::RESOLVED.write(path, out)
 }
 
-/// The request joined to the root, both verbatim, so that it only goes down from the root by its
-/// names.
+/// Joins a request that must stay beneath the root, such as an entry of an archive.
 ///
-/// It is for roots that may be or contain links: each `..` of the root stays. It has at most one
-/// byte more than both. Fails with `Escapes` if and only if the request has a root or a `..`;
-/// otherwise with `Nul` if and only if the request has a NUL byte, at which a system call would cut
-/// the answer; and with `Short`. Does not allocate. Not in Rust's std.
+/// The result is the root verbatim, and after it the names that the request resolves to, with a
+/// slash between two of them and, where one is needed, after the root. After the root there is no
+/// `..`, no `.`, no NUL and no trailing slash. If the request has no name, the result is the root
+/// itself; [`request_is_root`](crate::request_is_root) checks for this. If the root is empty too,
+/// the result is empty and means the current directory. Its length is at most `root.len() + 1 +
+/// request.len()`.
+///
+/// Fails with `Escapes` if and only if the request escapes: it has a root, or its `..` lead above
+/// where it starts. Otherwise fails with `Nul` if and only if the request has a NUL byte, at which
+/// a system call would cut the result. [`check_request`](crate::check_request) returns why a
+/// request is refused, without joining it.
+///
+/// The request is resolved lexically: if a component below the root may be a link, let the system
+/// refuse links. The root is not resolved. To resolve its `..` too, call [`resolved`] once and pass
+/// the result.
+///
+/// ```
+/// use unix_path_rattle::{join_beneath, Error};
+/// let mut out = [0; 16];
+/// assert_eq!(join_beneath(b"/srv/", b"a/..//b/", &mut out), Ok(&b"/srv/b"[..]));
+/// assert_eq!(join_beneath(b"/srv", b"../b", &mut out), Err(Error::Escapes));
+/// assert_eq!(join_beneath(b"/srv", b"/b", &mut out), Err(Error::Escapes));
+/// assert_eq!(join_beneath(b"/srv", b"b\0.png", &mut out), Err(Error::Nul));
+/// ```
+#[inline]
+pub fn join_beneath<'o>(root: &[u8], request: &[u8], out: &'o mut [u8]) -> Result<&'o [u8], Error> {
+    MakeOfTwo::JOIN_BENEATH.write(root, request, out)
+}
+
+/// Joins a request as in a chroot, such as the decoded path of a URL.
+///
+/// The request is read as by a process whose root directory is the root. This is [`join_beneath`],
+/// except that leading slashes are dropped, and a `..` at the root stays at the root, so no request
+/// escapes. A server that should refuse such a `..` calls [`join_beneath`] with what follows the
+/// leading slashes.
+///
+/// Fails with `Nul` if and only if the request has a NUL byte.
+///
+/// ```
+/// use unix_path_rattle::{join_in_root, Error};
+/// let mut out = [0; 16];
+/// assert_eq!(join_in_root(b"/srv", b"/a/../../b/", &mut out), Ok(&b"/srv/b"[..]));
+/// assert_eq!(join_in_root(b"/srv", b"..\0/b", &mut out), Err(Error::Nul));
+/// ```
+#[inline]
+pub fn join_in_root<'o>(root: &[u8], request: &[u8], out: &'o mut [u8]) -> Result<&'o [u8], Error> {
+    MakeOfTwo::JOIN_IN_ROOT.write(root, request, out)
+}
+
+/// Joins root and request verbatim, for a root that is a link or may contain links.
+///
+/// The system follows links below the root wherever they lead. Each `..` in the root stays. The
+/// result's length is at most `root.len() + 1 + request.len()`.
+///
+/// Fails with `Escapes` if and only if the request has a root or a `..`. Otherwise fails with `Nul`
+/// if and only if the request has a NUL byte, at which a system call would cut the result.
 ///
 /// ```
 /// use unix_path_rattle::{join_verbatim, Error};
@@ -147,22 +199,25 @@ pub fn join_verbatim<'o>(
     MakeOfTwo::JOIN_VERBATIM.write(root, request, out)
 }
 
-/// The way from one path to another by names: of both resolved, without the parts that they then
-/// both begin with, `..` for each name that is left of the first, and then what is left of the
-/// other. A way of no bytes stands for the current directory.
+/// Finds the relative path from one path to another, lexically.
 ///
-/// It goes by names alone: if a part may be a link, only the system knows where `..` leads. Fails
-/// with `NoWay` if and only if one path has a root and the other has none, or a `..` is left of the
-/// first: then no path without a root leads there; and with `Short`. Does not allocate. Not in
-/// Rust's std.
+/// Both paths are resolved, and the components that both then start with are dropped. The result is
+/// a `..` for each name that remains of the first path, followed by what remains of the other. An
+/// empty result means the current directory. Its length is at most `3 * (from.len() + 1) / 2 +
+/// to.len()`.
+///
+/// Symbolic links are not followed: if a component is one, the result may lead elsewhere.
+///
+/// Fails with `NoRelativePath` if and only if one path has a root and the other has none, or a `..`
+/// remains of the first: then no path without a root leads there.
 ///
 /// ```
-/// use unix_path_rattle::{way, Error};
+/// use unix_path_rattle::{relative_path, Error};
 /// let mut out = [0; 16];
-/// assert_eq!(way(b"/a/b/c", b"/a/d", &mut out), Ok(&b"../../d"[..]));
-/// assert_eq!(way(b"../x", b"y", &mut out), Err(Error::NoWay));
+/// assert_eq!(relative_path(b"/a/b/c", b"/a/d", &mut out), Ok(&b"../../d"[..]));
+/// assert_eq!(relative_path(b"../x", b"y", &mut out), Err(Error::NoRelativePath));
 /// ```
 #[inline]
-pub fn way<'o>(from: &[u8], to: &[u8], out: &'o mut [u8]) -> Result<&'o [u8], Error> {
-    MakeOfTwo::WAY.write(from, to, out)
+pub fn relative_path<'o>(from: &[u8], to: &[u8], out: &'o mut [u8]) -> Result<&'o [u8], Error> {
+    MakeOfTwo::RELATIVE_PATH.write(from, to, out)
 }

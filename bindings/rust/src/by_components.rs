@@ -1,10 +1,10 @@
-//! Paths as keys of maps: equal if their parts are.
+//! Paths as keys of maps: equal if their components are.
 use core::cmp::Ordering;
 use core::hash::{Hash, Hasher};
 
-/// Bytes that are compared, ordered and hashed as paths, by their parts.
+/// Bytes that are compared, ordered and hashed as paths, by their components.
 ///
-/// Not in Rust's std, where `Path` itself is compared, ordered and hashed by its parts.
+/// In Rust's std, `Path` itself is compared, ordered and hashed this way.
 ///
 /// ```
 /// use std::collections::BTreeMap;
@@ -39,9 +39,9 @@ impl<P: AsRef<[u8]>> Ord for ByComponents<P> {
     }
 }
 
-/// Feeds the hasher each part, and an end after the last, as [`Components`](crate::Components)
-/// does: equal paths feed it the same, and if it has a key, that decides which other paths, or
-/// lists of paths, collide.
+/// Feeds the hasher each component, and then an end, as [`Components`](crate::Components) does.
+/// Equal paths feed it the same bytes. If the hasher is keyed, its key determines which different
+/// paths, or lists of paths, collide.
 impl<P: AsRef<[u8]>> Hash for ByComponents<P> {
     #[inline]
     fn hash<H: Hasher>(&self, state: &mut H) {

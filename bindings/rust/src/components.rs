@@ -1,18 +1,18 @@
-//! The parts of a path, one by one from either end.
+//! The components of a path, from either end.
 use crate::ffi::{Part, Step, Walk};
 use core::cmp::Ordering;
 use core::fmt;
 use core::hash::{Hash, Hasher};
 use core::iter::FusedIterator;
 
-/// A part of a path. The order of parts is that of the variants, and that of names is by bytes.
+/// A component of a path. Components are ordered by variant, and names by their bytes.
 ///
-/// As Rust's `std::path::Component`, without prefixes.
+/// Like `std::path::Component`, without prefixes.
 #[derive(Clone, Copy, PartialEq, Eq, PartialOrd, Ord)]
 pub enum Component<'a> {
     /// The root: the path begins with `/`.
     RootDir,
-    /// A `.` that stands first. Others are dropped.
+    /// A leading `.`; any other is dropped.
     CurDir,
     /// A `..`, which is kept.
     ParentDir,
@@ -21,7 +21,8 @@ pub enum Component<'a> {
 }
 
 impl<'a> Component<'a> {
-    /// The part's bytes: `/`, `.`, `..` or the name. As Rust's `Component::as_os_str`.
+    /// Returns the component's bytes: `/`, `.`, `..` or the name. Like `Component::as_os_str` of
+    /// Rust.
     ///
     /// ```
     /// use unix_path_rattle::Component;
@@ -39,7 +40,7 @@ impl<'a> Component<'a> {
         }
     }
 
-    /// The component that a part of this path is, as the library gave it.
+    /// Returns the component for a part of this path that the library returned.
     #[inline]
     fn from_part(part: Part, path: &'a [u8]) -> Option<Component<'a>> {
         match part.kind {
@@ -52,7 +53,7 @@ impl<'a> Component<'a> {
     }
 }
 
-/// The variant, and a name between quotes with its bytes as ASCII text, or escaped.
+/// Writes the variant, and a name in quotes with its bytes as ASCII text, or escaped.
 ///
 /// ```
 /// use unix_path_rattle::Component;
@@ -72,8 +73,8 @@ impl fmt::Debug for Component<'_> {
     }
 }
 
-/// The hasher is fed the part's bytes, and a slash behind them, which no name of a path has: the
-/// parts of two paths feed it the same bytes only if the paths are equal.
+/// Feeds the hasher the component's bytes and then a slash, which no name contains. The components
+/// of two paths feed it the same bytes only if the paths are equal.
 impl Hash for Component<'_> {
     #[inline]
     fn hash<H: Hasher>(&self, state: &mut H) {
@@ -82,10 +83,11 @@ impl Hash for Component<'_> {
     }
 }
 
-/// A walk over the parts of a path, from either end; [`components`](crate::components) begins one.
+/// An iterator over the components of a path, from either end, returned by
+/// [`components`](crate::components).
 ///
-/// It holds the path and two places in it, and no method of it allocates. Two walks are compared by
-/// the parts that they have left, and a walk is hashed by those. As Rust's `std::path::Components`.
+/// It contains the path and two offsets, and no method allocates. Two walks are compared, and a
+/// walk is hashed, by the components that remain.
 #[derive(Clone)]
 pub struct Components<'a> {
     path: &'a [u8],
@@ -101,9 +103,8 @@ impl<'a> Components<'a> {
         }
     }
 
-    /// What is left of the path, from the start of the first part left to the end of the last.
-    ///
-    /// As Rust's `Components::as_path`.
+    /// Returns the rest of the path, from the start of the first remaining component to the end of
+    /// the last.
     ///
     /// ```
     /// let mut parts = unix_path_rattle::components(b"/tmp//foo/./bar.txt/");
@@ -171,9 +172,9 @@ impl Ord for Components<'_> {
     }
 }
 
-/// Feeds the hasher each part that is left, and then a slash and a NUL, with which no part begins.
-/// So the bytes of one walk are never a prefix of those of a walk over other parts, and two tuples
-/// of paths feed the same bytes only if they are equal.
+/// Feeds the hasher each remaining component, and then a slash and a NUL, with which the bytes of
+/// no component begin. So the bytes of one walk are never a prefix of the bytes of a walk over
+/// other components, and two tuples of paths feed the same bytes only if they are equal.
 impl Hash for Components<'_> {
     #[inline]
     fn hash<H: Hasher>(&self, state: &mut H) {

@@ -1,22 +1,22 @@
-//! The edits of a path that is kept in a `Vec`, which stays as it was if one fails.
+//! Edits of a path in a `Vec`. If an edit fails, the path is unchanged.
 //!
-//! Each fails with [`Error::NoMemory`] if an allocation failed, and never with [`Error::Short`].
-//! `set_file_name` and `set_extension` allocate if the vector has no room for the answer, and also
-//! if path and argument have more than 255 bytes together.
+//! Each fails with [`Error::NoMemory`] if an allocation fails, and never with [`Error::Short`].
+//! `set_file_name` and `set_extension` allocate if the vector has no capacity for the result, and
+//! also if the path and the argument have more than 255 bytes together.
 use crate::error::Error;
 use crate::ffi::MakeOfTwo;
 use crate::owned::vec_with_room;
 use crate::queries::{file_name, is_absolute, parent};
 use alloc::vec::Vec;
 
-/// Answers that may have at most this many bytes are made on the stack, and then copied.
+/// Results of at most this many bytes are made on the stack and then copied.
 const SHORT: usize = 256;
 
-/// Joins another path to the path, which becomes the other if that has a root.
+/// Joins another path to the path, or replaces the path if the other has a root.
 ///
-/// Allocates only if the vector has no room for one byte more than both have; if it has to grow, it
-/// grows as in [`Vec::reserve`]. Takes as long as the other path, and not as the path. As Rust's
-/// `PathBuf::push`.
+/// Allocates only if the vector has no capacity for `path.len() + 1 + other.len()` bytes; if it has
+/// to grow, it grows as in [`Vec::reserve`]. The running time depends on the length of the other
+/// path, not of the path.
 ///
 /// ```
 /// use unix_path_rattle::edits::push;
@@ -35,17 +35,15 @@ pub fn push(path: &mut Vec<u8>, other: &[u8]) -> Result<(), Error> {
     }
     let more = other.len() + 1;
     path.try_reserve(more).map_err(|_| Error::NoMemory)?;
-    // What stands before the last byte changes nothing: a join asks whether there is a last byte,
-    // and whether it is a slash. The library writes that byte again.
+    // A join depends only on the last byte of the base: whether there is one, and whether it is a
+    // slash. So only this byte is passed as the base, and the library writes it again.
     let last = path.last().copied();
     let base = last.as_slice();
     MakeOfTwo::JOIN.fill_behind(path, path.len() - base.len(), base, other)
 }
 
-/// Takes the last part away, with what stands behind the part before it; false, and nothing
-/// changes, if there is none or it is the root.
-///
-/// Does not allocate. As Rust's `PathBuf::pop`.
+/// Shortens the path to its parent, which removes the last component. Returns false and changes
+/// nothing if the path has no component, or only the root. Does not allocate.
 ///
 /// ```
 /// use unix_path_rattle::edits::pop;
@@ -66,9 +64,8 @@ pub fn pop(path: &mut Vec<u8>) -> bool {
     }
 }
 
-/// Puts another name in the place of the file name, or joins it to the path if that has none.
-///
-/// As [`with_file_name`](crate::with_file_name), and Rust's `PathBuf::set_file_name`.
+/// Replaces the file name, or joins the name to the path if it has no file name; see
+/// [`with_file_name`](crate::with_file_name).
 ///
 /// ```
 /// use unix_path_rattle::edits::set_file_name;
@@ -82,12 +79,11 @@ pub fn set_file_name(path: &mut Vec<u8>, name: &[u8]) -> Result<(), Error> {
     Ok(())
 }
 
-/// Puts another extension in the place of the file name's, or adds it if there is none; an empty
-/// one takes the old one away. False, and nothing changes, if there is no file name.
+/// Replaces the extension of the file name, or adds one if there is none. An empty extension
+/// removes the old one. Returns false and changes nothing if there is no file name.
 ///
-/// Fails with `Separator` exactly if the extension has a slash. As
-/// [`with_extension`](crate::with_extension), and Rust's `PathBuf::set_extension`, except that
-/// Rust's panics for a separator.
+/// Fails with `Separator` if and only if the extension contains a slash; Rust's
+/// `PathBuf::set_extension` panics. See [`with_extension`](crate::with_extension).
 ///
 /// ```
 /// use unix_path_rattle::{edits::set_extension, Error};
@@ -100,13 +96,13 @@ pub fn set_file_name(path: &mut Vec<u8>, name: &[u8]) -> Result<(), Error> {
 /// ```
 #[inline]
 pub fn set_extension(path: &mut Vec<u8>, extension: &[u8]) -> Result<bool, Error> {
-    // Without a file name the path stays as it is.
+    // Without a file name the path is unchanged.
     let is_changed = replace(path, MakeOfTwo::WITH_EXTENSION, extension)?;
     Ok(is_changed || file_name(path).is_some())
 }
 
-/// Puts what the call makes of the path in its place, and gives whether that is something else. The
-/// call may not write over what it reads, so it writes into memory of its own.
+/// Replaces the path with what the call makes from it, and returns whether the path changed. The
+/// call may not overwrite what it reads, so it writes to other memory.
 fn replace(path: &mut Vec<u8>, call: MakeOfTwo, other: &[u8]) -> Result<bool, Error> {
     let room = path.len() + 1 + other.len();
     if room > SHORT {

@@ -1,7 +1,7 @@
-//! Why a call wrote nothing.
+//! The errors of this crate's functions.
 use core::fmt;
 
-/// Why a call wrote nothing.
+/// The reason why a function wrote nothing.
 ///
 /// ```
 /// use unix_path_rattle::{join, Error};
@@ -12,23 +12,25 @@ use core::fmt;
 #[derive(Clone, Copy, Debug, PartialEq, Eq)]
 #[non_exhaustive]
 pub enum Error {
-    /// The buffer is too short for the answer.
+    /// The buffer is too short for the result.
     Short {
-        /// How many bytes the answer has.
+        /// The length of the result.
         needed: usize,
     },
     /// The extension has a slash.
     Separator,
-    /// The request of `join_verbatim` has a root or a `..`.
+    /// The request of `join_beneath` has a root, or its `..` lead above where it starts. For
+    /// `join_verbatim`: the request has a root or a `..`.
     Escapes,
-    /// The request of `join_verbatim` has neither a root nor a `..`, and has a NUL byte.
+    /// The request of `join_beneath`, `join_in_root` or `join_verbatim` has a NUL byte, and is not
+    /// refused as `Escapes`.
     Nul,
-    /// An allocation failed.
+    /// An allocation fails.
     NoMemory,
     /// No path has these bytes as its key.
     NotAKey,
     /// No path without a root leads from the first path to the other.
-    NoWay,
+    NoRelativePath,
 }
 
 impl fmt::Display for Error {
@@ -40,7 +42,7 @@ impl fmt::Display for Error {
             Error::Nul => f.write_str("path has a NUL byte"),
             Error::NoMemory => f.write_str("out of memory"),
             Error::NotAKey => f.write_str("not the key of a path"),
-            Error::NoWay => f.write_str("no way from one path to the other"),
+            Error::NoRelativePath => f.write_str("no relative path from one path to the other"),
         }
     }
 }
@@ -48,8 +50,8 @@ impl fmt::Display for Error {
 #[cfg(feature = "std")]
 impl std::error::Error for Error {}
 
-/// The error of a program that reads and writes: `OutOfMemory` for `NoMemory`, which takes no
-/// memory, and for the others `InvalidInput` with the error itself in it.
+/// Converts to an I/O error: `OutOfMemory` for `NoMemory`, without allocating, and otherwise
+/// `InvalidInput` with the error itself inside.
 ///
 /// ```
 /// use std::io;
@@ -69,20 +71,21 @@ impl From<Error> for std::io::Error {
             | Error::Escapes
             | Error::Nul
             | Error::NotAKey
-            | Error::NoWay => std::io::Error::new(InvalidInput, error),
+            | Error::NoRelativePath => std::io::Error::new(InvalidInput, error),
         }
     }
 }
 
-/// Why a path is no request. Its text is that of the Rattle crate's `RequestError`.
+/// The reason why [`check_request`](crate::check_request) refuses a path. Its messages are the same
+/// as those of `RequestError` in the Rattle crate.
 #[derive(Clone, Copy, Debug, PartialEq, Eq)]
 #[non_exhaustive]
 pub enum RequestError {
     /// The path has a root.
     Rooted,
-    /// The path has no root, and would go above where it starts.
-    Climbs,
-    /// The path neither has a root nor climbs, and has a NUL byte.
+    /// The path has no root, and its `..` lead above where it starts.
+    Escapes,
+    /// The path neither has a root nor escapes, and has a NUL byte.
     Nul,
 }
 
@@ -90,7 +93,7 @@ impl fmt::Display for RequestError {
     fn fmt(&self, f: &mut fmt::Formatter<'_>) -> fmt::Result {
         f.pad(match self {
             RequestError::Rooted => "path has a root",
-            RequestError::Climbs => "path leaves its root",
+            RequestError::Escapes => "path leaves its root",
             RequestError::Nul => "path has a NUL byte",
         })
     }
@@ -99,13 +102,13 @@ impl fmt::Display for RequestError {
 #[cfg(feature = "std")]
 impl std::error::Error for RequestError {}
 
-/// The error of a program that reads and writes: `InvalidInput`, with the error itself in it.
+/// Converts to an I/O error: `InvalidInput` with the error itself inside.
 ///
 /// ```
 /// use std::io;
-/// use unix_path_rattle::Request;
-/// let request = Request::new(b"/a").map_err(io::Error::from);
-/// assert_eq!(request.unwrap_err().kind(), io::ErrorKind::InvalidInput);
+/// use unix_path_rattle::check_request;
+/// let checked = check_request(b"/a").map_err(io::Error::from);
+/// assert_eq!(checked.unwrap_err().kind(), io::ErrorKind::InvalidInput);
 /// ```
 #[cfg(feature = "std")]
 impl From<RequestError> for std::io::Error {

@@ -1,17 +1,18 @@
-//! The calls of `libunix_path`, by what they take and answer. All `unsafe` code of this crate is
-//! here.
+//! The calls of `libunix_path`, by their signatures. All `unsafe` code of this crate is in this
+//! module.
 //!
-//! A type of this module is a shape of calls, and its constants, which `tools/calls` wrote into
-//! `raw.rs`, are the calls of that shape. Only that module makes values of these types.
+//! A type of this module is a shape of calls, and its constants are the calls of that shape.
+//! `tools/calls` writes the constants to `raw.rs`; only that module creates values of these types.
 //!
-//! Each `unsafe` block rests on the same promises of the library: a call reads the slices that it
-//! is given and writes the record or the buffer that it is given, and touches nothing else; it
-//! keeps no pointer; it returns. Rust's slices are what the library asks for: they are never null,
-//! even if empty; they have at most `isize::MAX` bytes; and one that is written shares no byte with
-//! the others. The library also promises that a call wrote as many bytes as it answers: each `Vec`
-//! that a call fills rests on that.
+//! Each `unsafe` block depends on the same promises of the library: a call reads the slices that it
+//! is given, writes the record or the buffer that it is given, and accesses nothing else; it keeps
+//! no pointer; it returns. Rust's slices meet the library's requirements: they are never null, even
+//! if empty; they have at most `isize::MAX` bytes; and one that is written shares no byte with
+//! another. The library also promises that a call wrote as many bytes as it returns. Each `Vec`
+//! that a call fills depends on this promise.
 #[macro_use]
 mod calls;
+mod code;
 mod raw;
 
 use crate::error::Error;
@@ -21,7 +22,8 @@ use raw::errors::*;
 use raw::*;
 pub(crate) use raw::{Part, Walk};
 
-/// Why a call wrote nothing, by its answer: a number that is greater than the buffer's length.
+/// Returns the error for the number that a call returned. That number is greater than the buffer's
+/// length, so the call wrote nothing.
 #[cold]
 fn error_of(answer: usize) -> Error {
     match answer {
@@ -29,19 +31,19 @@ fn error_of(answer: usize) -> Error {
         ESCAPES => Error::Escapes,
         NUL_IN_REQUEST => Error::Nul,
         NOT_A_KEY => Error::NotAKey,
-        NO_WAY => Error::NoWay,
+        NO_RELATIVE_PATH => Error::NoRelativePath,
         needed => Error::Short { needed },
     }
 }
 
-/// What a call wrote at the beginning of the buffer, by the number that it answered.
+/// Returns what a call wrote at the beginning of the buffer, given the number that it returned.
 #[inline]
 fn output(out: &[u8], answer: usize) -> Result<&[u8], Error> {
     out.get(..answer).ok_or_else(|| error_of(answer))
 }
 
-/// Lets a call write into the vector's capacity behind its first `kept` bytes. The vector then has
-/// those and what the call wrote; if the call fails, it is as long as it was.
+/// Lets a call write to the vector's capacity after its first `kept` bytes. The vector then has
+/// those bytes and what the call wrote. If the call fails, the vector's length is unchanged.
 #[cfg(feature = "alloc")]
 #[inline]
 fn fill_behind(
@@ -51,19 +53,19 @@ fn fill_behind(
 ) -> Result<(), Error> {
     let kept = kept.min(bytes.len());
     let room = bytes.capacity() - kept;
-    // SAFETY: the place is in the vector's memory or at its end.
+    // SAFETY: the pointer is in the vector's memory or at its end.
     let answer = call(unsafe { bytes.as_mut_ptr().add(kept) }, room);
     if answer > room {
         return Err(error_of(answer));
     }
-    // SAFETY: the capacity has that many bytes; the first were there before, and the library
-    // promises that it wrote the others.
+    // SAFETY: the capacity has that many bytes. The first `kept` were there before, and the library
+    // promises that it wrote the rest.
     unsafe { bytes.set_len(kept + answer) };
     Ok(())
 }
 
-/// Lets a call write into the vector's capacity. The vector then has what the call wrote, and no
-/// more.
+/// Clears the vector and lets a call write to its capacity. The vector then has only what the call
+/// wrote.
 #[cfg(feature = "alloc")]
 #[inline]
 fn fill(bytes: &mut Vec<u8>, call: impl FnOnce(*mut u8, usize) -> usize) -> Result<(), Error> {
@@ -71,7 +73,8 @@ fn fill(bytes: &mut Vec<u8>, call: impl FnOnce(*mut u8, usize) -> usize) -> Resu
     fill_behind(bytes, 0, call)
 }
 
-/// The bytes from `start` on, or `None` if they don't all lie in the path: no place is trusted.
+/// Returns the `length` bytes at index `start`, or `None` if they are not all in the path: no span
+/// is trusted.
 #[inline]
 fn cut(path: &[u8], start: usize, length: usize) -> Option<&[u8]> {
     path.get(start..start.checked_add(length)?)
@@ -97,8 +100,8 @@ impl Part {
 }
 
 impl Walk {
-    /// The walk over all parts of the path, without `unix_path_components`: what is left stands
-    /// between the places.
+    /// Returns the walk over all components of the path, without calling `unix_path_components`.
+    /// Its rest is between the two offsets.
     #[inline]
     pub const fn new(path: &[u8]) -> Walk {
         Walk {
@@ -107,17 +110,18 @@ impl Walk {
         }
     }
 
-    /// What is left of the path.
+    /// Returns the rest of the walk over this path, or `None` if the library returns a span that is
+    /// not in the path.
     #[inline]
     pub fn left(self, path: &[u8]) -> Option<&[u8]> {
         let mut span = Span::NOWHERE;
-        // SAFETY: the slice and the walk are read, and the place is written.
+        // SAFETY: the slice and the walk are read, and the span is written.
         unsafe { unix_path_as_path(path.as_ptr(), path.len(), &self, &mut span) };
         span.of(path)
     }
 }
 
-/// Calls that take a part of what is left of a walk.
+/// Calls that take a component from the rest of a walk.
 pub(crate) struct Step(unsafe extern "C" fn(Start, usize, *mut Walk, *mut Part) -> bool);
 
 impl Step {
@@ -129,17 +133,18 @@ impl Step {
             kind: 0,
         };
         // SAFETY: the slice is read, and both records are written. A walk over another path, which
-        // no caller in this crate passes, would only get another answer.
+        // no caller in this crate passes, would only lead to another result.
         let is_taken = unsafe { (self.0)(path.as_ptr(), path.len(), walk, &mut part) };
         is_taken.then_some(part)
     }
 }
 
-/// The next ancestor of a path, which has `next` bytes; then it is told how many the one behind has.
+/// Returns the ancestor of the path that has `next` bytes, and sets `next` to the length of the
+/// ancestor after it.
 #[inline]
 pub(crate) fn next_ancestor<'a>(path: &'a [u8], next: &mut usize) -> Option<&'a [u8]> {
     let mut span = Span::NOWHERE;
-    // SAFETY: the slice is read, and the number and the place are written.
+    // SAFETY: the slice is read, and the number and the span are written.
     let is_there = unsafe { unix_path_next_ancestor(path.as_ptr(), path.len(), next, &mut span) };
     if is_there {
         span.of(path)
@@ -148,8 +153,8 @@ pub(crate) fn next_ancestor<'a>(path: &'a [u8], next: &mut usize) -> Option<&'a 
     }
 }
 
-/// The text and the broken bytes of the next chunk, which begins at `next`; then it is told where
-/// the one behind begins.
+/// Returns the valid and the invalid bytes of the chunk at index `next`, and sets `next` to the
+/// index of the chunk after it.
 #[inline]
 pub(crate) fn next_chunk<'a>(path: &'a [u8], next: &mut usize) -> Option<(&'a [u8], &'a [u8])> {
     let mut chunk = Chunk {
@@ -167,6 +172,13 @@ pub(crate) fn next_chunk<'a>(path: &'a [u8], next: &mut usize) -> Option<(&'a [u
     Some((valid, cut(path, end, chunk.broken_length)?))
 }
 
+/// Returns the version of the library.
+#[inline]
+pub(crate) fn version() -> u32 {
+    // SAFETY: the call has no parameters.
+    unsafe { unix_path_version() }
+}
+
 /// Calls that find something in a path.
 pub(crate) struct Find(unsafe extern "C" fn(Start, usize, *mut Span) -> bool);
 
@@ -174,7 +186,7 @@ impl Find {
     #[inline]
     pub fn find(self, path: &[u8]) -> Option<&[u8]> {
         let mut span = Span::NOWHERE;
-        // SAFETY: the slice is read, and the place is written.
+        // SAFETY: the slice is read, and the span is written.
         let is_there = unsafe { (self.0)(path.as_ptr(), path.len(), &mut span) };
         if is_there {
             span.of(path)
@@ -184,7 +196,7 @@ impl Find {
     }
 }
 
-/// Calls that find something in a path by another.
+/// Calls that find something in a path, given another path.
 pub(crate) struct FindOfTwo(unsafe extern "C" fn(Start, usize, Start, usize, *mut Span) -> bool);
 
 impl FindOfTwo {
@@ -192,7 +204,7 @@ impl FindOfTwo {
     pub fn find<'a>(self, path: &'a [u8], other: &[u8]) -> Option<&'a [u8]> {
         let (start, length) = (path.as_ptr(), path.len());
         let mut span = Span::NOWHERE;
-        // SAFETY: the slices are read, and the place is written.
+        // SAFETY: the slices are read, and the span is written.
         let is_there = unsafe { (self.0)(start, length, other.as_ptr(), other.len(), &mut span) };
         if is_there {
             span.of(path)
@@ -202,7 +214,7 @@ impl FindOfTwo {
     }
 }
 
-/// Questions about a path, by what they answer.
+/// Questions about a path, by the type of the result.
 pub(crate) struct Ask<T>(unsafe extern "C" fn(Start, usize) -> T);
 
 impl<T> Ask<T> {
@@ -213,7 +225,7 @@ impl<T> Ask<T> {
     }
 }
 
-/// Questions about two paths, by what they answer.
+/// Questions about two paths, by the type of the result.
 pub(crate) struct AskTwo<T>(unsafe extern "C" fn(Start, usize, Start, usize) -> T);
 
 impl<T> AskTwo<T> {
@@ -224,36 +236,7 @@ impl<T> AskTwo<T> {
     }
 }
 
-/// Writes the join of a checked request below the root. The call reads it as the path of a URL: a
-/// request that doesn't climb has the same names, and isn't walked over for that once more.
-#[inline]
-pub(crate) fn join_below<'o>(
-    root: &[u8],
-    request: &[u8],
-    out: &'o mut [u8],
-) -> Result<&'o [u8], Error> {
-    let (start, length) = (root.as_ptr(), root.len());
-    let (names, names_length) = (request.as_ptr(), request.len());
-    let (begin, room) = (out.as_mut_ptr(), out.len());
-    // SAFETY: the slices are read, and the buffer is written.
-    let answer =
-        unsafe { unix_path_join_below(start, length, names, names_length, true, begin, room) };
-    output(out, answer)
-}
-
-/// The same in the vector's capacity.
-#[cfg(feature = "alloc")]
-#[inline]
-pub(crate) fn fill_below(root: &[u8], request: &[u8], bytes: &mut Vec<u8>) -> Result<(), Error> {
-    let (start, length) = (root.as_ptr(), root.len());
-    let (names, names_length) = (request.as_ptr(), request.len());
-    // SAFETY: the slices are read, and the capacity is written.
-    fill(bytes, |out, room| unsafe {
-        unix_path_join_below(start, length, names, names_length, true, out, room)
-    })
-}
-
-/// Calls that write what they make of a path or of a key.
+/// Calls that write what they make from a path or a key.
 #[derive(Clone, Copy)]
 pub(crate) struct Make(unsafe extern "C" fn(Start, usize, *mut u8, usize) -> usize);
 
@@ -275,7 +258,7 @@ impl Make {
     }
 }
 
-/// Calls that write what they make of a path and something else.
+/// Calls that write what they make from a path and another argument.
 #[derive(Clone, Copy)]
 pub(crate) struct MakeOfTwo(
     unsafe extern "C" fn(Start, usize, Start, usize, *mut u8, usize) -> usize,
@@ -305,7 +288,7 @@ impl MakeOfTwo {
             (self.0)(start, length, other.as_ptr(), other.len(), out, room)
         })
     }
-    /// The same behind the vector's first `kept` bytes, which stay.
+    /// Writes after the vector's first `kept` bytes, which stay.
     #[cfg(feature = "alloc")]
     #[inline]
     pub fn fill_behind(

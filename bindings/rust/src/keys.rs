@@ -1,15 +1,15 @@
-//! Keys of paths, for stores that keep what they hold in the order of its keys' bytes.
+//! Keys of paths, for stores that sort by the bytes of their keys.
 //!
-//! Keys compare as the paths do, and are the same exactly if the paths are equal. As `path_keys` of
-//! the Rattle crates, whose page says how a key is laid out.
+//! Keys compare as the paths do, and are identical if and only if the paths are equal. The page of
+//! the Rattle crate `path_keys` says how a key is laid out.
 use crate::error::Error;
 use crate::ffi::Make;
 
-/// The key of the path: its parts one after the other, a root as 00 01, a leading `.` as 00 02,
-/// each `..` as 00 03, and a name as its bytes, each that is less than 2F raised by one, and 00.
+/// Writes the key of the path, in which the components follow one another: a root as 00 01, a
+/// leading `.` as 00 02, each `..` as 00 03, and a name as its bytes, with each that is less than
+/// 2F incremented by one, followed by 00.
 ///
-/// It has at most two bytes more than the path. Fails only with `Short`. Does not allocate. Not in
-/// Rust's std.
+/// Its length is at most `path.len() + 2`.
 ///
 /// ```
 /// use unix_path_rattle::key;
@@ -22,10 +22,10 @@ pub fn key<'o>(path: &[u8], out: &'o mut [u8]) -> Result<&'o [u8], Error> {
     Make::KEY.write(path, out)
 }
 
-/// The path of the key: the canonical spelling of the paths that have it.
+/// Writes the canonical form of the paths that have this key.
 ///
-/// It has at most half as many bytes more than the key. Fails with `NotAKey` exactly if no path has
-/// these bytes as its key, and with `Short`. Does not allocate. Not in Rust's std.
+/// Its length is at most `key.len() + key.len() / 2`. Fails with `NotAKey` if and only if no path
+/// has these bytes as its key.
 ///
 /// ```
 /// use unix_path_rattle::{from_key, Error};
@@ -38,23 +38,24 @@ pub fn from_key<'o>(key: &[u8], out: &'o mut [u8]) -> Result<&'o [u8], Error> {
     Make::FROM_KEY.write(key, out)
 }
 
-/// The end of the range of a key, from the key up to which stand the keys of all paths that start
-/// with its path; `None` for the empty key, whose range has all keys.
+/// Returns the end of a key's range: a path starts with the key's path if and only if its own key
+/// is not less than the key, and less than this end. Returns `None` for the empty key, whose range
+/// has all keys.
 ///
-/// It is the key with its last byte raised by one. Fails with `NotAKey` exactly if no path has
-/// these bytes as its key, and with `Short`. Does not allocate. Not in Rust's std.
+/// The end is the key with its last byte incremented by one. Fails with `NotAKey` if and only if no
+/// path has these bytes as its key.
 ///
 /// ```
-/// use unix_path_rattle::{key_end, Error};
+/// use unix_path_rattle::{key_range_end, Error};
 /// let mut out = [0; 16];
-/// assert_eq!(key_end(b"a\0", &mut out), Ok(Some(&b"a\x01"[..])));
-/// assert_eq!(key_end(b"", &mut out), Ok(None));
-/// assert_eq!(key_end(b"/a", &mut out), Err(Error::NotAKey));
+/// assert_eq!(key_range_end(b"a\0", &mut out), Ok(Some(&b"a\x01"[..])));
+/// assert_eq!(key_range_end(b"", &mut out), Ok(None));
+/// assert_eq!(key_range_end(b"/a", &mut out), Err(Error::NotAKey));
 /// ```
 #[inline]
-pub fn key_end<'o>(key: &[u8], out: &'o mut [u8]) -> Result<Option<&'o [u8]>, Error> {
+pub fn key_range_end<'o>(key: &[u8], out: &'o mut [u8]) -> Result<Option<&'o [u8]>, Error> {
     if key.is_empty() {
         return Ok(None);
     }
-    Make::KEY_END.write(key, out).map(Some)
+    Make::KEY_RANGE_END.write(key, out).map(Some)
 }

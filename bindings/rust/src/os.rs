@@ -1,16 +1,15 @@
-//! The calls over the paths and strings of Rust's std, on Unix.
+//! The functions of this crate for the paths and strings of Rust's std, on Unix.
 //!
-//! Their answers lie in the path that was given, or are a `PathBuf` or a `String` of their own.
+//! They return part of the path that was passed, or a new `PathBuf`, `String` or `Vec`.
 //
-// Calls of one shape differ only in their names and in the types of their answers: a macro writes
-// them. What finds or makes something has a type of its own, and its own comment. Questions are
-// those of the lists that `tools/calls` writes. Not here are `next`, `next_back` and `as_path`,
-// which are methods of `Components`; `next_ancestor` and `next_chunk`, whose iterators give bytes;
-// and `key_end`, since it has to do with keys alone.
+// Functions of one shape differ only in their names and in the types of their results, so a macro
+// writes them. A function that finds or makes something has its own type and its own comment. The
+// questions are those in the lists that `tools/calls` writes. Not here: `next`, `next_back` and
+// `as_path`, which are methods of `Components`; `next_ancestor` and `next_chunk`, whose iterators
+// return bytes; `key_range_end`, which uses only keys; and `version`, which has no path.
 use crate::components::{Component, Components};
-use crate::error::Error;
+use crate::error::{Error, RequestError};
 use crate::owned;
-use crate::request::Request;
 use std::cmp::Ordering;
 use std::convert::identity;
 use std::ffi::{OsStr, OsString};
@@ -31,7 +30,7 @@ fn path_buf(bytes: Vec<u8>) -> PathBuf {
     OsString::from_vec(bytes).into()
 }
 
-/// Writes calls that find something in a path, with the type that it has here.
+/// Defines functions that find something in a path, each with its own type of result.
 macro_rules! find_as {
     ($($(#[$doc:meta])* $name:ident($path:ident) -> &$found:ty, $made:expr;)*) => {$(
         $(#[$doc])*
@@ -42,10 +41,10 @@ macro_rules! find_as {
     )*};
 }
 
-/// Writes the questions about a path.
+/// Defines the questions about a path.
 macro_rules! ask_of_one {
     () => {};
-    // `Request` checks.
+    // This function is below, since its result has its own type.
     (check_request -> i32; $($more:tt)*) => { ask_of_one! { $($more)* } };
     ($name:ident -> $answer:ident; $($more:tt)*) => {
         #[doc = concat!("As [`crate::", stringify!($name), "`].")]
@@ -63,7 +62,7 @@ macro_rules! ask_of_one {
     };
 }
 
-/// Writes the questions about two paths that are true or false.
+/// Defines the questions about two paths that return true or false.
 macro_rules! ask_of_two {
     () => {};
     ($name:ident -> bool; $($more:tt)*) => {
@@ -80,11 +79,11 @@ macro_rules! ask_of_two {
         }
         ask_of_two! { $($more)* }
     };
-    // The others are below, since their answers have types of their own.
+    // The other questions are below, since their results have their own types.
     ($name:ident -> $answer:ident; $($more:tt)*) => { ask_of_two! { $($more)* } };
 }
 
-/// Writes calls that make something of paths and of parts of names, with the type that it has here.
+/// Defines functions that make something from paths and names, each with its own type of result.
 macro_rules! make_as {
     ($($(#[$doc:meta])* $name:ident($($given:ident: $kind:ty),*) -> $answer:ty, $made:expr;)*)
     => {$(
@@ -96,7 +95,7 @@ macro_rules! make_as {
 }
 
 impl<'a> Component<'a> {
-    /// The part as a string of the system. As Rust's `Component::as_os_str`.
+    /// Returns the component as a string of the system.
     ///
     /// ```
     /// let mut parts = unix_path_rattle::os::components("/tmp/a");
@@ -108,7 +107,7 @@ impl<'a> Component<'a> {
     }
 }
 
-/// As [`crate::components`].
+/// Returns an iterator over the components; see [`crate::components`].
 ///
 /// ```
 /// assert_eq!(unix_path_rattle::os::components("/tmp//a/.").count(), 3);
@@ -119,7 +118,7 @@ pub fn components<P: AsRef<Path> + ?Sized>(path: &P) -> Components<'_> {
 }
 
 find_as! {
-    /// As [`crate::parent`].
+    /// Returns the path without its last component; see [`crate::parent`].
     ///
     /// ```
     /// # use std::path::Path;
@@ -127,7 +126,7 @@ find_as! {
     /// ```
     parent(of) -> &Path, path;
 
-    /// As [`crate::file_name`].
+    /// Returns the last component if it is a name; see [`crate::file_name`].
     ///
     /// ```
     /// # use std::ffi::OsStr;
@@ -135,7 +134,7 @@ find_as! {
     /// ```
     file_name(path) -> &OsStr, OsStr::from_bytes;
 
-    /// As [`crate::file_stem`].
+    /// Returns the file name up to its last dot; see [`crate::file_stem`].
     ///
     /// ```
     /// # use std::ffi::OsStr;
@@ -143,7 +142,7 @@ find_as! {
     /// ```
     file_stem(path) -> &OsStr, OsStr::from_bytes;
 
-    /// As [`crate::extension`].
+    /// Returns the part of the file name after its last dot; see [`crate::extension`].
     ///
     /// ```
     /// # use std::ffi::OsStr;
@@ -151,7 +150,7 @@ find_as! {
     /// ```
     extension(path) -> &OsStr, OsStr::from_bytes;
 
-    /// As [`crate::file_prefix`].
+    /// Returns the file name up to its first dot after the first byte; see [`crate::file_prefix`].
     ///
     /// ```
     /// # use std::ffi::OsStr;
@@ -160,7 +159,7 @@ find_as! {
     file_prefix(path) -> &OsStr, OsStr::from_bytes;
 }
 
-/// As [`crate::strip_prefix`].
+/// Returns what follows `base` in the path; see [`crate::strip_prefix`].
 ///
 /// ```
 /// # use std::path::Path;
@@ -174,7 +173,7 @@ pub fn strip_prefix<P: AsRef<Path> + ?Sized>(of: &P, base: impl AsRef<Path>) -> 
 ask!(ask_of_one);
 ask_two!(ask_of_two);
 
-/// As [`crate::compare`].
+/// Compares two paths by their components; see [`crate::compare`].
 ///
 /// ```
 /// assert!(unix_path_rattle::os::compare("a/b", "a.b").is_lt());
@@ -184,7 +183,18 @@ pub fn compare(a: impl AsRef<Path>, b: impl AsRef<Path>) -> Ordering {
     crate::compare(bytes(&a), bytes(&b))
 }
 
-/// As [`crate::common_dir`].
+/// Checks a request; see [`crate::check_request`].
+///
+/// ```
+/// use unix_path_rattle::{os::check_request, RequestError};
+/// assert_eq!(check_request("a/../b"), Ok(()));
+/// assert_eq!(check_request("../a"), Err(RequestError::Escapes));
+/// ```
+pub fn check_request(path: impl AsRef<Path>) -> Result<(), RequestError> {
+    crate::check_request(bytes(&path))
+}
+
+/// Returns the longest common prefix that ends in a slash; see [`crate::common_dir`].
 ///
 /// ```
 /// # use std::path::Path;
@@ -196,7 +206,7 @@ pub fn common_dir<P: AsRef<Path> + ?Sized>(a: &P, b: impl AsRef<Path>) -> &Path 
 }
 
 make_as! {
-    /// As [`owned::join`].
+    /// Joins two trusted paths; see [`owned::join`].
     ///
     /// ```
     /// # use std::path::Path;
@@ -204,7 +214,7 @@ make_as! {
     /// ```
     join(base: Path, path: Path) -> PathBuf, path_buf;
 
-    /// As [`owned::with_file_name`].
+    /// Replaces the file name; see [`owned::with_file_name`].
     ///
     /// ```
     /// # use std::path::Path;
@@ -212,7 +222,7 @@ make_as! {
     /// ```
     with_file_name(path: Path, name: OsStr) -> PathBuf, path_buf;
 
-    /// As [`owned::with_extension`].
+    /// Replaces the extension; see [`owned::with_extension`].
     ///
     /// ```
     /// # use std::path::Path;
@@ -220,7 +230,7 @@ make_as! {
     /// ```
     with_extension(path: Path, extension: OsStr) -> PathBuf, path_buf;
 
-    /// As [`owned::with_added_extension`].
+    /// Appends an extension; see [`owned::with_added_extension`].
     ///
     /// ```
     /// # use std::path::Path;
@@ -229,7 +239,7 @@ make_as! {
     /// ```
     with_added_extension(path: Path, extension: OsStr) -> PathBuf, path_buf;
 
-    /// As [`owned::canonical`].
+    /// Returns the canonical form; see [`owned::canonical`].
     ///
     /// ```
     /// # use std::ffi::OsStr;
@@ -237,14 +247,14 @@ make_as! {
     /// ```
     canonical(path: Path) -> PathBuf, path_buf;
 
-    /// As [`owned::to_string_lossy`].
+    /// Returns the path as text; see [`owned::to_string_lossy`].
     ///
     /// ```
     /// assert_eq!(unix_path_rattle::os::to_string_lossy("é").unwrap(), "é");
     /// ```
     to_string_lossy(path: Path) -> String, identity;
 
-    /// As [`owned::resolved`].
+    /// Resolves each `..` lexically; see [`owned::resolved`].
     ///
     /// ```
     /// # use std::path::Path;
@@ -252,7 +262,27 @@ make_as! {
     /// ```
     resolved(path: Path) -> PathBuf, path_buf;
 
-    /// As [`owned::join_verbatim`].
+    /// Joins a request that must stay beneath the root; see [`owned::join_beneath`].
+    ///
+    /// ```
+    /// # use std::path::Path;
+    /// use unix_path_rattle::{os::join_beneath, Error};
+    /// assert_eq!(join_beneath("/srv", "a/../b").unwrap(), Path::new("/srv/b"));
+    /// assert_eq!(join_beneath("/srv", "../b"), Err(Error::Escapes));
+    /// ```
+    join_beneath(root: Path, request: Path) -> PathBuf, path_buf;
+
+    /// Joins a request as in a chroot; see [`owned::join_in_root`].
+    ///
+    /// ```
+    /// # use std::path::Path;
+    /// use unix_path_rattle::{os::join_in_root, Error};
+    /// assert_eq!(join_in_root("/srv", "/../b").unwrap(), Path::new("/srv/b"));
+    /// assert_eq!(join_in_root("/srv", "..\0/b"), Err(Error::Nul));
+    /// ```
+    join_in_root(root: Path, request: Path) -> PathBuf, path_buf;
+
+    /// Joins root and request verbatim; see [`owned::join_verbatim`].
     ///
     /// ```
     /// # use std::path::Path;
@@ -262,15 +292,16 @@ make_as! {
     /// ```
     join_verbatim(root: Path, request: Path) -> PathBuf, path_buf;
 
-    /// As [`owned::way`].
+    /// Finds the relative path from one path to another; see [`owned::relative_path`].
     ///
     /// ```
     /// # use std::path::Path;
-    /// assert_eq!(unix_path_rattle::os::way("/a/b/c", "/a/d").unwrap(), Path::new("../../d"));
+    /// use unix_path_rattle::os::relative_path;
+    /// assert_eq!(relative_path("/a/b/c", "/a/d").unwrap(), Path::new("../../d"));
     /// ```
-    way(from: Path, to: Path) -> PathBuf, path_buf;
+    relative_path(from: Path, to: Path) -> PathBuf, path_buf;
 
-    /// As [`owned::key`].
+    /// Returns the key of a path; see [`owned::key`].
     ///
     /// ```
     /// assert_eq!(unix_path_rattle::os::key("a//b/.").unwrap(), b"a\0b\0");
@@ -278,19 +309,7 @@ make_as! {
     key(path: Path) -> Vec<u8>, identity;
 }
 
-/// As [`owned::join_below`].
-///
-/// ```
-/// # use std::path::Path;
-/// use unix_path_rattle::{os::join_below, Request};
-/// let request = Request::below(b"/a/../../b/").unwrap();
-/// assert_eq!(join_below("/srv/www", request).unwrap(), Path::new("/srv/www/b"));
-/// ```
-pub fn join_below(root: impl AsRef<Path>, request: Request<'_>) -> Result<PathBuf, Error> {
-    owned::join_below(bytes(&root), request).map(path_buf)
-}
-
-/// As [`owned::from_key`].
+/// Returns the canonical form of the paths with this key; see [`owned::from_key`].
 ///
 /// ```
 /// # use std::path::Path;

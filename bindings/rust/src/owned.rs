@@ -1,24 +1,23 @@
-//! The calls that make a path or a key, with the answer in a new `Vec` or `String`.
+//! Functions that make a path or a key and return it as a new `Vec` or `String`.
 //!
-//! Each fails with [`Error::NoMemory`] if an allocation failed, and never with
-//! [`Error::Short`].
+//! These are the functions of the same names in the crate's root, without the buffer. Each fails
+//! with [`Error::NoMemory`] if an allocation fails, and never with [`Error::Short`].
 //!
 //! ```
-//! use unix_path_rattle::{owned, Request};
+//! use unix_path_rattle::owned;
 //!
-//! let request = Request::below(b"/img/../a.png")?;
-//! assert_eq!(owned::join_below(b"/srv", request)?, b"/srv/a.png");
-//! assert_eq!(owned::way(b"a/b", b"a/c")?, b"../c");
+//! assert_eq!(owned::join_beneath(b"/srv", b"img/../a.png")?, b"/srv/a.png");
+//! assert_eq!(owned::join_in_root(b"/srv", b"/../a.png")?, b"/srv/a.png");
+//! assert_eq!(owned::relative_path(b"a/b", b"a/c")?, b"../c");
 //! assert_eq!(owned::key(b"/a")?, b"\0\x01a\0");
-//! # Ok::<(), Box<dyn std::error::Error>>(())
+//! # Ok::<(), unix_path_rattle::Error>(())
 //! ```
 use crate::error::Error;
-use crate::ffi::{self, Make, MakeOfTwo};
-use crate::request::Request;
+use crate::ffi::{Make, MakeOfTwo};
 use alloc::string::String;
 use alloc::vec::Vec;
 
-/// What the call writes into a new vector that has room for `room` bytes.
+/// Returns what the call writes to a new vector with capacity for `room` bytes.
 pub(crate) fn vec_with_room<F>(room: usize, fill: &F) -> Result<Vec<u8>, Error>
 where
     F: Fn(&mut Vec<u8>) -> Result<(), Error>,
@@ -29,8 +28,8 @@ where
     Ok(bytes)
 }
 
-/// What the call writes into a new vector that has room for `room` bytes, or for as many as the
-/// call needs if that is more.
+/// Returns what the call writes to a new vector with capacity for `room` bytes, or for as many as
+/// the call needs if that is more.
 fn vec_of<F>(room: usize, fill: F) -> Result<Vec<u8>, Error>
 where
     F: Fn(&mut Vec<u8>) -> Result<(), Error>,
@@ -41,7 +40,7 @@ where
     }
 }
 
-/// As [`join`](crate::join), in memory of its own.
+/// Joins two trusted paths; see [`join`](crate::join).
 ///
 /// ```
 /// assert_eq!(unix_path_rattle::owned::join(b"/a", b"b").unwrap(), b"/a/b");
@@ -52,7 +51,7 @@ pub fn join(base: &[u8], path: &[u8]) -> Result<Vec<u8>, Error> {
     })
 }
 
-/// As [`with_file_name`](crate::with_file_name), in memory of its own.
+/// Replaces the file name; see [`with_file_name`](crate::with_file_name).
 ///
 /// ```
 /// assert_eq!(unix_path_rattle::owned::with_file_name(b"/a/b", b"c").unwrap(), b"/a/c");
@@ -63,7 +62,7 @@ pub fn with_file_name(path: &[u8], name: &[u8]) -> Result<Vec<u8>, Error> {
     })
 }
 
-/// As [`with_extension`](crate::with_extension), in memory of its own.
+/// Replaces the extension; see [`with_extension`](crate::with_extension).
 ///
 /// ```
 /// use unix_path_rattle::{owned, Error};
@@ -76,7 +75,7 @@ pub fn with_extension(path: &[u8], extension: &[u8]) -> Result<Vec<u8>, Error> {
     })
 }
 
-/// As [`with_added_extension`](crate::with_added_extension), in memory of its own.
+/// Appends an extension; see [`with_added_extension`](crate::with_added_extension).
 ///
 /// ```
 /// use unix_path_rattle::{owned, Error};
@@ -89,7 +88,7 @@ pub fn with_added_extension(path: &[u8], extension: &[u8]) -> Result<Vec<u8>, Er
     })
 }
 
-/// As [`canonical`](crate::canonical), in memory of its own.
+/// Returns the canonical form; see [`canonical`](crate::canonical).
 ///
 /// ```
 /// assert_eq!(unix_path_rattle::owned::canonical(b".//a/./b/").unwrap(), b"./a/b");
@@ -98,19 +97,20 @@ pub fn canonical(path: &[u8]) -> Result<Vec<u8>, Error> {
     vec_of(path.len(), |bytes| Make::CANONICAL.fill(path, bytes))
 }
 
-/// As [`to_string_lossy`](crate::to_string_lossy), as text of its own.
+/// Returns the path as text; see [`to_string_lossy`](crate::to_string_lossy).
 ///
 /// ```
 /// assert_eq!(unix_path_rattle::owned::to_string_lossy(b"caf\xE9").unwrap(), "caf\u{FFFD}");
 /// ```
 pub fn to_string_lossy(path: &[u8]) -> Result<String, Error> {
     let bytes = vec_of(path.len(), |bytes| Make::TO_STRING_LOSSY.fill(path, bytes))?;
-    // The bytes are UTF-8; if a wrong library gave others, Rust would replace what isn't.
+    // The bytes are valid UTF-8. If a wrong library returned others, Rust would replace the invalid
+    // ones.
     Ok(String::from_utf8(bytes)
         .unwrap_or_else(|error| String::from_utf8_lossy(error.as_bytes()).into_owned()))
 }
 
-/// As [`resolved`](crate::resolved), in memory of its own.
+/// Resolves each `..` lexically; see [`resolved`](crate::resolved).
 ///
 /// ```
 /// assert_eq!(unix_path_rattle::owned::resolved(b"/a/../b/.").unwrap(), b"/b");
@@ -119,7 +119,34 @@ pub fn resolved(path: &[u8]) -> Result<Vec<u8>, Error> {
     vec_of(path.len(), |bytes| Make::RESOLVED.fill(path, bytes))
 }
 
-/// As [`join_verbatim`](crate::join_verbatim), in memory of its own.
+/// Joins a request that must stay beneath the root; see [`join_beneath`](crate::join_beneath).
+///
+/// ```
+/// use unix_path_rattle::{owned, Error};
+/// assert_eq!(owned::join_beneath(b"/srv", b"a/../b/").unwrap(), b"/srv/b");
+/// assert_eq!(owned::join_beneath(b"/srv", b"../b"), Err(Error::Escapes));
+/// assert_eq!(owned::join_beneath(b"/srv", b"b\0.png"), Err(Error::Nul));
+/// ```
+pub fn join_beneath(root: &[u8], request: &[u8]) -> Result<Vec<u8>, Error> {
+    vec_of(root.len() + 1 + request.len(), |bytes| {
+        MakeOfTwo::JOIN_BENEATH.fill(root, request, bytes)
+    })
+}
+
+/// Joins a request as in a chroot; see [`join_in_root`](crate::join_in_root).
+///
+/// ```
+/// use unix_path_rattle::{owned, Error};
+/// assert_eq!(owned::join_in_root(b"/srv", b"/a/../../b/").unwrap(), b"/srv/b");
+/// assert_eq!(owned::join_in_root(b"/srv", b"..\0/b"), Err(Error::Nul));
+/// ```
+pub fn join_in_root(root: &[u8], request: &[u8]) -> Result<Vec<u8>, Error> {
+    vec_of(root.len() + 1 + request.len(), |bytes| {
+        MakeOfTwo::JOIN_IN_ROOT.fill(root, request, bytes)
+    })
+}
+
+/// Joins root and request verbatim; see [`join_verbatim`](crate::join_verbatim).
 ///
 /// ```
 /// use unix_path_rattle::{owned, Error};
@@ -132,34 +159,20 @@ pub fn join_verbatim(root: &[u8], request: &[u8]) -> Result<Vec<u8>, Error> {
     })
 }
 
-/// As [`Request::join_below`](crate::Request::join_below), in memory of its own.
-///
-/// ```
-/// use unix_path_rattle::{owned, Request};
-/// let request = Request::below(b"/a/../../b/").unwrap();
-/// assert_eq!(owned::join_below(b"/srv/www", request).unwrap(), b"/srv/www/b");
-/// ```
-pub fn join_below(root: &[u8], request: Request<'_>) -> Result<Vec<u8>, Error> {
-    let path = request.as_path();
-    vec_of(root.len() + 1 + path.len(), |bytes| {
-        ffi::fill_below(root, path, bytes)
-    })
-}
-
-/// As [`way`](crate::way), in memory of its own.
+/// Finds the relative path from one path to another; see [`relative_path`](crate::relative_path).
 ///
 /// ```
 /// use unix_path_rattle::{owned, Error};
-/// assert_eq!(owned::way(b"/a/b/c", b"/a/d").unwrap(), b"../../d");
-/// assert_eq!(owned::way(b"../x", b"y"), Err(Error::NoWay));
+/// assert_eq!(owned::relative_path(b"/a/b/c", b"/a/d").unwrap(), b"../../d");
+/// assert_eq!(owned::relative_path(b"../x", b"y"), Err(Error::NoRelativePath));
 /// ```
-pub fn way(from: &[u8], to: &[u8]) -> Result<Vec<u8>, Error> {
+pub fn relative_path(from: &[u8], to: &[u8]) -> Result<Vec<u8>, Error> {
     vec_of(from.len() + 1 + to.len(), |bytes| {
-        MakeOfTwo::WAY.fill(from, to, bytes)
+        MakeOfTwo::RELATIVE_PATH.fill(from, to, bytes)
     })
 }
 
-/// As [`key`](crate::key), in memory of its own.
+/// Returns the key of a path; see [`key`](crate::key).
 ///
 /// ```
 /// assert_eq!(unix_path_rattle::owned::key(b"/a").unwrap(), b"\0\x01a\0");
@@ -168,7 +181,7 @@ pub fn key(path: &[u8]) -> Result<Vec<u8>, Error> {
     vec_of(path.len() + 2, |bytes| Make::KEY.fill(path, bytes))
 }
 
-/// As [`from_key`](crate::from_key), in memory of its own.
+/// Returns the canonical form of the paths with this key; see [`from_key`](crate::from_key).
 ///
 /// ```
 /// use unix_path_rattle::{owned, Error};
@@ -179,16 +192,16 @@ pub fn from_key(key: &[u8]) -> Result<Vec<u8>, Error> {
     vec_of(key.len(), |bytes| Make::FROM_KEY.fill(key, bytes))
 }
 
-/// As [`key_end`](crate::key_end), in memory of its own.
+/// Returns the end of a key's range; see [`key_range_end`](crate::key_range_end).
 ///
 /// ```
-/// use unix_path_rattle::owned::key_end;
-/// assert_eq!(key_end(b"a\0").unwrap().as_deref(), Some(&b"a\x01"[..]));
-/// assert_eq!(key_end(b""), Ok(None));
+/// use unix_path_rattle::owned::key_range_end;
+/// assert_eq!(key_range_end(b"a\0").unwrap().as_deref(), Some(&b"a\x01"[..]));
+/// assert_eq!(key_range_end(b""), Ok(None));
 /// ```
-pub fn key_end(key: &[u8]) -> Result<Option<Vec<u8>>, Error> {
+pub fn key_range_end(key: &[u8]) -> Result<Option<Vec<u8>>, Error> {
     if key.is_empty() {
         return Ok(None);
     }
-    vec_of(key.len(), |bytes| Make::KEY_END.fill(key, bytes)).map(Some)
+    vec_of(key.len(), |bytes| Make::KEY_RANGE_END.fill(key, bytes)).map(Some)
 }

@@ -1,14 +1,15 @@
-//! Questions about a path or about two. Answers lie in the path, and no call allocates.
+//! Functions that answer a question about one or two paths. They return slices of the path, and
+//! none allocates.
 use crate::components::Components;
 use crate::error::RequestError;
 use crate::ffi::{Ask, AskTwo, Find, FindOfTwo};
 use crate::walks::{Ancestors, Chunks};
 use core::cmp::Ordering;
 
-/// The parts of the path, one by one from either end.
+/// Returns an iterator over the components of the path, from either end.
 ///
-/// Slashes in a row count as one. A trailing slash is dropped, and so is each `.` except one that
-/// stands first. As Rust's `Path::components`.
+/// Repeated slashes count as one. A trailing slash is dropped, and so is each `.` except a leading
+/// one.
 ///
 /// ```
 /// use unix_path_rattle::{components, Component::*};
@@ -21,9 +22,7 @@ pub fn components(path: &[u8]) -> Components<'_> {
     Components::new(path)
 }
 
-/// The path, its parent, the parent of that, and so on to the last.
-///
-/// As Rust's `Path::ancestors`.
+/// Returns an iterator over the path, its parent, that parent's parent, and so on.
 ///
 /// ```
 /// assert!(unix_path_rattle::ancestors(b"/a//b/").eq([&b"/a//b/"[..], b"/a", b"/"]));
@@ -34,10 +33,11 @@ pub fn ancestors(path: &[u8]) -> Ancestors<'_> {
     Ancestors::new(path)
 }
 
-/// The chunks of the path: UTF-8 as far as it goes, and the broken bytes behind it, for which
-/// [`to_string_lossy`](crate::to_string_lossy) has one U+FFFD.
+/// Returns an iterator over the chunks of the path. A chunk is the longest run of valid UTF-8 and
+/// the invalid bytes after it, which [`to_string_lossy`](crate::to_string_lossy) replaces with one
+/// U+FFFD.
 ///
-/// As Rust's `<[u8]>::utf8_chunks`.
+/// Equivalent to `<[u8]>::utf8_chunks` in Rust.
 ///
 /// ```
 /// use unix_path_rattle::{chunks, Chunk};
@@ -50,9 +50,7 @@ pub fn chunks(path: &[u8]) -> Chunks<'_> {
     Chunks::new(path)
 }
 
-/// The path without its last part, unless that is the root or there is none.
-///
-/// As Rust's `Path::parent`.
+/// Returns the path without its last component, or `None` if that is the root or there is none.
 ///
 /// ```
 /// assert_eq!(unix_path_rattle::parent(b"/a//b/"), Some(&b"/a"[..]));
@@ -64,7 +62,7 @@ pub fn parent(path: &[u8]) -> Option<&[u8]> {
     Find::PARENT.find(path)
 }
 
-/// The last part, if it is a name. As Rust's `Path::file_name`.
+/// Returns the last component if it is a name.
 ///
 /// ```
 /// assert_eq!(unix_path_rattle::file_name(b"foo.txt/."), Some(&b"foo.txt"[..]));
@@ -76,9 +74,7 @@ pub fn file_name(path: &[u8]) -> Option<&[u8]> {
     Find::FILE_NAME.find(path)
 }
 
-/// The file name up to its last dot; all of it if it has no dot, or if that dot is first.
-///
-/// As Rust's `Path::file_stem`.
+/// Returns the file name up to its last dot, or all of it if it has no dot or only a leading one.
 ///
 /// ```
 /// assert_eq!(unix_path_rattle::file_stem(b"a/foo.tar.gz"), Some(&b"foo.tar"[..]));
@@ -90,9 +86,8 @@ pub fn file_stem(path: &[u8]) -> Option<&[u8]> {
     Find::FILE_STEM.find(path)
 }
 
-/// The file name behind its last dot; `None` if it has no dot, or if that dot is first.
-///
-/// As Rust's `Path::extension`.
+/// Returns the part of the file name after its last dot, or `None` if it has no dot or only a
+/// leading one.
 ///
 /// ```
 /// assert_eq!(unix_path_rattle::extension(b"a/foo.tar.gz"), Some(&b"gz"[..]));
@@ -105,9 +100,8 @@ pub fn extension(path: &[u8]) -> Option<&[u8]> {
     Find::EXTENSION.find(path)
 }
 
-/// The file name up to its first dot behind its first byte; all of it if there is no such dot.
-///
-/// As Rust's `Path::file_prefix`.
+/// Returns the file name up to its first dot after the first byte, or all of it if there is no such
+/// dot.
 ///
 /// ```
 /// assert_eq!(unix_path_rattle::file_prefix(b"a/foo.tar.gz"), Some(&b"foo"[..]));
@@ -119,13 +113,12 @@ pub fn file_prefix(path: &[u8]) -> Option<&[u8]> {
     Find::FILE_PREFIX.find(path)
 }
 
-/// What follows `base` in `path`; `None` if [`starts_with`] is false.
+/// Returns what follows `base` in `path`, or `None` if [`starts_with`] is false.
 ///
-/// As Rust's `Path::strip_prefix`, except that an answer of no bytes may stand elsewhere in the
-/// path.
+/// An empty result may be at another position in the path than in Rust's `Path::strip_prefix`.
 ///
-/// What follows may climb, as `../etc` does below. To keep a path below a directory, use
-/// [`Request::join_below`](crate::Request::join_below).
+/// The result may escape, like `../etc` below. To keep a request beneath a directory, join them
+/// with [`join_beneath`](crate::join_beneath).
 ///
 /// ```
 /// assert_eq!(unix_path_rattle::strip_prefix(b"/a//b/", b"/a"), Some(&b"b"[..]));
@@ -138,10 +131,10 @@ pub fn strip_prefix<'a>(path: &'a [u8], base: &[u8]) -> Option<&'a [u8]> {
     FindOfTwo::STRIP_PREFIX.find(path, base)
 }
 
-/// Whether the parts of `base` begin those of `path`. As Rust's `Path::starts_with`.
+/// Returns true if the components of `path` start with those of `base`.
 ///
 /// A path that starts with a directory may still leave it, since no `..` is resolved. To keep a
-/// path below a directory, use [`Request::join_below`](crate::Request::join_below).
+/// request beneath a directory, join them with [`join_beneath`](crate::join_beneath).
 ///
 /// ```
 /// assert!(unix_path_rattle::starts_with(b"/etc//passwd", b"/etc/"));
@@ -154,7 +147,7 @@ pub fn starts_with(path: &[u8], base: &[u8]) -> bool {
     AskTwo::STARTS_WITH.ask(path, base)
 }
 
-/// Whether the parts of `child` end those of `path`. As Rust's `Path::ends_with`.
+/// Returns true if the components of `path` end with those of `child`.
 ///
 /// ```
 /// assert!(unix_path_rattle::ends_with(b"/etc/passwd", b"passwd/"));
@@ -166,7 +159,7 @@ pub fn ends_with(path: &[u8], child: &[u8]) -> bool {
     AskTwo::ENDS_WITH.ask(path, child)
 }
 
-/// Whether two paths have the same parts. As `==` of Rust's `Path`.
+/// Returns true if two paths have the same components, like `==` of Rust's `Path`.
 ///
 /// ```
 /// assert!(unix_path_rattle::equal(b"a//b/.", b"a/b"));
@@ -178,7 +171,7 @@ pub fn equal(a: &[u8], b: &[u8]) -> bool {
     AskTwo::EQUAL.ask(a, b)
 }
 
-/// The order of two paths by their parts. As `cmp` of Rust's `Path`.
+/// Compares two paths by their components, like `cmp` of Rust's `Path`.
 ///
 /// ```
 /// use std::cmp::Ordering::{Equal, Less};
@@ -191,10 +184,10 @@ pub fn compare(a: &[u8], b: &[u8]) -> Ordering {
     AskTwo::COMPARE.ask(a, b).cmp(&0)
 }
 
-/// A number that equal paths share, the same in every run and on every machine.
+/// Returns a hash that equal paths share, the same in every run and on every machine.
 ///
-/// It has no key: if an attacker may choose the paths, feed [`ByComponents`](crate::ByComponents) to
-/// a hasher that has one. Not in Rust's std, whose `Path` feeds a hasher.
+/// The hash is unkeyed: if an attacker may choose the paths, feed
+/// [`ByComponents`](crate::ByComponents) to a keyed hasher.
 ///
 /// ```
 /// assert_eq!(unix_path_rattle::hash(b"a//b/."), unix_path_rattle::hash(b"a/b"));
@@ -205,7 +198,7 @@ pub fn hash(path: &[u8]) -> u64 {
     Ask::HASH.ask(path)
 }
 
-/// Whether the path's bytes are UTF-8. As Rust's `Path::to_str`, which gives the text.
+/// Returns true if the path is valid UTF-8.
 ///
 /// ```
 /// assert!(unix_path_rattle::is_utf8("/tmp/é".as_bytes()));
@@ -217,8 +210,8 @@ pub fn is_utf8(path: &[u8]) -> bool {
     Ask::IS_UTF8.ask(path)
 }
 
-/// Whether the path is the shortest with its parts: whether [`canonical`](crate::canonical) gives
-/// the same bytes. Not in Rust's std.
+/// Returns true if the path is in canonical form: [`canonical`](crate::canonical) returns the same
+/// bytes.
 ///
 /// ```
 /// assert!(unix_path_rattle::is_canonical(b"./a/b"));
@@ -230,7 +223,7 @@ pub fn is_canonical(path: &[u8]) -> bool {
     Ask::IS_CANONICAL.ask(path)
 }
 
-/// Whether the path begins with a slash. As Rust's `Path::is_absolute`.
+/// Returns true if the path begins with a slash.
 ///
 /// ```
 /// assert!(unix_path_rattle::is_absolute(b"/a"));
@@ -242,31 +235,34 @@ pub fn is_absolute(path: &[u8]) -> bool {
     Ask::IS_ABSOLUTE.ask(path)
 }
 
-/// Whether the path has a root or, read from the left, ever goes above where it starts.
+/// Returns true if the path escapes: it has a root, or its `..` lead above where it starts, even if
+/// later names come down again.
 ///
-/// It goes by names alone: if a part may be a link, only the system knows where `..` leads. Not in
-/// Rust's std.
+/// Purely lexical: symbolic links are not followed.
 ///
 /// ```
-/// assert!(unix_path_rattle::climbs(b"a/../../root/x"));
-/// assert!(unix_path_rattle::climbs(b"/a"));
-/// assert!(!unix_path_rattle::climbs(b"a/../..foo"));
+/// assert!(unix_path_rattle::escapes(b"a/../../root/x"));
+/// assert!(unix_path_rattle::escapes(b"/a"));
+/// assert!(!unix_path_rattle::escapes(b"a/../..foo"));
 /// ```
 #[must_use]
 #[inline]
-pub fn climbs(path: &[u8]) -> bool {
-    Ask::CLIMBS.ask(path)
+pub fn escapes(path: &[u8]) -> bool {
+    Ask::ESCAPES.ask(path)
 }
 
-/// Whether a path from outside is a request that stays below any root by names, or why it is none.
+/// Returns `Ok` if [`join_beneath`](crate::join_beneath) joins the request, and otherwise why it
+/// refuses it.
 ///
-/// What tells one error is read before what tells the next. Not in Rust's std.
+/// Fails with `Rooted` if and only if the request has a root; otherwise with `Escapes` if and only
+/// if its `..` lead above where it starts; otherwise with `Nul` if and only if it has a NUL byte,
+/// at which a system call would cut it.
 ///
 /// ```
 /// use unix_path_rattle::{check_request, RequestError};
 /// assert_eq!(check_request(b"a/../b"), Ok(()));
 /// assert_eq!(check_request(b"/../a"), Err(RequestError::Rooted));
-/// assert_eq!(check_request(b"a/../.."), Err(RequestError::Climbs));
+/// assert_eq!(check_request(b"a/../.."), Err(RequestError::Escapes));
 /// assert_eq!(check_request(b"a\0.png"), Err(RequestError::Nul));
 /// ```
 #[inline]
@@ -274,15 +270,49 @@ pub fn check_request(path: &[u8]) -> Result<(), RequestError> {
     match Ask::CHECK_REQUEST.ask(path) {
         0 => Ok(()),
         1 => Err(RequestError::Rooted),
-        2 => Err(RequestError::Climbs),
+        2 => Err(RequestError::Escapes),
         _ => Err(RequestError::Nul),
     }
 }
 
-/// The bytes of `a` up to and with the last slash of the longest string that both begin with; none
-/// if that string has no slash.
+/// Returns true if a request is the root itself: no name remains of it when it is resolved as
+/// [`join_in_root`](crate::join_in_root) does.
 ///
-/// Not in Rust's std.
+/// [`join_in_root`](crate::join_in_root) then writes the root verbatim if the request has no NUL
+/// byte, and so does [`join_beneath`](crate::join_beneath) unless it refuses the request.
+///
+/// ```
+/// assert!(unix_path_rattle::request_is_root(b"a/.."));
+/// assert!(unix_path_rattle::request_is_root(b"/"));
+/// assert!(!unix_path_rattle::request_is_root(b"a/../b"));
+/// ```
+#[must_use]
+#[inline]
+pub fn request_is_root(path: &[u8]) -> bool {
+    Ask::REQUEST_IS_ROOT.ask(path)
+}
+
+/// Returns true if the last component is a name and a slash or a `/.` follows it: a system call
+/// takes such a path for the path of a directory.
+///
+/// [`join_beneath`](crate::join_beneath) and [`join_in_root`](crate::join_in_root) drop what
+/// follows the names of a request.
+///
+/// ```
+/// assert!(unix_path_rattle::ends_in_slash(b"a/"));
+/// assert!(unix_path_rattle::ends_in_slash(b"a/."));
+/// assert!(!unix_path_rattle::ends_in_slash(b"a"));
+/// assert!(!unix_path_rattle::ends_in_slash(b"a/.."));
+/// assert!(!unix_path_rattle::ends_in_slash(b"/"));
+/// ```
+#[must_use]
+#[inline]
+pub fn ends_in_slash(path: &[u8]) -> bool {
+    Ask::ENDS_IN_SLASH.ask(path)
+}
+
+/// Returns the bytes of `a` up to and including the last slash of the longest common prefix of both
+/// strings, or no bytes if that prefix has no slash.
 ///
 /// ```
 /// assert_eq!(unix_path_rattle::common_dir(b"x/ab", b"x/ac"), b"x/");

@@ -1,10 +1,11 @@
-//! A path and its parents, and the chunks of a path, one at a time.
+//! Iterators over a path and its parents, and over the chunks of a path.
 use crate::ffi;
 use core::iter::FusedIterator;
 
-/// A path, its parent, the parent of that, and so on; [`ancestors`](crate::ancestors) begins one.
+/// An iterator over a path, its parent, that parent's parent, and so on, returned by
+/// [`ancestors`](crate::ancestors).
 ///
-/// No method allocates. As Rust's `std::path::Ancestors`.
+/// No method allocates.
 #[derive(Clone, Copy, Debug)]
 pub struct Ancestors<'a> {
     path: &'a [u8],
@@ -30,21 +31,21 @@ impl<'a> Iterator for Ancestors<'a> {
 
 impl FusedIterator for Ancestors<'_> {}
 
-/// A chunk of a path: UTF-8 as far as it goes, and the broken bytes behind it.
+/// A chunk of a path: the longest run of valid UTF-8 and the invalid bytes after it.
 ///
-/// As Rust's `Utf8Chunk`, whose text is a `str`.
+/// Like `Utf8Chunk` of Rust, whose valid part is a `str`.
 #[derive(Clone, Copy, Debug, PartialEq, Eq)]
 pub struct Chunk<'a> {
-    /// The bytes that are UTF-8; none if the chunk begins with the others.
+    /// The bytes that are valid UTF-8; none if the chunk begins with invalid bytes.
     pub valid: &'a [u8],
-    /// At most 3 bytes that are none, for which the lossy text has one U+FFFD; only in the last
-    /// chunk there can be none.
+    /// At most 3 invalid bytes, for which the lossy text has one U+FFFD. Only the last chunk can
+    /// have none.
     pub broken: &'a [u8],
 }
 
-/// The chunks of a path, in order; [`chunks`](crate::chunks) begins them.
+/// An iterator over the chunks of a path, returned by [`chunks`](crate::chunks).
 ///
-/// No method allocates. As Rust's `Utf8Chunks`.
+/// No method allocates. Like `Utf8Chunks` of Rust.
 #[derive(Clone, Copy, Debug)]
 pub struct Chunks<'a> {
     path: &'a [u8],

@@ -1,4 +1,4 @@
-//! Lack of memory: each call that allocates has an error for it.
+//! Out of memory: each call that allocates returns an error.
 #[macro_use]
 #[path = "../src/ffi/calls.rs"]
 mod calls;
@@ -6,17 +6,17 @@ mod calls;
 use std::alloc::{GlobalAlloc, Layout, System};
 use std::cell::Cell;
 use std::ptr::null_mut;
-use unix_path_rattle::{edits, owned, Error, Request};
+use unix_path_rattle::{edits, join_beneath, join_in_root, owned, Error};
 
 thread_local! {
-    /// Whether this thread is given no memory.
+    /// True if allocations of this thread fail.
     static IS_REFUSED: Cell<bool> = const { Cell::new(false) };
 }
 
-/// The system's memory, unless it is refused.
+/// The system's allocator, unless allocations of this thread fail.
 struct RefusingAllocator;
 
-// SAFETY: each call is passed on to the system's allocator, or answers null.
+// SAFETY: each call is passed on to the system's allocator, or returns null.
 unsafe impl GlobalAlloc for RefusingAllocator {
     unsafe fn alloc(&self, layout: Layout) -> *mut u8 {
         if IS_REFUSED.get() {
@@ -33,7 +33,7 @@ unsafe impl GlobalAlloc for RefusingAllocator {
 #[global_allocator]
 static MEMORY: RefusingAllocator = RefusingAllocator;
 
-/// The answer of the call where no memory is given.
+/// Returns the result of the call while allocations fail.
 fn without_memory<T>(call: impl FnOnce() -> Result<T, Error>) -> Result<T, Error> {
     IS_REFUSED.set(true);
     let answer = call();
@@ -59,8 +59,7 @@ fn it_is_an_error() {
         )*};
     }
     make_of_two!(of_two);
-    let request = Request::below(b"/a/../b").unwrap();
-    let joined = without_memory(|| owned::join_below(b"/srv", request));
+    let joined = without_memory(|| owned::join_in_root(b"/srv", b"/a/../b"));
     assert_eq!(joined, Err(Error::NoMemory));
 }
 
@@ -68,26 +67,25 @@ fn it_is_an_error() {
 fn empty_answers_need_none() {
     assert_eq!(without_memory(|| owned::canonical(b"")), Ok(vec![]));
     assert_eq!(without_memory(|| owned::resolved(b"")), Ok(vec![]));
-    let no_way = without_memory(|| unix_path_rattle::way(b"/a", b"b", &mut []).map(<[u8]>::len));
-    assert_eq!(no_way, Err(Error::NoWay));
+    let no_relative_path =
+        without_memory(|| unix_path_rattle::relative_path(b"/a", b"b", &mut []).map(<[u8]>::len));
+    assert_eq!(no_relative_path, Err(Error::NoRelativePath));
 }
 
 #[test]
 fn requests_are_joined_without() {
     IS_REFUSED.set(true);
     let mut out = [0; 16];
-    let is_joined = match Request::new(b"a/../b/") {
-        Ok(request) => request.join_below(b"/srv", &mut out) == Ok(b"/srv/b"),
-        Err(_) => false,
-    };
+    let is_beneath = join_beneath(b"/srv", b"a/../b/", &mut out) == Ok(b"/srv/b");
+    let is_in_root = join_in_root(b"/srv", b"/../b/", &mut out) == Ok(b"/srv/b");
     IS_REFUSED.set(false);
-    assert!(is_joined);
+    assert!(is_beneath && is_in_root);
 }
 
-/// An edit that puts something into the path.
+/// An edit that adds something to the path.
 type Edit = fn(&mut Vec<u8>, &[u8]) -> Result<(), Error>;
 
-/// The edits, the last without its truth.
+/// The edits. The last one drops the truth value that `set_extension` returns.
 const EDITS: [Edit; 3] = [edits::push, edits::set_file_name, |path, extension| {
     edits::set_extension(path, extension).map(|_| ())
 }];

@@ -1,4 +1,4 @@
--- Manifests: paths in canonical form and in order. Not in Rust's std.
+-- Manifests: sorted paths in canonical form.
 use Rattle.std.specs.Prelude.{◌≡◌, Bool, List}
 use Rattle.std.specs.BTreeSet.{BTreeSet, contains, IsOrdered}
 use Rattle.std.specs.List.{All, list_any}
@@ -11,7 +11,7 @@ use Rattle.unix_path.specs.declared.buf.PathBuf.{PathBuf}
 use Rattle.unix_path.specs.declared.path.Path.{Path}
 use Rattle.path_runs.specs.Spelling.{spelling_of}
 
--- the order of two owned paths, as `cmp` answers it
+-- the order of two owned paths, as `cmp` returns it
 abbrev pub paths_cmp : PathBuf → PathBuf → Ordering
 paths_cmp p q = values_cmp (values (path_bytes p)) (values (path_bytes q))
 
@@ -19,11 +19,11 @@ paths_cmp p q = values_cmp (values (path_bytes p)) (values (path_bytes q))
 abbrev pub is_same : PathBuf → Path → Bool
 is_same p path = is_eq (values_cmp (values path.bytes.now) (values (path_bytes p)))
 
--- the path is in canonical form, the one shortest path with its values
+-- the path is in canonical form, the one shortest path with its components
 abbrev pub IsCanonical : PathBuf → Type 0
 IsCanonical p = path_bytes p ≡ spelling_of (values (path_bytes p))
 
--- the set is what `normalise` gives for the paths. No public clause cites it
+-- the set is what `normalise` returns for the paths; no public clause cites this definition
 pub record IsNormalised (paths : List Path) (set : BTreeSet PathBuf) : Type 0 where
   pub ordered : IsOrdered paths_cmp set
   pub canonical : All IsCanonical set.keys

@@ -1,9 +1,9 @@
-//! An unpacker of archives: where its entries go, and why some of them go nowhere.
+//! An unpacker of archives: where its entries are unpacked, and why some are refused.
 ghost use Rattle.std.specs.Prelude.{◌≡◌, ◌↔◌, true, false, IfOk, IsErrOf};
 ghost use Rattle.unix_path.specs.Buffers.{path_bytes};
 ghost use Rattle.unix_path.specs.Parts.{is_rooted, values};
 ghost use Rattle.path_within.specs.Below.{below_of, has_nul, IsBelow};
-ghost use Rattle.path_within.specs.Climbs.{Climbs};
+ghost use Rattle.path_within.specs.Escapes.{Escapes};
 ghost use Rattle.path_within.specs.Requests.{root_bytes};
 ghost use Rattle.path_within.specs.Resolved.{resolved_of};
 
@@ -11,18 +11,18 @@ use path_within::{Request, RequestError, Root};
 use std::alloc::{AllocError, Global};
 use unix_path::{Path, PathBuf};
 
-/// Why an entry isn't unpacked. Not in Rust's std.
+/// The reason why an entry is not unpacked.
 #[derive(Debug, Drop)]
 pub enum UnpackError {
-    /// The entry is no request, and why.
+    /// The entry is not a request, for this reason.
     Refused(RequestError),
     /// An allocation failed.
     Memory(AllocError),
 }
 
-/// `Refused`, with the error of the request. Does not allocate.
+/// Returns `Refused`, with the error of the request.
 ///
-/// With it `?` works on a `Request::new` in a function whose error is an `UnpackError`.
+/// It makes `?` work on a `Request::beneath` in a function whose error is an `UnpackError`.
 impl From<RequestError> for UnpackError {
     ghost use Rattle.callers.specs.declared.archive.UnpackError.TheVariants.{Refused};
 
@@ -33,9 +33,9 @@ impl From<RequestError> for UnpackError {
     }
 }
 
-/// `Memory`, with the error of the allocation. Does not allocate.
+/// Returns `Memory`, with the error of the allocation.
 ///
-/// With it `?` works on a `Root::join` in a function whose error is an `UnpackError`.
+/// It makes `?` work on a `Root::join` in a function whose error is an `UnpackError`.
 impl From<AllocError> for UnpackError {
     ghost use Rattle.callers.specs.declared.archive.UnpackError.TheVariants.{Memory};
 
@@ -46,26 +46,27 @@ impl From<AllocError> for UnpackError {
     }
 }
 
-/// Where an entry of an archive is unpacked: its name, resolved, below the root.
+/// Returns the path at which an entry of an archive is unpacked: its names, resolved, below the
+/// root.
 ///
-/// An entry with a root, one that climbs and one with a NUL byte are refused, each told so, before
-/// anything is allocated. Allocates once; fails with `Memory` if the allocation fails. Not in
-/// Rust's std.
+/// An entry that has a root, escapes or has a NUL byte is refused, with an error for each, before
+/// anything is allocated. Allocates once. Fails with `Memory` if the allocation fails.
 ///
-/// Below `/tmp/x`, for `a/./b` it is `/tmp/x/a/b`; `../b` is refused as `Climbs`.
-pub fn target_of(alloc: Global, root: &Root, entry: Path<'_>) -> Result<PathBuf, UnpackError>
+/// Below `/tmp/x`, the entry `a/./b` is unpacked at `/tmp/x/a/b`, and `../b` is refused as
+/// `Escapes`.
+pub fn unpack_path(alloc: Global, root: &Root, entry: Path<'_>) -> Result<PathBuf, UnpackError>
     ensures rooted { IsErrOf result (UnpackError.Refused RequestError.Rooted)
         ↔ (is_rooted entry.entry.bytes.now ≡ true) }
-    ensures climbs { IsErrOf result (UnpackError.Refused RequestError.Climbs)
+    ensures escapes { IsErrOf result (UnpackError.Refused RequestError.Escapes)
         ↔ ((is_rooted entry.entry.bytes.now ≡ false)
-        × Climbs (values entry.entry.bytes.now)) }
+        × Escapes (values entry.entry.bytes.now)) }
     ensures nul { IsErrOf result (UnpackError.Refused RequestError.Nul)
-        ↔ ((Climbs (values entry.entry.bytes.now) → ⊥)
+        ↔ ((Escapes (values entry.entry.bytes.now) → ⊥)
         × (has_nul entry.entry.bytes.now ≡ true)) }
     ensures bytes { IfOk result (λ p. path_bytes p
         ≡ below_of (root_bytes root.now) (resolved_of (values entry.entry.bytes.now))) }
     ensures below { IfOk result (λ p. IsBelow (root_bytes root.now) (path_bytes p)) }
 {
-    let request = Request::new(entry)?;
+    let request = Request::beneath(entry)?;
     Ok(root.join(alloc, request)?)
 }

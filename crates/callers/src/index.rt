@@ -1,4 +1,4 @@
-//! Look-ups by a path that is not owned.
+//! Look-ups by a borrowed path.
 ghost use Rattle.std.specs.Prelude.{◌≡◌, length};
 ghost use Rattle.std.specs.BTreeMap.{is_at};
 ghost use Rattle.std.specs.List.Sorted.{IsBinarySearchResult, IsSearchInRange};
@@ -13,12 +13,10 @@ use path_runs::laws;
 use std::collections::BTreeMap;
 use unix_path::{Path, PathBuf};
 
-/// The value at the key that is equal to this path, in a map whose keys are views; `None` if no key
-/// is equal to it.
+/// Returns the value at the key that is equal to this path, or `None` if there is no such key. The
+/// keys of the map are views.
 ///
-/// Does not allocate. As Rust's `BTreeMap::get`.
-///
-/// With 1 at `a/b`, for `a//b/` it is 1.
+/// With 1 at `a/b`, the value at `a//b/` is 1.
 pub fn value_at<'m, 'a, V>(files: &'m BTreeMap<Path<'a>, V>, path: Path<'a>) -> Option<&'m V>
     ensures { option_copied result ≡ lookup (is_at (values_cmp (values path.entry.bytes.now)))
         (rows_of view_bytes files.entry.now.entries) }
@@ -27,14 +25,14 @@ pub fn value_at<'m, 'a, V>(files: &'m BTreeMap<Path<'a>, V>, path: Path<'a>) -> 
     files.get(&path)
 }
 
-/// The place of an entry with this path, in a list that is sorted by path, or as an error the place
-/// at which this path can be inserted.
+/// Finds an entry whose path is equal to this one, in a list that is sorted by path. Returns its
+/// index in the list, or as an error the index at which the path can be inserted.
 ///
-/// Does not allocate. As Rust's `slice::binary_search_by`.
+/// It is a `slice::binary_search_by`.
 ///
-/// Among `a`, `a/b` and `b` it is `Ok(1)` for `a//b`, and `Err(2)` for `a/c`.
-pub fn place_of<V>(files: &[(PathBuf, V)], path: Path<'_>) -> Result<usize, usize>
-    ensures place { IsBinarySearchResult
+/// Among `a`, `a/b` and `b` it returns `Ok(1)` for `a//b`, and `Err(2)` for `a/c`.
+pub fn search_by_path<V>(files: &[(PathBuf, V)], path: Path<'_>) -> Result<usize, usize>
+    ensures search_result { IsBinarySearchResult
         (λ file. values_cmp (values (path_bytes file.0)) (values path.entry.bytes.now))
         files.now result }
     ensures in_range { IsSearchInRange result (length files.now) }

@@ -1,5 +1,9 @@
-//! Small users of paths: a file server, an unpacker of archives, mappers of URLs, a table of
-//! mounts, a router, manifests and what changes from one to another, a tree of files and an index.
+//! Short examples of what programs do with paths: a file server, an unpacker of archives, mappers
+//! of URLs, a table of mounts, a router, manifests and the changes between them, a tree of files
+//! and an index.
+//!
+//! Functions do not allocate unless they take an allocator or say so. Functions named as in `std`
+//! behave as they do on Unix unless stated. Lengths count bytes.
 #![tactic(auto)]
 
 pub mod archive;

@@ -1,4 +1,4 @@
-//! Manifests: paths in canonical form, each once, in order.
+//! Manifests: sorted paths in canonical form, each of them once.
 ghost use Rattle.std.specs.Prelude.{◌≡◌, ◌||◌, IfOk, OnOk};
 ghost use Rattle.std.specs.BTreeSet.{contains, IsOrdered};
 ghost use Rattle.std.specs.List.{All, list_any};
@@ -25,8 +25,8 @@ fn add(alloc: Global, set: &mut BTreeSet<PathBuf>, path: Path<'_>) -> Result<(),
     Ok(())
 }
 
-// The set of these paths, which are added from the first on.
-fn from_first(alloc: Global, paths: &[Path<'_>]) -> Result<BTreeSet<PathBuf>, AllocError>
+// Returns the set of these paths, which are added from the first to the last.
+fn collect_forward(alloc: Global, paths: &[Path<'_>]) -> Result<BTreeSet<PathBuf>, AllocError>
     ensures { IfOk result (IsNormalised paths.now) }
 {
     let mut set = BTreeSet::new(alloc);
@@ -36,8 +36,8 @@ fn from_first(alloc: Global, paths: &[Path<'_>]) -> Result<BTreeSet<PathBuf>, Al
     Ok(set)
 }
 
-// The set of these paths, which are added from the last down.
-fn from_last(alloc: Global, paths: &[Path<'_>]) -> Result<BTreeSet<PathBuf>, AllocError>
+// Returns the set of these paths, which are added from the last to the first.
+fn collect_backward(alloc: Global, paths: &[Path<'_>]) -> Result<BTreeSet<PathBuf>, AllocError>
     ensures { IfOk result (IsNormalised paths.now) }
 {
     let mut set = BTreeSet::new(alloc);
@@ -47,11 +47,11 @@ fn from_last(alloc: Global, paths: &[Path<'_>]) -> Result<BTreeSet<PathBuf>, All
     Ok(set)
 }
 
-/// The set of these paths in canonical form.
+/// Returns the set of these paths in canonical form.
 ///
-/// The set is sorted and has each path once; it contains a path exactly if that is equal to one of
-/// these. Allocates for each path and its place in the set; fails if an allocation fails, and then
-/// the set is dropped. Not in Rust's std.
+/// The set is sorted, and has each path once. It contains a path if and only if the path is equal
+/// to one of these. Allocates for each path and its entry in the set. If an allocation fails, it
+/// fails and drops the set.
 ///
 /// For `b`, `a//b/.`, `a/b` and `./a` it is `./a`, `a/b` and `b`.
 pub fn normalise(alloc: Global, paths: &[Path<'_>]) -> Result<BTreeSet<PathBuf>, AllocError>
@@ -60,11 +60,12 @@ pub fn normalise(alloc: Global, paths: &[Path<'_>]) -> Result<BTreeSet<PathBuf>,
     ensures same { IfOk result (λ set. (p : PathBuf) →
         contains paths_cmp set p ≡ list_any (is_same p) paths.now) }
 {
-    // A search in a node of the set goes up from the node's first path: a path that comes before
-    // all others finds its place soonest. A list in order is therefore added from its end.
+    // A search in a node of the set begins at the node's first path, so it ends soonest for a path
+    // that sorts before all others. A sorted list is therefore added from its last path to its
+    // first.
     if paths.first() < paths.last() {
-        from_last(alloc, paths)
+        collect_backward(alloc, paths)
     } else {
-        from_first(alloc, paths)
+        collect_forward(alloc, paths)
     }
 }

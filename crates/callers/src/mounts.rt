@@ -9,14 +9,16 @@ use path_within::{Request, Root};
 use std::alloc::{AllocError, Global};
 use unix_path::{Path, PathBuf};
 
-/// The file of a path: what follows the nearest mount point, below the root that is mounted there.
+/// Returns the file of a path: the rest of the path after the nearest mount point, below the root
+/// that is mounted there.
 ///
-/// `None` if no mount point begins the path, or if a NUL byte follows the nearest. Each `..` behind
-/// a mount point takes away the name before it, and one that would go above it leads to the root.
-/// Allocates for the file, and for the path's key if that has more than 512 bytes; fails if an
-/// allocation fails. Not in Rust's std.
+/// The nearest mount point is the longest mount point that the path starts with. The result is
+/// `None` if there is no such mount point, or if a NUL byte follows it in the path. Each `..` after
+/// the mount point drops the name before it, and a `..` that would go above the mount point leads
+/// to the root mounted there. Allocates for the file, and also for the path's key if the key is
+/// longer than 512 bytes. Fails if an allocation fails.
 ///
-/// With `/srv` mounted at `/`, and `/home/me` at `/me`, for `/me/../a` it is `/home/me/a`.
+/// With `/srv` mounted at `/`, and `/home/me` at `/me`, the file of `/me/../a` is `/home/me/a`.
 pub fn mounted_file(
     alloc: Global,
     mounts: &PathTree<Root>,
@@ -27,10 +29,10 @@ pub fn mounted_file(
     ensures none { IfOk result (λ found. found ≡ None
         → IsUnmounted path.entry.bytes.now (table_of mounts.now)) }
 {
-    let Some((left, root)) = mounts.longest_prefix(path)? else {
+    let Some((rest, root)) = mounts.longest_prefix(path)? else {
         return Ok(None);
     };
-    let Ok(request) = Request::below(left) else {
+    let Ok(request) = Request::in_root(rest) else {
         return Ok(None);
     };
     let file = root.join(alloc, request)?;

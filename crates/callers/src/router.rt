@@ -1,4 +1,4 @@
-//! A router: the handler of a request, by the longest prefix of its path.
+//! A router: finds the handler of a request by the longest prefix of its path.
 ghost use Rattle.std.specs.Prelude.{IfOk};
 ghost use Rattle.path_tree.specs.Tree.{table_of};
 ghost use Rattle.callers.specs.Router.{IsRouted};
@@ -7,15 +7,16 @@ use path_tree::PathTree;
 use std::alloc::AllocError;
 use unix_path::Path;
 
-/// The handler of a path, and what it has to handle: the handler at the longest prefix of the path,
-/// and what follows the prefix.
+/// Returns the handler of a path, and what it has to handle: the handler at the longest prefix of
+/// the path, and the rest of the path after this prefix.
 ///
-/// Without a prefix in the routes it is the fallback, and the whole path. Whole parts count, and no
-/// `..` is resolved. Does not allocate if the path's key has at most 512 bytes, as it has for each
-/// path of up to 510; else allocates once, and fails if the allocation fails. Not in Rust's std.
+/// If the routes have no prefix of the path, it returns the fallback and the whole path. Prefixes
+/// are of whole components, and no `..` is resolved. Allocates, once, only if the path's key is
+/// longer than 512 bytes, which requires a path of more than 510 bytes. Fails only if that
+/// allocation fails.
 ///
-/// With 1 at `/` and 2 at `/api`, for `/api//users` it is 2 and `users`, and for `/apis` it is 1
-/// and `apis`.
+/// With 1 at `/` and 2 at `/api`, `/api//users` has the handler 2 and the rest `users`, and `/apis`
+/// has the handler 1 and the rest `apis`.
 pub fn route<'a, 'r, H>(
     routes: &'r PathTree<H>,
     fallback: &'r H,

@@ -6,11 +6,10 @@ ghost use Rattle.callers.specs.Below.{StaysBelow};
 use unix_path::laws::walks_in_order;
 use unix_path::{Component, Path};
 
-/// Whether a path stays below whatever it is joined to: it is relative, and no part is `..`.
+/// Returns true if a path stays below whatever it is joined to: it is relative, and no component is
+/// `..`.
 ///
-/// Does not allocate. Not in Rust's std.
-///
-/// For `a/..b` it is true; for `a/../b` and `/a` it is false.
+/// It is true for `a/..b`, and false for `a/../b` and `/a`.
 pub fn stays_below(request: Path<'_>) -> bool
     ensures value { IsTrue result ↔ StaysBelow (values request.entry.bytes.now) }
     ensures rootless { IsTrue result → is_rooted request.entry.bytes.now ≡ false }

@@ -1,4 +1,4 @@
-//! A file server: the files that its requests name, each in the same buffer.
+//! A file server: the files that requests name, each written to the same buffer.
 ghost use Rattle.std.specs.Prelude.{◌≡◌, ◌↔◌, false, IfOk, OnErr, IsTrue};
 ghost use Rattle.std.specs.Bool.{OnTrue, OnFalse};
 ghost use Rattle.unix_path.specs.Buffers.{path_bytes};
@@ -10,14 +10,14 @@ use path_within::{Request, Root};
 use std::alloc::AllocError;
 use unix_path::{Path, PathBuf};
 
-/// Makes `file` the path of the file that a request names, below the root of what is served. False
-/// if the request has a NUL byte, and then `file` stays as it was.
+/// Sets `file` to the path of the file that a request names, below the served root. Returns false
+/// if and only if the request has a NUL byte; `file` is then unchanged.
 ///
-/// The request is read as in a root directory: leading slashes are dropped, and a `..` at the top
-/// stays there. Allocates only if `file` hasn't the room; if the allocation fails, `file` stays as
-/// it was. Not in Rust's std.
+/// The request is read as in a chroot: leading slashes are dropped, and a `..` at the top stays at
+/// the top. Allocates only if the capacity of `file` is too small. If the allocation fails, `file`
+/// is unchanged.
 ///
-/// Below `/srv/www`, for `/a/../../b.html` it is `/srv/www/b.html`.
+/// Below `/srv/www`, the file of `/a/../../b.html` is `/srv/www/b.html`.
 pub fn find_file(root: &Root, file: &mut PathBuf, request: Path<'_>) -> Result<bool, AllocError>
     ensures found { IfOk result (λ found.
         IsTrue found ↔ (has_nul request.entry.bytes.now ≡ false)) }
@@ -29,7 +29,7 @@ pub fn find_file(root: &Root, file: &mut PathBuf, request: Path<'_>) -> Result<b
         OnFalse found (path_bytes file.new ≡ path_bytes file.old)) }
     ensures err { OnErr result (path_bytes file.new ≡ path_bytes file.old) }
 {
-    let Ok(request) = Request::below(request) else {
+    let Ok(request) = Request::in_root(request) else {
         return Ok(false);
     };
     root.join_into(file, request)?;

@@ -13,18 +13,18 @@ use std::alloc::{AllocError, Global};
 use std::collections::BTreeMap;
 use unix_path::{Path, PathBuf};
 
-/// Values by path. Equal paths are one key.
+/// Values by path, like a `BTreeMap<PathBuf, V>`. Equal paths are one key.
 ///
-/// A tree with 1 at `a/b` has 1 at `a//b` too. Not in Rust's std; as a `BTreeMap<PathBuf, V>`.
+/// A tree with 1 at `a/b` also has 1 at `a//b`.
 #[derive(Drop)]
 pub struct Tree<V> {
     files: BTreeMap<PathBuf, V>,
 }
 
 impl<V> Tree<V> {
-    /// A tree without files. Does not allocate. As Rust's `BTreeMap::new`.
+    /// Returns a tree without files. Nothing is allocated yet.
     ///
-    /// At `a` it has no value.
+    /// It has no value at `a`.
     pub fn new(alloc: Global) -> Tree<V>
         ensures { rows result ≡ [] }
     {
@@ -33,15 +33,14 @@ impl<V> Tree<V> {
         }
     }
 
-    /// Inserts the value at the path, and returns the value that an equal path had; `None` if there
-    /// was no such path.
+    /// Inserts the value at the path. Returns the value of an equal path that was there, or `None`
+    /// if there was none.
     ///
-    /// If an equal path has a value, that path stays as the key and its value is replaced.
-    /// Allocates for the path and, if no equal path is there, for its place in the tree; fails if
-    /// an allocation fails: then the tree stays as it was, and the value is dropped. As Rust's
-    /// `BTreeMap::insert`.
+    /// If there is an equal path, it stays as the key, and its value is replaced. Allocates for the
+    /// path and, if there is no equal path, for its entry in the tree. Fails if an allocation
+    /// fails; then the tree is unchanged, and the value is dropped.
     ///
-    /// With 1 at `a/b`, inserting 2 at `a//b/` gives 1 and leaves 2 at `a/b` alone.
+    /// With 1 at `a/b`, inserting 2 at `a//b/` returns 1, and leaves 2 at `a/b` as the only entry.
     pub fn insert(
         &mut self,
         alloc: Global,
@@ -63,10 +62,9 @@ impl<V> Tree<V> {
         Ok(old)
     }
 
-    /// The value at the path that is equal to this one; `None` if there is no such path. Does not
-    /// allocate. As Rust's `BTreeMap::get`.
+    /// Returns the value of the path that is equal to this one, or `None` if there is none.
     ///
-    /// With 1 at `a/b`, for `a/./b` it is 1.
+    /// With 1 at `a/b`, the value of `a/./b` is 1.
     pub fn get(&self, path: &PathBuf) -> Option<&V>
         ensures { option_copied result
             ≡ lookup (is_at (values_cmp (values (path_bytes path.now)))) (rows self.now) }
@@ -75,10 +73,10 @@ impl<V> Tree<V> {
         self.files.get(path)
     }
 
-    /// Removes the path that is equal to this one, and returns its value; `None` if there is no
-    /// such path. Does not allocate. As Rust's `BTreeMap::remove`.
+    /// Removes the path that is equal to this one. Returns its value, or `None` if there is no such
+    /// path.
     ///
-    /// With 1 at `a/b` alone, removing `a//b` gives 1 and leaves no files.
+    /// With 1 at `a/b` as the only entry, removing `a//b` returns 1, and leaves no files.
     pub fn remove(&mut self, path: &PathBuf) -> Option<V>
         ensures value { result
             ≡ lookup (is_at (values_cmp (values (path_bytes path.now)))) (rows self.old) }

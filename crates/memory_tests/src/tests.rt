@@ -1,4 +1,4 @@
-//! Tests of calls whose allocations fail, and of calls that need no memory.
+//! Tests of calls whose allocations fail, and of calls that do not allocate.
 mod all_memory;
 mod buffers;
 mod copies;
@@ -8,7 +8,7 @@ mod runs;
 mod strings;
 mod without_memory;
 
-use memory_drought::Drought;
+use memory_pressure::Exhausted;
 use std::alloc::{AllocError, Global};
 use std::test::Fail;
 use unix_bytes::bytes::{LossyText, UnixStr};
@@ -22,12 +22,13 @@ fn path(text: &str) -> Path<'_> {
     Path::from_text(text)
 }
 
-// Whether the path has these bytes.
+// Returns true if the path has these bytes.
 fn holds(buffer: &PathBuf, text: &str) -> bool {
     buffer.as_path().as_unix_str() == UnixStr::new(text)
 }
 
-// Whether the call failed. Takes the call's result, so that the caller has nothing to drop.
+// Returns true if the call failed. Consumes the call's result, so that the caller has nothing to
+// drop.
 fn fails<T: Drop, E: Drop>(given: Result<T, E>) -> bool {
     given.is_err()
 }
@@ -36,7 +37,7 @@ fn succeeds<T: Drop, E: Drop>(given: Result<T, E>) -> bool {
     given.is_ok()
 }
 
-// Whether the call borrowed this text.
+// Returns true if the call borrowed this text.
 fn is_borrowed(given: Result<LossyText<'_>, AllocError>, text: &str) -> bool {
     match given {
         Ok(LossyText::Borrowed(shown)) => shown == text,
@@ -44,15 +45,15 @@ fn is_borrowed(given: Result<LossyText<'_>, AllocError>, text: &str) -> bool {
     }
 }
 
-// Takes all memory. It is an error if a request is still granted, so that no test passes without a
-// refusal.
-fn drought(alloc: Global) -> Result<Drought, Fail> {
-    let Some(drought) = Drought::begin(alloc)? else {
+// Allocates all memory. Fails if an allocation still succeeds, so that no test passes without a
+// failed allocation.
+fn exhaust(alloc: Global) -> Result<Exhausted, Fail> {
+    let Some(exhausted) = Exhausted::begin(alloc)? else {
         return Err(Fail::new("more memory than can be held"));
     };
     let is_short = is_refused(alloc, 1) && is_refused(alloc, 24) && is_refused(alloc, 4096);
     if !is_short {
         return Err(Fail::new("a request was granted"));
     }
-    Ok(drought)
+    Ok(exhausted)
 }

@@ -1,4 +1,4 @@
-//! A digest of answers: lengths and bytes folded into one number.
+//! A digest of results: lengths and bytes combined into one number.
 use unix_path::Path;
 use unix_path::bytes::UnixStr;
 

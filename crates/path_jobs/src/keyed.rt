@@ -1,4 +1,4 @@
-//! A tree of files by their keys is filled, looked up and listed below its folders.
+//! Fills a tree of files by their keys, looks them up, and lists them below directories.
 use crate::digest::Digest;
 use crate::random::Random;
 use crate::tree::{Tree, noise_of, shuffled};
@@ -8,7 +8,7 @@ use std::alloc::{AllocError, Global};
 use unix_path::Path;
 use unix_path::bytes::UnixStr;
 
-// The path of a file, made in a buffer that keeps its memory.
+// Returns the path of a file, in a buffer whose memory is reused.
 fn path_in<'a>(
     buffer: &'a mut Vec<u8>,
     tree: Tree<'_>,
@@ -20,7 +20,7 @@ fn path_in<'a>(
     Ok(Path::new(UnixStr::from_bytes(buffer)))
 }
 
-// A tree of `count` files, inserted in an order that looks random.
+// Returns a tree of `count` files, inserted in an order that looks random.
 fn filled(
     alloc: Global,
     tree: Tree<'_>,
@@ -37,7 +37,7 @@ fn filled(
 }
 
 // Looks up each file by another spelling of its path. One look-up in three is of a path in the same
-// folder at which no file stands.
+// directory that has no file.
 fn look_up(
     alloc: Global,
     tree: Tree<'_>,
@@ -59,7 +59,7 @@ fn look_up(
     Ok(sum)
 }
 
-// Removes every eighth file that was put in.
+// Removes every eighth file that was inserted.
 fn remove(
     alloc: Global,
     tree: Tree<'_>,
@@ -78,7 +78,8 @@ fn remove(
     Ok(sum)
 }
 
-// Lists what is below some folders: all large ones, and one in eight of those with 16 files.
+// Lists the files below some directories: below all large ones, and below one in eight of the
+// directories with 16 files.
 fn list_below(
     alloc: Global,
     tree: Tree<'_>,
@@ -102,7 +103,8 @@ fn list_below(
     Ok(())
 }
 
-// Finds the nearest entry above a path below each file: the file, if it wasn't removed.
+// Finds, for each file, the nearest entry above a path below it: the file itself, unless it was
+// removed.
 fn find_nearest(
     alloc: Global,
     tree: Tree<'_>,
@@ -124,8 +126,8 @@ fn find_nearest(
     Ok(sum)
 }
 
-// Fills a tree with `count` files, looks up each, lists some folders, removes some files, and finds
-// the nearest file above a path below each.
+// Fills a tree with `count` files, looks up each, lists some directories, removes some files, and
+// finds, for each file, the nearest entry above a path below it.
 pub(crate) fn run(alloc: Global, seed: u64, count: u64) -> Result<u64, AllocError> {
     let mut digest = Digest::new();
     let tree = Tree::new("/srv/volumes/store", seed);

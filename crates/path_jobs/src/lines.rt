@@ -1,4 +1,4 @@
-//! Byte strings behind each other in one buffer.
+//! Byte strings, one after the other in one buffer.
 use std::alloc::{AllocError, Global};
 use unix_path::Path;
 
@@ -16,7 +16,8 @@ impl Lines {
         }
     }
 
-    // The buffer, for the bytes of the next line; `end_line` ends it.
+    // Returns the buffer, to which the bytes of the next line are appended; `end_line` ends the
+    // line.
     pub(crate) fn buffer(&mut self) -> &mut Vec<u8> {
         &mut self.bytes
     }
@@ -26,7 +27,7 @@ impl Lines {
         Ok(())
     }
 
-    // The lines as paths.
+    // Returns the lines as paths.
     pub(crate) fn paths(&self, alloc: Global) -> Result<Vec<Path<'_>>, AllocError> {
         let mut paths = Vec::with_capacity(alloc, self.ends.len())?;
         let mut start = 0;

@@ -1,4 +1,4 @@
-//! Long and awkward paths: a thousand parts, stretches of filler, lists of edits, and broken text.
+//! Long and awkward paths: hundreds of components, long filler, lists of edits, and invalid UTF-8.
 use crate::digest::Digest;
 use crate::random::Random;
 use path_runs::canonical::canonical;
@@ -9,13 +9,13 @@ use unix_path::bytes::UnixStr;
 use unix_path::json::{JsonError, from_json, to_json};
 use unix_path::{Component, Path, PathBuf};
 
-// How many names a deep path has, of about 4,096 bytes.
+// The number of names of a deep path, which has about 3,800 bytes.
 const NAMES: usize = 850;
 
-// What long stretches repeat: filler, a name and a `..`.
+// The pieces that long runs repeat: filler, a name and a `..`.
 static IDLE: [&str; 8] = ["/.", "./", "//", "/./", "/", "/./././", "/a", "/.."];
 
-// Text of several scripts, and what is no UTF-8: Latin-1, cut short, a surrogate.
+// Texts in several scripts, and bytes that are not valid UTF-8: Latin-1, cut short, a surrogate.
 static TEXTS: [&[u8]; 16] = [
     b"plain-name",
     b"na\xC3\xAFve",
@@ -35,7 +35,7 @@ static TEXTS: [&[u8]; 16] = [
     b"\xFF",
 ];
 
-// Sets the bytes to a path of many names of one to six letters, one in eight behind a `.`.
+// Sets the bytes to a path of many names of one to six letters, one in eight after a `.`.
 pub(crate) fn make_deep(bytes: &mut Vec<u8>, random: &mut Random) -> Result<(), AllocError> {
     bytes.clear();
     for _ in 0..NAMES {
@@ -48,7 +48,7 @@ pub(crate) fn make_deep(bytes: &mut Vec<u8>, random: &mut Random) -> Result<(), 
     Ok(())
 }
 
-// Sets the bytes to 16 stretches of some 24,000 bytes in all, three in four of them of filler.
+// Sets the bytes to 16 runs of about 22,500 bytes in all, three in four of them of filler.
 fn make_filler(bytes: &mut Vec<u8>, random: &mut Random) -> Result<(), AllocError> {
     bytes.clear();
     bytes.extend_from_slice(b"x")?;
@@ -62,7 +62,8 @@ fn make_filler(bytes: &mut Vec<u8>, random: &mut Random) -> Result<(), AllocErro
     Ok(())
 }
 
-// Sets the bytes to a path of a dozen names, in which texts stand, one in eight of them broken.
+// Sets the bytes to a path of a dozen names, each with one of the texts. About one such path in 16
+// is not valid UTF-8.
 fn make_text(bytes: &mut Vec<u8>, random: &mut Random) -> Result<(), AllocError> {
     bytes.clear();
     for _ in 0..12 {
@@ -78,7 +79,7 @@ fn make_text(bytes: &mut Vec<u8>, random: &mut Random) -> Result<(), AllocError>
     Ok(())
 }
 
-// Adds the length and the kind of a part.
+// Adds the length and the kind of a component.
 fn add_part(part: Option<Component<'_>>, digest: &mut Digest) {
     digest.add(match part {
         Some(Component::Normal(name)) => 8 | (name.len() as u64) << 4,
@@ -89,7 +90,7 @@ fn add_part(part: Option<Component<'_>>, digest: &mut Digest) {
     });
 }
 
-// Walks the path from the front, from behind, and by turns from both ends.
+// Walks the path from the front, from the back, and alternately from both ends.
 fn walk(path: Path<'_>, digest: &mut Digest) {
     for part in path.components() {
         add_part(Some(part), digest);
@@ -109,7 +110,7 @@ fn walk(path: Path<'_>, digest: &mut Digest) {
     }
 }
 
-// Compares the path with its canonical spelling, and with one that has another last part.
+// Compares the path with its canonical form, and with a path that has one component more.
 fn compare(alloc: Global, path: Path<'_>, digest: &mut Digest) -> Result<(), AllocError> {
     let mut other = canonical(alloc, path)?;
     digest.add_path(other.as_path());
@@ -124,7 +125,7 @@ fn compare(alloc: Global, path: Path<'_>, digest: &mut Digest) -> Result<(), All
     Ok(())
 }
 
-// The edit that a random word stands for. Nearly one in three is a pop.
+// Returns the edit for a random word. Nearly one in three is a pop.
 fn edit_of(word: u64) -> Edit<'static> {
     match word & 15 {
         0..=4 => Edit::Pop,
@@ -162,7 +163,8 @@ fn edit(
     Ok(())
 }
 
-// Shows the path as text, and writes and reads it as JSON if it is text.
+// Displays the path, lossily converts it to text, and writes and reads it as JSON if it is valid
+// UTF-8.
 fn show(alloc: Global, path: Path<'_>, digest: &mut Digest) -> Result<(), AllocError> {
     digest.add_bytes(path.to_string_lossy(alloc)?.as_str().as_bytes());
     digest.add_bytes(format!(in alloc; "{}", path.display())?.as_bytes());
@@ -178,8 +180,9 @@ fn show(alloc: Global, path: Path<'_>, digest: &mut Digest) -> Result<(), AllocE
     Ok(())
 }
 
-// Walks and compares `count` deep paths, and shows twenty texts with each. With one in 32 it also
-// applies a list of edits, and walks and compares a path of long stretches.
+// Walks and compares `count` deep paths, and shows for each twenty paths with names in several
+// scripts. For one in 32, it also applies a list of edits, and walks and compares a path with long
+// runs of filler.
 pub(crate) fn run(alloc: Global, seed: u64, count: u64) -> Result<u64, AllocError> {
     let mut digest = Digest::new();
     let mut random = Random::new(seed);

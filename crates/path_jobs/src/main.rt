@@ -1,8 +1,9 @@
-//! The jobs that users of paths wait for, on made-up inputs, for timing.
+//! The jobs that users of paths wait for, on synthetic inputs, for timing.
 //!
 //! `path_jobs JOB SEED COUNT` runs one of the jobs `manifest`, `table`, `requests`, `rules`,
-//! `long`, `server`, `pairs` and `tree` on so many inputs, which the seed makes, and prints a
-//! digest of all its answers. `path_jobs all SEED COUNT` runs each. The same words print the same.
+//! `long`, `server`, `pairs` and `tree` on `COUNT` inputs, which are generated from the seed, and
+//! prints a digest of all results. `path_jobs all SEED COUNT` runs every job. The same arguments
+//! print the same output.
 #![tactic(auto)]
 
 mod digest;
@@ -25,7 +26,7 @@ use std::{env, io};
 // The names of the jobs of bench/workloads.txt.
 static JOBS: [&str; 5] = ["manifest", "table", "requests", "rules", "long"];
 
-// The digest of a job's answers; `None` for an unknown job.
+// Returns the digest of a job's results, or `None` for an unknown job.
 fn digest_of(alloc: Global, job: &str, seed: u64, count: u64) -> Result<Option<u64>, AllocError> {
     let digest = match job {
         "manifest" => manifest::run(alloc, seed, count)?,
@@ -41,7 +42,7 @@ fn digest_of(alloc: Global, job: &str, seed: u64, count: u64) -> Result<Option<u
     Ok(Some(digest))
 }
 
-// Runs a job and prints its digest. Gives whether there is such a job.
+// Runs a job and prints its digest. Returns true if there is such a job.
 fn run(rt: &HostRuntime, job: &str, seed: u64, count: u64) -> io::Result<bool> {
     let Some(digest) = digest_of(rt.alloc(), job, seed, count)? else {
         return Ok(false);
@@ -50,21 +51,21 @@ fn run(rt: &HostRuntime, job: &str, seed: u64, count: u64) -> io::Result<bool> {
     Ok(true)
 }
 
-// Runs each job. Gives whether there are such jobs.
+// Runs every job. Returns true if all jobs of `JOBS` exist.
 fn run_all(rt: &HostRuntime, seed: u64, count: u64) -> io::Result<bool> {
     for job in JOBS.iter() {
         if !run(rt, job, seed, count)? {
             return Ok(false);
         }
     }
-    // Those of bench/later.txt.
+    // The jobs of bench/later.txt.
     let _is_job = run(rt, "server", seed, count)?;
     let _is_job = run(rt, "pairs", seed, count)?;
     let _is_job = run(rt, "tree", seed, count)?;
     Ok(true)
 }
 
-// Runs what the words behind the program's name ask for. Gives whether they ask for something.
+// Runs the job that the program's arguments name. Returns true if they name one.
 fn answer(rt: &HostRuntime) -> io::Result<bool> {
     let mut words = env::args(rt)?;
     let _program = words.next();

@@ -1,4 +1,4 @@
-//! Manifests are put in order: the paths of two listings, each once, in canonical form.
+//! Normalises manifests: the paths of two listings, each once, in order and in canonical form.
 use crate::digest::Digest;
 use crate::lines::Lines;
 use crate::random::Random;
@@ -8,7 +8,7 @@ use path_runs::canonical::canonical;
 use std::alloc::{AllocError, Global};
 use unix_path::{Path, PathBuf};
 
-// The noise for a path: one word in five gives the path another spelling.
+// Returns the noise for a path. One word in five changes the path's spelling.
 fn noise(word: u64) -> u64 {
     if word % 5 == 0 {
         noise_of(word >> 8)
@@ -17,8 +17,8 @@ fn noise(word: u64) -> u64 {
     }
 }
 
-// The paths of `count` files as a walk over the tree gives them, and then as many in another order,
-// of which one in ten is a file of the walk in another spelling.
+// Returns the paths of `count` files in the order of a walk over the tree, and then as many in
+// another order, of which one in ten is a file of the walk in another spelling.
 fn listing(alloc: Global, tree: Tree<'_>, seed: u64, count: u64) -> Result<Lines, AllocError> {
     let mut random = Random::new(seed);
     let mut lines = Lines::new(alloc);
@@ -39,7 +39,7 @@ fn listing(alloc: Global, tree: Tree<'_>, seed: u64, count: u64) -> Result<Lines
     Ok(lines)
 }
 
-// The paths as a set in canonical form.
+// Adds the paths as a set in canonical form.
 fn order_set(alloc: Global, paths: &[Path<'_>], digest: &mut Digest) -> Result<(), AllocError> {
     for path in normalise(alloc, paths)?.iter() {
         digest.add_path(path.as_path());
@@ -47,7 +47,7 @@ fn order_set(alloc: Global, paths: &[Path<'_>], digest: &mut Digest) -> Result<(
     Ok(())
 }
 
-// The paths in canonical form, sorted, and each once.
+// Adds the paths in canonical form, sorted, and each once.
 fn order_list(alloc: Global, paths: &[Path<'_>], digest: &mut Digest) -> Result<(), AllocError> {
     let mut list: Vec<PathBuf> = Vec::with_capacity(alloc, paths.len())?;
     for path in paths {
@@ -64,7 +64,7 @@ fn order_list(alloc: Global, paths: &[Path<'_>], digest: &mut Digest) -> Result<
     Ok(())
 }
 
-// Orders two manifests of twice `count` paths each, one as a set and one as a list.
+// Normalises two manifests of twice `count` paths each, one as a set and one as a list.
 pub(crate) fn run(alloc: Global, seed: u64, count: u64) -> Result<u64, AllocError> {
     let mut digest = Digest::new();
     let packages = listing(alloc, Tree::new("usr/lib/packages", seed), seed, count)?;

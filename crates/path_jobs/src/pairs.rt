@@ -1,4 +1,4 @@
-//! Paths are compared, matched and walked beside paths near them, and each answer is in the digest.
+//! Compares, matches and walks paths and paths similar to them. Each result is added to the digest.
 use crate::digest::Digest;
 use crate::long::make_deep;
 use crate::random::Random;
@@ -8,10 +8,11 @@ use std::alloc::{AllocError, Global};
 use std::cmp::Ordering;
 use unix_path::{Component, Path};
 
-// What a byte is changed to.
+// The bytes to which a byte is changed.
 static BYTES: [u8; 4] = [b'/', b'.', b'b', 0xFF];
 
-// Adds the path with a separator for each slash, by three bits of the noise, from the lowest on.
+// Appends the path with a separator for each slash, selected by three bits of the noise, from the
+// lowest up.
 fn push_respelled(out: &mut Vec<u8>, path: &[u8], noise: u64) -> Result<(), AllocError> {
     let mut noise = noise;
     for byte in path {
@@ -25,8 +26,8 @@ fn push_respelled(out: &mut Vec<u8>, path: &[u8], noise: u64) -> Result<(), Allo
     Ok(())
 }
 
-// A part of the path, or all of it: what stands before or behind the place, the path's parent, or
-// its file name.
+// Returns the path or a part of it: the bytes before or after the index, the path's parent, or its
+// file name.
 fn part_of(path: &[u8], place: usize, word: u64) -> &[u8] {
     let part = match word & 7 {
         0 => path.get(..place),
@@ -42,8 +43,9 @@ fn part_of(path: &[u8], place: usize, word: u64) -> &[u8] {
     part.unwrap_or(path)
 }
 
-// Sets the bytes to a path near the given one: to a part of it or all of it, half of them in
-// another spelling, some with another byte at a place, and some with more behind.
+// Sets the bytes to a path similar to the given one: all or a part of it, half of the times in
+// another spelling, sometimes with another byte at an index, and sometimes with more bytes at the
+// end.
 fn make_near(near: &mut Vec<u8>, path: &[u8], word: u64) -> Result<(), AllocError> {
     let place = (word >> 32) as usize % (path.len() + 1);
     let noise = if word & 1 == 0 {
@@ -76,7 +78,7 @@ fn compare(first: Path<'_>, second: Path<'_>, digest: &mut Digest) {
     });
 }
 
-// Adds whether the path starts and ends with the other, and what follows the other in it.
+// Adds whether the path starts and ends with the other, and the rest of the path after the other.
 fn match_ends(path: Path<'_>, other: Path<'_>, digest: &mut Digest) {
     digest.add_flag(path.starts_with(other));
     digest.add_flag(path.ends_with(other));
@@ -86,7 +88,7 @@ fn match_ends(path: Path<'_>, other: Path<'_>, digest: &mut Digest) {
     }
 }
 
-// Adds the kind and the bytes of a part.
+// Adds the kind and the bytes of a component.
 fn add_part(part: Component<'_>, digest: &mut Digest) {
     digest.add(match part {
         Component::RootDir => 1,
@@ -97,8 +99,8 @@ fn add_part(part: Component<'_>, digest: &mut Digest) {
     digest.add_path(part.as_path());
 }
 
-// Walks the path from both ends, each bit of `turns` a step, and adds the part that each step
-// takes, and what it leaves.
+// Walks the path from both ends. Each bit of `turns` is a step. Adds the component that each step
+// takes, and the path that remains.
 fn walk(path: Path<'_>, turns: u64, digest: &mut Digest) {
     let mut walk = path.components();
     let mut turns = turns;
@@ -117,7 +119,7 @@ fn walk(path: Path<'_>, turns: u64, digest: &mut Digest) {
     }
 }
 
-// Adds the answers for a path and one near it.
+// Adds the results for a path and a similar one.
 fn answer(
     path: &[u8],
     near: &mut Vec<u8>,
@@ -133,8 +135,8 @@ fn answer(
     Ok(())
 }
 
-// Answers for `count` paths, by turns files of a tree and requests, and for one in 64 a deep path
-// beside it.
+// Adds the results for `count` paths, alternately files of a tree and requests. For one in 64, also
+// adds the results for a deep path.
 pub(crate) fn run(alloc: Global, seed: u64, count: u64) -> Result<u64, AllocError> {
     let mut digest = Digest::new();
     let mut random = Random::new(seed);

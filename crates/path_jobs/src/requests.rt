@@ -1,10 +1,10 @@
-//! Requests are resolved under a root, as servers and sandboxes do.
+//! Resolves requests under a root, as servers and sandboxes do.
 use crate::digest::Digest;
 use crate::random::Random;
 use crate::tree::{Tree, noise_of, push_tag};
+use path_within::relative::relative_path;
 use path_within::resolved::resolved;
-use path_within::way::way;
-use path_within::within::{WithinError, climbs, join_verbatim, join_within};
+use path_within::within::{WithinError, escapes, join_verbatim, join_within};
 use std::alloc::{AllocError, Global};
 use unix_path::Path;
 
@@ -19,10 +19,10 @@ pub(crate) static ROOTS: [&str; 8] = [
     "/",
 ];
 
-// Hidden folders, of which one stands in front of some requests.
+// Hidden directories, of which one begins some requests.
 static HIDDEN: [&str; 4] = [".well-known/acme", ".git/objects", ".config/app", ".cache"];
 
-// Beginnings of requests with `..`, `.` or a root; some of them climb.
+// Beginnings of requests with `..`, `.` or a root; some of them escape.
 static UPS: [&str; 8] = [
     "../",
     "a/../../",
@@ -34,7 +34,7 @@ static UPS: [&str; 8] = [
     "./",
 ];
 
-// Adds a request that a hostile client sends: `../` by the hundred, or any bytes.
+// Appends a request that a hostile client sends: up to 127 `..`, or any bytes.
 fn push_hostile(out: &mut Vec<u8>, random: &mut Random, place: u64) -> Result<(), AllocError> {
     let word = random.next();
     push_tag(out, place)?;
@@ -51,9 +51,9 @@ fn push_hostile(out: &mut Vec<u8>, random: &mut Random, place: u64) -> Result<()
     Ok(())
 }
 
-// Adds a request. Most are plain paths, some with a hidden name in front; one in ten has `.`, `..`
-// or `//`, a few climb, and a few are hostile. No two requests are the same: `place` is in each.
-// Two jobs make requests, and each has this in its loop.
+// Appends a request. Most are plain paths, some of which begin with a hidden name. One in ten has
+// `.`, `..` or `//`, a few escape, and a few are hostile. No two requests are the same, because
+// `place` is in each. Inlined into the loop of each job that generates requests.
 #[inline(always)]
 pub(crate) fn push_request(
     out: &mut Vec<u8>,
@@ -85,8 +85,8 @@ pub(crate) fn push_request(
     tree.push_short(out, number, noise, place)
 }
 
-// Adds the answer to a request: the join within the root, and what follows the root in it; 0 if the
-// request leaves the root.
+// Adds the result for a request: the join within the root, and the rest of the join after the root;
+// 0 if the request escapes.
 fn answer(
     alloc: Global,
     root: Path<'_>,
@@ -106,7 +106,7 @@ fn answer(
     Ok(())
 }
 
-// Adds the answer of those who trust no link: the verbatim join, if the request has no root, no
+// Adds the result for users who trust no link: the verbatim join, if the request has no root, no
 // `..` and no NUL.
 fn answer_verbatim_join(
     alloc: Global,
@@ -114,7 +114,7 @@ fn answer_verbatim_join(
     request: Path<'_>,
     digest: &mut Digest,
 ) -> Result<(), AllocError> {
-    digest.add_flag(climbs(request));
+    digest.add_flag(escapes(request));
     match join_verbatim(alloc, root, request) {
         Ok(path) => digest.add_path(path.as_path()),
         Err(WithinError::Escapes | WithinError::Nul) => digest.add(0),
@@ -123,7 +123,7 @@ fn answer_verbatim_join(
     Ok(())
 }
 
-// Adds the answer of a mapper of links: what the request resolves to, and the way to it from a
+// Adds the result for a mapper of links: the resolved request, and the relative path to it from a
 // page.
 fn answer_link(
     alloc: Global,
@@ -132,15 +132,15 @@ fn answer_link(
     digest: &mut Digest,
 ) -> Result<(), AllocError> {
     digest.add_path(resolved(alloc, request)?.as_path());
-    match way(alloc, page, request)? {
+    match relative_path(alloc, page, request)? {
         Some(path) => digest.add_path(path.as_path()),
         None => digest.add(1),
     }
     Ok(())
 }
 
-// Answers `count` requests: each under three roots, and each as a link on the page of the request
-// before it.
+// Adds the results for `count` requests: each under three roots and verbatim under one more, and
+// each as a link on the page of the request before it.
 pub(crate) fn run(alloc: Global, seed: u64, count: u64) -> Result<u64, AllocError> {
     let mut digest = Digest::new();
     let mut random = Random::new(seed);

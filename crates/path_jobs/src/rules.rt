@@ -1,4 +1,4 @@
-//! A build's rules are matched against its sources.
+//! Matches a build's rules against its sources.
 use crate::digest::Digest;
 use crate::lines::Lines;
 use crate::random::Random;
@@ -11,7 +11,8 @@ const BASES: u64 = 40;
 
 const SUFFIXES: u64 = 20;
 
-// The folders that rules are for, one in four of them in another spelling than its sources.
+// Returns the directories that rules are for, one in four of them in another spelling than the
+// sources have.
 fn bases(alloc: Global, tree: Tree<'_>, random: &mut Random) -> Result<Vec<PathBuf>, AllocError> {
     let mut bases = Vec::new(alloc);
     let mut bytes = Vec::new(alloc);
@@ -29,7 +30,8 @@ fn bases(alloc: Global, tree: Tree<'_>, random: &mut Random) -> Result<Vec<PathB
     Ok(bases)
 }
 
-// The ends of paths that rules are for: a file's name, and at times its folder's name before it.
+// Returns the suffixes of paths that rules are for: a file's name and, in every second one, its
+// directory's name before it.
 fn suffixes(alloc: Global, tree: Tree<'_>, random: &mut Random) -> Result<Lines, AllocError> {
     let mut suffixes = Lines::new(alloc);
     for place in 0..SUFFIXES {
@@ -52,7 +54,7 @@ fn suffixes(alloc: Global, tree: Tree<'_>, random: &mut Random) -> Result<Lines,
     Ok(suffixes)
 }
 
-// Adds the names that rules ask for.
+// Adds the names of a source that rules use.
 fn add_names(source: Path<'_>, digest: &mut Digest) {
     digest.add_text(source.file_name());
     digest.add_text(source.file_stem());
@@ -60,7 +62,7 @@ fn add_names(source: Path<'_>, digest: &mut Digest) {
     digest.add_text(source.file_prefix());
 }
 
-// The last of the bases that the source is below.
+// Returns the last of the bases that the source starts with.
 fn base_of<'a>(source: Path<'_>, bases: &[Path<'a>]) -> Option<Path<'a>> {
     let mut found = None;
     for base in bases {
@@ -71,7 +73,7 @@ fn base_of<'a>(source: Path<'_>, bases: &[Path<'a>]) -> Option<Path<'a>> {
     found
 }
 
-// How many of the suffixes the source ends with.
+// Returns the number of suffixes that the source ends with.
 fn suffix_count(source: Path<'_>, suffixes: &[Path<'_>]) -> u64 {
     let mut count = 0_u64;
     for suffix in suffixes {
@@ -80,7 +82,8 @@ fn suffix_count(source: Path<'_>, suffixes: &[Path<'_>]) -> u64 {
     count
 }
 
-// The output of a source: what is behind the base, below another folder, with another extension.
+// Returns the output of a source: the rest after the base, below another directory, with another
+// extension.
 fn output_of(alloc: Global, source: Path<'_>, base: Path<'_>) -> Result<PathBuf, ExtensionError> {
     let folder = Path::from_text("/work/out/debug/objects");
     let rest = match source.strip_prefix(base) {
@@ -91,14 +94,14 @@ fn output_of(alloc: Global, source: Path<'_>, base: Path<'_>) -> Result<PathBuf,
     object.as_path().with_extension(alloc, UnixStr::new("o"))
 }
 
-// The list of what a source depends on, beside it.
+// Returns the path of the list of a source's dependencies, in the source's directory.
 fn list_of(alloc: Global, source: Path<'_>) -> Result<PathBuf, ExtensionError> {
     let mut list = source.with_file_name(alloc, UnixStr::new("depends"))?;
     list.add_extension(UnixStr::new("d"))?;
     Ok(list)
 }
 
-// Adds the paths that the source's rules make.
+// Adds the paths that are built by the source's rules.
 fn add_outputs(
     alloc: Global,
     source: Path<'_>,
@@ -112,7 +115,7 @@ fn add_outputs(
     Ok(())
 }
 
-// Adds where the source stands: how deep, and how much it shares with the source before it.
+// Adds how deep the source is, and how much it shares with the source before it.
 fn add_place(source: Path<'_>, before: Path<'_>, digest: &mut Digest) {
     for folder in source.ancestors() {
         digest.add(folder.as_unix_str().len() as u64);

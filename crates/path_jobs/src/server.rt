@@ -1,5 +1,5 @@
-//! Requests are joined below roots as a server does that makes its roots once, checks each request
-//! once, and joins it in a buffer that it keeps.
+//! Joins requests below roots like a server that creates its roots once, checks each request once,
+//! and joins it in a buffer that it reuses.
 use crate::digest::Digest;
 use crate::random::Random;
 use crate::requests::{ROOTS, push_request};
@@ -8,7 +8,7 @@ use path_within::{Request, RequestError, Root};
 use std::alloc::{AllocError, Global};
 use unix_path::{Path, PathBuf};
 
-// The roots of the job `requests`, resolved and as they stand.
+// The roots of the job `requests`, resolved and verbatim.
 #[derive(Drop)]
 struct Roots {
     resolved: Vec<Root>,
@@ -27,7 +27,7 @@ impl Roots {
     }
 }
 
-// Adds the join below a resolved root, and what follows the root in it.
+// Adds the join below a resolved root, and the rest of the join after the root.
 fn answer(
     root: &Root,
     file: &mut PathBuf,
@@ -42,7 +42,8 @@ fn answer(
     Ok(())
 }
 
-// Adds the answers to a request: its joins below three resolved roots, and below one as it stands.
+// Adds the results for a request: its joins below three resolved roots, and below one verbatim
+// root.
 fn answer_all(
     roots: &Roots,
     file: &mut PathBuf,
@@ -62,16 +63,17 @@ fn answer_all(
     Ok(())
 }
 
-// What stands for the error in the digest.
+// Returns the number that represents the error in the digest.
 fn number_of(error: RequestError) -> u64 {
     match error {
         RequestError::Rooted => 1,
-        RequestError::Climbs => 2,
+        RequestError::Escapes => 2,
         RequestError::Nul => 3,
     }
 }
 
-// Answers the requests of the job `requests` with this seed and count, each below the same roots.
+// Adds the results for the requests of the job `requests` with this seed and count, each below the
+// same roots.
 pub(crate) fn run(alloc: Global, seed: u64, count: u64) -> Result<u64, AllocError> {
     let mut digest = Digest::new();
     let mut random = Random::new(seed);
@@ -82,7 +84,7 @@ pub(crate) fn run(alloc: Global, seed: u64, count: u64) -> Result<u64, AllocErro
     for place in 0..count {
         bytes.clear();
         push_request(&mut bytes, tree, &mut random, place)?;
-        match Request::new(Path::from_bytes(&bytes)) {
+        match Request::beneath(Path::from_bytes(&bytes)) {
             Ok(request) => answer_all(&roots, &mut file, request, place, &mut digest)?,
             Err(error) => digest.add(number_of(error)),
         }

@@ -1,4 +1,4 @@
-//! A tree of files in memory is filled, looked up and listed below its folders.
+//! Fills a table of files in memory, looks them up, and lists them below directories.
 use crate::digest::Digest;
 use crate::random::Random;
 use crate::tree::{Tree, noise_of, shuffled};
@@ -8,7 +8,7 @@ use std::collections::HashMap;
 use unix_path::PathBuf;
 use unix_path::bytes::UnixStr;
 
-// The path of a file, as the table's own, made in a buffer that keeps its memory.
+// Returns the owned path of a file, built in a buffer whose memory is reused.
 fn path_of(
     alloc: Global,
     buffer: &mut Vec<u8>,
@@ -21,7 +21,7 @@ fn path_of(
     PathBuf::from_unix_str(alloc, UnixStr::from_bytes(buffer))
 }
 
-// A table of `count` files, inserted in an order that looks random.
+// Returns a table of `count` files, inserted in an order that looks random.
 fn filled(
     alloc: Global,
     tree: Tree<'_>,
@@ -38,7 +38,7 @@ fn filled(
 }
 
 // Looks up each file by another spelling of its path. One look-up in three is of a path in the same
-// folder at which no file stands.
+// directory that has no file.
 fn look_up(
     alloc: Global,
     tree: Tree<'_>,
@@ -60,7 +60,7 @@ fn look_up(
     Ok(sum)
 }
 
-// Removes every eighth file that was put in.
+// Removes every eighth file that was inserted.
 fn remove(
     alloc: Global,
     tree: Tree<'_>,
@@ -79,7 +79,8 @@ fn remove(
     Ok(sum)
 }
 
-// Lists what is below some folders: all large ones, and one in eight of those with 16 files.
+// Lists the files below some directories: below all large ones, and below one in eight of the
+// directories with 16 files.
 fn list_below(
     alloc: Global,
     tree: Tree<'_>,
@@ -102,8 +103,8 @@ fn list_below(
     Ok(())
 }
 
-// Looks up each file's number in a map by hash, by another spelling of its path. One look-up in
-// three is of a path in the same folder at which no file stands.
+// Looks up each file's number in a hash map, by another spelling of its path. One look-up in three
+// is of a path in the same directory that has no file.
 fn find_by_hash(
     alloc: Global,
     tree: Tree<'_>,
@@ -127,8 +128,8 @@ fn find_by_hash(
     Ok(sum)
 }
 
-// Fills a table with `count` files, looks up each, lists some folders, removes some files, and
-// looks up the others by hash.
+// Fills a table with `count` files, looks up each, lists some directories, removes some files, and
+// looks up the other files in a hash map.
 pub(crate) fn run(alloc: Global, seed: u64, count: u64) -> Result<u64, AllocError> {
     let mut digest = Digest::new();
     let mut random = Random::new(seed ^ 1 << 32);

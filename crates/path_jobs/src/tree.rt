@@ -1,10 +1,10 @@
-//! The paths of a made-up tree of files, each told by its number.
+//! The paths of a synthetic file tree. A file is identified by its number.
 ghost use Rattle.std.specs.Prelude.{◌<◌};
 
 use crate::random::mix;
 use std::alloc::AllocError;
 
-// In order, so that the names of one folder are in the order of their numbers.
+// Sorted, so that the names in one directory are in the order of their numbers.
 #[rattlefmt::skip]
 static WORDS: [&str; 64] = [
     "accept", "adapter", "async", "backend", "base", "buffer", "build", "cache", "channel",
@@ -21,17 +21,17 @@ static ENDINGS: [&str; 16] = [
     ".o", ".txt", ".so.1", ".js",
 ];
 
-// A tree of 2^20 files below one folder, whose names the seed makes. The files below a folder have
-// numbers that follow each other. So a walk over the tree, with the names of each folder in order,
-// gives the files in the order of their numbers.
+// A tree of 2^20 files below one directory, with names that depend on the seed. The files below a
+// directory have consecutive numbers, so that a walk over the tree, with the names of each
+// directory in order, visits the files in the order of their numbers.
 #[derive(Clone, Copy)]
 pub(crate) struct Tree<'a> {
     prefix: &'a str,
     seed: u64,
 }
 
-// What stands between two names or behind the last one: `/`, or more if the lowest three bits of
-// `noise` are 5 or greater.
+// Returns the bytes between two names or after the last one: `/`, or more if the lowest three bits
+// of `noise` are 5 or greater.
 #[inline]
 pub(crate) fn separator(noise: u64) -> &'static str {
     match noise & 7 {
@@ -42,8 +42,8 @@ pub(crate) fn separator(noise: u64) -> &'static str {
     }
 }
 
-// Noise that gives a path another spelling, in one or two places: at the end of the path or before
-// its first or its second name, and maybe at one other.
+// Returns noise that changes the spelling of a path at one or two of its separators: at its end or
+// before its first or second name, and possibly at one more.
 #[inline]
 pub(crate) fn noise_of(random: u64) -> u64 {
     let first = match random >> 8 & 3 {
@@ -60,7 +60,7 @@ fn push_text(out: &mut Vec<u8>, text: &str) -> Result<(), AllocError> {
     out.extend_from_slice(text.as_bytes())
 }
 
-// Adds a dot and the lowest 24 bits of the tag as six letters.
+// Appends a dot and the lowest 24 bits of the tag as six letters.
 pub(crate) fn push_tag(out: &mut Vec<u8>, tag: u64) -> Result<(), AllocError> {
     out.push(b'.')?;
     let mut left = tag;
@@ -79,8 +79,8 @@ impl<'a> Tree<'a> {
         }
     }
 
-    // Adds a name of one or two words. `place` tells the file or folder from others; of the 64
-    // words the first one is among the `span` that begin at `first`.
+    // Appends a name of one or two words. `place` identifies the file or directory. The first word
+    // is one of the `span` words that begin at index `first`, which wrap around after 64.
     fn push_name(
         self,
         out: &mut Vec<u8>,
@@ -103,7 +103,7 @@ impl<'a> Tree<'a> {
         Ok(())
     }
 
-    // Adds the names of the folders of a file, each with a separator before it.
+    // Appends the names of the directories of a file, each with a separator before it.
     fn push_folders(self, out: &mut Vec<u8>, number: u64, noise: u64) -> Result<(), AllocError> {
         push_text(out, separator(noise))?;
         self.push_name(out, 1 << 32 | number >> 17, (number >> 17 & 7) << 3, 8)?;
@@ -113,7 +113,7 @@ impl<'a> Tree<'a> {
         self.push_name(out, 3 << 32 | number >> 13, (number >> 13 & 3) << 4, 16)
     }
 
-    // Adds the names of a file's inner folders, each with a separator before it.
+    // Appends the names of a file's inner directories, each with a separator before it.
     fn push_inner(self, out: &mut Vec<u8>, number: u64, noise: u64) -> Result<(), AllocError> {
         push_text(out, separator(noise >> 9))?;
         self.push_name(out, 4 << 32 | number >> 10, (number >> 10 & 7) << 3, 8)?;
@@ -123,13 +123,13 @@ impl<'a> Tree<'a> {
         self.push_name(out, 6 << 32 | number >> 4, (number >> 4 & 7) << 3, 8)
     }
 
-    // Whether the file stands in a folder of 8,192 files, as one in eight does. The others stand in
-    // folders of 16.
+    // Returns true if the file is in a directory of 8,192 files, as one in eight is. The other
+    // files are in directories of 16.
     pub(crate) fn is_in_large(self, number: u64) -> bool {
         mix(self.seed ^ number >> 13) & 7 == 0
     }
 
-    // Adds the number below 8,192 as four digits.
+    // Appends the number, which is below 8,192, as four digits.
     fn push_digits(out: &mut Vec<u8>, number: u64) -> Result<(), AllocError> {
         let digit = |value: u64| b'0' + (value % 10) as u8;
         out.push(digit(number / 1000))?;
@@ -139,7 +139,7 @@ impl<'a> Tree<'a> {
         Ok(())
     }
 
-    // Adds a file's name and its ending. One in a hundred has a byte that is no UTF-8.
+    // Appends a file's name with its ending. One in a hundred has a byte that is not valid UTF-8.
     fn push_file(
         self,
         out: &mut Vec<u8>,
@@ -159,9 +159,9 @@ impl<'a> Tree<'a> {
         push_text(out, ENDINGS[(random >> 32 & 15) as usize])
     }
 
-    // Adds what follows the folder of the tree in the path of a file; it begins with a separator.
-    // Without noise the spelling is canonical. Each separator has three bits of the noise, from the
-    // lowest on, and what stands behind the file's name those from the 22nd on.
+    // Appends the path of a file after the tree's directory, beginning with a separator. Without
+    // noise it is in canonical form. Each separator uses three bits of the noise, from the lowest
+    // on. The filler after the file's name uses the three from the 22nd on.
     pub(crate) fn push_below(
         self,
         out: &mut Vec<u8>,
@@ -181,13 +181,13 @@ impl<'a> Tree<'a> {
         Ok(())
     }
 
-    // Adds a name that goes by the highest bits of the number.
+    // Appends a name that depends on the highest bits of the number.
     pub(crate) fn push_first(self, out: &mut Vec<u8>, number: u64) -> Result<(), AllocError> {
         self.push_name(out, 9 << 32 | number >> 12, 0, 64)
     }
 
-    // Adds one to five names that go by the number, each with a separator before it, a tag and an
-    // ending.
+    // Appends one to five names that depend on the number, each with a separator before it, and
+    // then a tag and an ending.
     #[inline(always)]
     pub(crate) fn push_short(
         self,
@@ -206,15 +206,15 @@ impl<'a> Tree<'a> {
         push_text(out, ENDINGS[(number >> 8 & 15) as usize])
     }
 
-    // Adds the path of a file, with the folder of the tree.
+    // Appends the path of a file, including the tree's directory.
     pub(crate) fn push(self, out: &mut Vec<u8>, number: u64, noise: u64) -> Result<(), AllocError> {
         push_text(out, self.prefix)?;
         self.push_below(out, number, noise)
     }
 }
 
-// The number of a file, another one for each place below 2^19. These places give all even numbers,
-// in an order that looks random.
+// Returns the number of a file. The indices below 2^19 yield all even numbers below 2^20, each
+// once, in an order that looks random.
 #[inline]
 pub(crate) fn shuffled(place: u64, seed: u64) -> u64 {
     (place.wrapping_mul(0x9E37_79B9).wrapping_add(seed) & 0x7_FFFF) << 1

@@ -1,9 +1,10 @@
--- What stands last in a key. No public clause cites this word.
+-- The last component in a key. No public clause cites this word.
 use Rattle.std.specs.Prelude.{◌≡◌, ℕ, List, [], ◌∷◌, ◌++◌, take}
 use Rattle.unix_path.specs.Parts.{Value}
 use Rattle.path_keys.specs.Keys.{key_of}
 
--- v is the last of these values, and before its code, at `start`, the key is that of the others
+-- v is the last of these components, and the bytes of the key before index `start` are the key of
+-- the components before v
 pub record EndsIn (key : List ℕ) (vs : List Value) (start : ℕ) (v : Value) : Type 0 where
   pub front : List Value
   pub is : vs ≡ front ++ v ∷ []

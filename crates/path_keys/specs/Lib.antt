@@ -4,6 +4,7 @@ pub mod Ranges
 pub mod Codes
 pub mod Errors
 pub mod Lasts
+pub mod NameBytes
 pub mod Stretches
 pub mod Runs
 pub mod Laws

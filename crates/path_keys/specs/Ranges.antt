@@ -1,22 +1,31 @@
--- The range of the keys that begin with a base's key, in the order of a store. Not in Rust's std.
-use Rattle.std.specs.Prelude.{◌≡◌, ℕ, ◌+◌, true, List, [], ◌∷◌, length, Option, Some, None, IfSome}
-use Rattle.std.specs.Prelude.{slice_index, slice_set}
+-- The range of the byte strings that begin with a key, in the order of a store.
+use Rattle.std.specs.Prelude.{◌≡◌, ◌↔◌, ℕ, ◌+◌, true, List, [], ◌∷◌, length, Option, Some, None}
+use Rattle.std.specs.Prelude.{IfSome, slice_index, slice_set}
 use Rattle.std.specs.declared.cmp.Ordering.{Ordering}
 use Rattle.std.specs.declared.cmp.Ordering.TheVariants.{Less}
 use Rattle.std.specs.Ordering.{is_le, nat_cmp}
 use Rattle.std.specs.Cmp.Lexicographic.{slice_cmp}
+use Rattle.unix_path.specs.Prefixes.{IsPrefixOf}
 
--- the order of bytes, in which a store keeps its keys
+-- the order of byte strings, in which a store keeps its keys
 abbrev pub bytes_cmp : List ℕ → List ℕ → Ordering
 bytes_cmp = slice_cmp nat_cmp
 
--- the key with its last byte raised by one, with which the range ends; None if it is empty
+-- the bytes are in the range from `first` on, before `end` if the range has an end
+abbrev pub InRange : List ℕ → Option (List ℕ) → List ℕ → Type 0
+InRange first end s = (is_le (bytes_cmp first s) ≡ true)
+    × IfSome end (λ end. bytes_cmp s end ≡ Less)
+
+-- any byte string is in the range from the key up to `end` if and only if it begins with the key
+abbrev pub IsRangeEnd : List ℕ → Option (List ℕ) → Type 0
+IsRangeEnd key end = (s : List ℕ) → InRange key end s ↔ IsPrefixOf key s
+
+-- the key with its last byte raised by one; None if the key is empty
 unfoldable pub end_of : List ℕ → Option (List ℕ)
 end_of [] = None
 end_of (b ∷ bs) =
     let last = length bs in Some (slice_set (b ∷ bs) last (slice_index (b ∷ bs) last + 1))
 
--- the key is not less than the base's, and less than the end of its range if that has one
+-- the key is in the range from the base's key up to that key with its last byte raised by one
 abbrev pub LiesUnder : List ℕ → List ℕ → Type 0
-LiesUnder base key = (is_le (bytes_cmp base key) ≡ true)
-    × IfSome (end_of base) (λ end. bytes_cmp key end ≡ Less)
+LiesUnder base key = InRange base (end_of base) key

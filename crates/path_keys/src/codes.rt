@@ -1,4 +1,4 @@
-//! The codes of which a key is made, read one by one.
+//! The codes of a key, read one by one.
 ghost use Rattle.std.specs.Prelude.{◌≡◌, ◌<◌, ◌^◌, ℕ, List, [], ◌∷◌, ◌++◌, length, map};
 ghost use Rattle.std.specs.Prelude.{◌↔◌, false, option_map, None, IfSome, IsTrue};
 ghost use Rattle.unix_path.specs.Names.{name_of};
@@ -7,20 +7,20 @@ ghost use Rattle.path_keys.specs.Keys.{code, raised};
 ghost use Rattle.path_keys.specs.Codes.{code_value, lowered, Fits, HasNoCode, IsName};
 ghost use Rattle.path_keys.specs.Codes.{IsRaised, TakesCode};
 
-use unix_bytes::search::first_place;
+use unix_bytes::search::find_byte;
 
-// The code of a value in a key.
+// The code of a component in a key.
 #[derive(Clone, Copy)]
 pub(crate) enum Code<'a> {
     Root,
     Dot,
     Up,
-    // The bytes of a name as they stand in the key, without its end mark.
+    // The bytes of a name in the key, without its end mark.
     Name(&'a [u8]),
 }
 
 impl<'a> Code<'a> {
-    // How many bytes the code has in a key.
+    // Returns the length of the code.
     #[inline]
     pub(crate) fn len(self) -> usize
         requires { length (code (code_value self)) < 2 ^ 64 }
@@ -32,7 +32,7 @@ impl<'a> Code<'a> {
         }
     }
 
-    // Whether it is the code of a root.
+    // Returns true if this is the code of a root.
     #[inline]
     pub(crate) fn is_root(self) -> bool
         ensures { IsTrue result ↔ (code_value self.entry ≡ RootDir) }
@@ -45,7 +45,7 @@ impl<'a> Code<'a> {
         }
     }
 
-    // The bytes of a name as they stand in the key.
+    // Returns the bytes of a name in the key.
     #[inline]
     pub(crate) fn name(self) -> Option<&'a [u8]>
         ensures value { option_map (λ name. map lowered name.now) result
@@ -62,8 +62,8 @@ impl<'a> Code<'a> {
     }
 }
 
-// The name with whose code these bytes begin, as it stands there; `None` if they begin with that of
-// none.
+// Returns the name with whose code these bytes begin, as its bytes in the key; `None` if they begin
+// with the code of no name.
 #[inline]
 fn name_in(bytes: &[u8]) -> Option<&[u8]>
     ensures some { IfSome result
@@ -72,7 +72,7 @@ fn name_in(bytes: &[u8]) -> Option<&[u8]>
     ensures none { result ≡ None → ((name x : List ℕ) → IsName name
         → code (Normal name) ++ x ≡ bytes.now → ⊥) }
 {
-    let len = first_place(bytes, 0);
+    let len = find_byte(bytes, 0);
     if len == 0 {
         return None;
     }
@@ -90,7 +90,8 @@ fn name_in(bytes: &[u8]) -> Option<&[u8]>
     Some(name)
 }
 
-// The code that is 0 and this mark; `None` if it is that of no value that may stand there.
+// Returns the code that is 0 and this mark; `None` if it is the code of no component that may be
+// there.
 #[inline]
 fn mark_code<'a>(mark: u8, first: bool) -> Option<Code<'a>>
     ensures some { IfSome result
@@ -114,8 +115,8 @@ fn mark_code<'a>(mark: u8, first: bool) -> Option<Code<'a>>
     None
 }
 
-// The code with which these bytes begin; `None` if they begin with that of no value that may stand
-// there, as a path's first or behind it.
+// Returns the code with which these bytes begin; `None` if they begin with the code of no component
+// that may be there: as the first one of a path if `first` is true, and after others otherwise.
 #[inline]
 pub(crate) fn code_in(bytes: &[u8], first: bool) -> Option<Code<'_>>
     ensures some { IfSome result (λ found. TakesCode first bytes.now (code_value found)) }

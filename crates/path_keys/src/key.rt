@@ -1,7 +1,7 @@
 //! Keys that own their bytes.
 ghost use Rattle.std.specs.Prelude.{◌≡◌, ◌≤◌, [], length};
 ghost use Rattle.std.specs.Prelude.{◌↔◌, ℕ, List, map, IfOk, OnOk, OnErr, IsOk, IsTrue, option_map};
-ghost use Rattle.std.specs.Prelude.{Some};
+ghost use Rattle.std.specs.Prelude.{IsErrOf, Some};
 ghost use Rattle.std.specs.Cmp.{on_po, on_total};
 ghost use Rattle.std.specs.Cmp.Lexicographic.{slice_cmp, texts_po, texts_ties, nat_list_cmp_total};
 ghost use Rattle.std.specs.Ordering.{nat_cmp};
@@ -9,25 +9,26 @@ ghost use Rattle.std.proofs.Common.{refl};
 ghost use Rattle.unix_path.specs.Names.{file_name_of};
 ghost use Rattle.unix_path.specs.Parents.{parent_of};
 ghost use Rattle.unix_path.specs.Parts.{values};
-ghost use Rattle.unix_path.specs.Prefixes.{Begins};
+ghost use Rattle.unix_path.specs.Prefixes.{IsPrefixOf};
 ghost use Rattle.path_keys.specs.Keys.{key_of, raised, IsKey};
 
 mod range;
 
-use crate::fill::{fill_key, room_for_key};
-use crate::last::{key_name, key_parent, key_starts_with};
+use crate::encode::{fill_key, room_for_key};
+use crate::parent::{key_name, key_parent, key_starts_with};
+use crate::read::{KeyError, is_key};
 pub use range::KeyRange;
 use std::alloc::{AllocError, Global};
 use std::cmp::Ordering;
 use unix_bytes::order::compare_bytes;
 use unix_path::Path;
 
-/// The key of a path: bytes that a store may compare in place of the path.
+/// The key of a path: bytes that a store can compare instead of the path.
 ///
-/// Keys are compared and hashed by their bytes. Those of two paths are in the order of the paths,
-/// and are equal exactly if the paths are. It keeps its allocator. Not in Rust's std.
+/// Keys are compared and hashed by their bytes. The keys of two paths sort in the order of the
+/// paths, and are equal if and only if the paths are equal. A key keeps its allocator.
 ///
-/// The key of `/a` is the bytes 00 01 61 00, and that of `a.b/..` is 61 2F 62 00 00 03.
+/// The key of `/a` is the bytes 00 01 61 00. The key of `a.b/..` is 61 2F 62 00 00 03.
 #[derive(Debug, Drop, PartialEq, Eq, Hash)]
 pub struct PathKey {
     bytes: Vec<u8>,
@@ -37,9 +38,9 @@ pub struct PathKey {
 impl PathKey {
     ghost use Rattle.path_keys.specs.Held.{key_bytes, key_capacity};
 
-    /// The key of the empty path, which has no byte. Does not allocate. Not in Rust's std.
+    /// Returns the key of the empty path, which has no bytes, without an allocation.
     ///
-    /// It begins every key.
+    /// It is a prefix of every key.
     #[must_use]
     pub fn new(alloc: Global) -> PathKey
         ensures { key_bytes result ≡ [] }
@@ -49,12 +50,11 @@ impl PathKey {
         }
     }
 
-    /// The key of a path: the bytes of its parts, one after the other.
+    /// Creates the key of a path: the bytes of its components, one after the other.
     ///
-    /// A root is 00 01, a leading `.` is 00 02, and each `..` is 00 03. A name is its bytes, each
-    /// that is less than 2F raised by one, and then 00. Allocates once, two bytes more than the
-    /// path has, or not at all for the empty path; fails if the allocation fails. Not in Rust's
-    /// std.
+    /// A root is 00 01, a leading `.` is 00 02, and each `..` is 00 03. A name is its bytes, with
+    /// each byte less than 2F raised by one, and then 00. Allocates once, the length of the path
+    /// plus 2, or not at all for the empty path. Fails if the allocation fails.
     ///
     /// For `.//a/./b/` it is 00 02 61 00 62 00.
     pub fn from_path(alloc: Global, path: Path<'_>) -> Result<PathKey, AllocError>
@@ -72,12 +72,34 @@ impl PathKey {
         Ok(key)
     }
 
-    /// Makes it the key of another path, in the room that it has.
+    /// Creates a key from its bytes, such as those that a store returns.
     ///
-    /// Allocates only if it can hold less than the key; fails if the allocation fails, and then it
-    /// stays as it was. The capacity never shrinks. Not in Rust's std.
+    /// The error is `NotAKey` if and only if no path has these bytes as its key. Nothing has been
+    /// allocated then. The error is `Memory` if the allocation fails. Allocates once, the length of
+    /// the key, or not at all for the empty key.
     ///
-    /// The key of `a/b`, set to `..`, is 00 03.
+    /// 61 00 becomes the key of `a`. 61, 00 04 and 61 00 00 01 are not keys.
+    pub fn from_bytes(alloc: Global, key: &[u8]) -> Result<PathKey, KeyError>
+        ensures not_a_key { IsErrOf result KeyError.NotAKey ↔ (IsKey key.now → ⊥) }
+        ensures key { IfOk result (λ made. key_bytes made ≡ key.now) }
+        ensures succeeds { key.now ≡ [] → IsOk result }
+    {
+        if key.is_empty() {
+            return Ok(PathKey::new(alloc));
+        }
+        if !is_key(key) {
+            return Err(KeyError::NotAKey);
+        }
+        let bytes = Vec::from_slice(alloc, key)?;
+        Ok(PathKey { bytes })
+    }
+
+    /// Replaces this key with the key of another path, and reuses the capacity.
+    ///
+    /// Allocates only if the capacity is less than the length of the new key. Fails if the
+    /// allocation fails, and then this key is unchanged. The capacity never shrinks.
+    ///
+    /// The key of `a/b`, set to `..`, becomes 00 03.
     pub fn set(&mut self, path: Path<'_>) -> Result<(), AllocError>
         ensures ok { OnOk result (key_bytes self.new ≡ key_of (values path.entry.bytes.now)) }
         ensures err { OnErr result (key_bytes self.new ≡ key_bytes self.old) }
@@ -91,7 +113,7 @@ impl PathKey {
         Ok(())
     }
 
-    /// The bytes of the key. Does not allocate. Not in Rust's std.
+    /// Returns the bytes of the key.
     ///
     /// For the key of `..` they are 00 03.
     #[must_use]
@@ -102,10 +124,10 @@ impl PathKey {
         self.bytes.as_slice()
     }
 
-    /// The bytes of the key, as the vector that holds them. Does not allocate. Not in Rust's std.
+    /// Returns the vector that contains the bytes of the key.
     ///
-    /// A `BTreeMap` whose keys are vectors is asked for a range by such: that of the key of `..`
-    /// has 00 03.
+    /// A `BTreeMap` whose keys are vectors needs such a vector as the bound of a range. For the key
+    /// of `..` it contains 00 03.
     #[must_use]
     #[inline]
     pub fn as_vec(&self) -> &Vec<u8>
@@ -114,10 +136,9 @@ impl PathKey {
         &self.bytes
     }
 
-    /// The bytes of the key in the vector that held them. Does not allocate. Not in Rust's std; as
-    /// `String::into_bytes`.
+    /// Converts the key into the vector that contains its bytes, like `String::into_bytes`.
     ///
-    /// It may have more capacity than the key has bytes. For the key of `..` it has 00 03.
+    /// The vector may have spare capacity. For the key of `..` it contains 00 03.
     #[must_use]
     pub fn into_vec(self) -> Vec<u8>
         ensures { result.items ≡ key_bytes self }
@@ -126,7 +147,7 @@ impl PathKey {
         bytes
     }
 
-    /// The key of the parent, as `key_parent` gives it. Does not allocate. Not in Rust's std.
+    /// Returns the key of the parent, as `key_parent` does.
     ///
     /// For the key of `a/b` it is 61 00.
     #[must_use]
@@ -138,10 +159,9 @@ impl PathKey {
         key_parent(self.as_bytes())
     }
 
-    /// The file name as it stands in the key, as `key_name` gives it. Does not allocate. Not in
-    /// Rust's std.
+    /// Returns the bytes of the file name in the key, as `key_name` does.
     ///
-    /// For the key of `a/b.c` it is 62 2F 63.
+    /// For the key of `a/b.c` they are 62 2F 63.
     #[must_use]
     pub fn name(&self) -> Option<&[u8]>
         ensures { (s : List ℕ) → key_of (values s) ≡ key_bytes self.now
@@ -151,16 +171,16 @@ impl PathKey {
         key_name(self.as_bytes())
     }
 
-    /// Whether its path starts with that of another key, as `key_starts_with` says: no `..` is
-    /// resolved. Does not allocate. Not in Rust's std.
+    /// Returns true if the path of this key starts with the path of `base`, as `key_starts_with`
+    /// does. No `..` is resolved.
     ///
-    /// The key of `a/b` starts with that of `a`, and that of `ab` doesn't.
+    /// The key of `a/b` starts with the key of `a`. The key of `ab` does not.
     #[must_use]
     pub fn starts_with(&self, base: &PathKey) -> bool
-        ensures bytes { IsTrue result ↔ Begins (key_bytes base.now) (key_bytes self.now) }
+        ensures bytes { IsTrue result ↔ IsPrefixOf (key_bytes base.now) (key_bytes self.now) }
         ensures values { (s t : List ℕ) → key_of (values s) ≡ key_bytes self.now
             → key_of (values t) ≡ key_bytes base.now
-            → (IsTrue result ↔ Begins (values t) (values s)) }
+            → (IsTrue result ↔ IsPrefixOf (values t) (values s)) }
     {
         key_starts_with(self.as_bytes(), base.as_bytes())
     }
@@ -179,7 +199,7 @@ impl PartialOrd for PathKey {
     }
 }
 
-/// Keys are ordered by their bytes, which puts them in the order of their paths. Does not allocate.
+/// Keys are ordered by their bytes, which is the order of their paths.
 impl Ord for PathKey {
     ghost use Rattle.path_keys.specs.Held.{key_bytes};
 

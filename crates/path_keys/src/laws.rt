@@ -1,75 +1,54 @@
-//! Laws of keys: facts about the definitions alone, which a proof gets by calling them.
-ghost use Rattle.path_keys.specs.Laws.{KeyIsShort, KeyOfJoin, KeysAlone, KeysBegin, KeysInOrder};
-ghost use Rattle.path_keys.specs.Laws.{KeysReadBack, KeysTell, KeysUnder};
+//! Laws of keys: facts about the definitions, each available to a proof that calls it.
+ghost use Rattle.path_keys.specs.Laws.{KeyIsShort, KeyOfJoin, KeyOfStripped, KeysBegin};
+ghost use Rattle.path_keys.specs.Laws.{KeysInOrder, KeysTell};
 
 /// The keys of two paths, compared by their bytes, are in the order of the paths.
 ///
-/// They are equal exactly if the paths are. So a store that compares keys by their bytes keeps
-/// paths in path order, each once. Calling it does nothing. Not in Rust's std.
+/// The keys are equal if and only if the paths are equal. A store that compares keys by their bytes
+/// therefore keeps paths in path order, without duplicates.
 ///
-/// The key of `a/b` is less than that of `a.b`, and `a//b` has the key of `a/b`.
+/// The key of `a/b` is less than the key of `a.b`. The paths `a//b` and `a/b` have the same key.
 pub fn keys_in_order()
     ensures order { KeysInOrder }
     ensures equal { KeysTell }
 {}
 
-/// The key of one path begins that of another exactly if its values begin the other's.
+/// The key of one path is a prefix of the key of another if and only if the components of the first
+/// path are a prefix of the components of the other.
 ///
-/// So the keys of all paths that start with a base begin with its key, and no others do. Calling it
-/// does nothing. Not in Rust's std.
+/// The keys of the paths that start with a base therefore start with the key of the base, and no
+/// other keys do.
 ///
-/// The key of `a` begins that of `a/b`, and not that of `ab`.
+/// The key of `a` is a prefix of the key of `a/b`, but not of the key of `ab`.
 pub fn keys_begin()
     ensures { KeysBegin }
 {}
 
-/// A path starts with a base exactly if its key lies in the range of the base's key.
+/// If a path starts with a base, the key of the path is the key of the base followed by the key of
+/// the rest, which `Path::strip_prefix` returns.
 ///
-/// The range begins with the base's key, and ends before that key with its last byte raised by one;
-/// that of the empty path has all keys. So one scan of a store gives the paths under a base, and no
-/// others. Calling it does nothing. Not in Rust's std.
+/// To rename a directory in a store, a caller therefore replaces the key of the directory at the
+/// beginning of each key. The empty path can't be renamed so: the rest may begin with a root or a
+/// `.`, whose codes are in no key after others.
 ///
-/// The range of `a` is from 61 00 up to 61 01: the key of `a/b` lies in it, and that of `a.b` lies
-/// behind it.
-pub fn keys_under()
-    ensures { KeysUnder }
+/// The key of `a/b` without `a` is 61 00, followed by the key of `b`, 62 00.
+pub fn key_of_stripped()
+    ensures { KeyOfStripped }
 {}
 
-/// The canonical spelling of a path has the path's key.
+/// The key of a join with a path that has no root and no leading `.` is the key of the first path
+/// followed by the key of the second.
 ///
-/// So `path_of` gives the canonical spelling of each path whose key it reads back. Calling it does
-/// nothing. Not in Rust's std.
-///
-/// The key of `.//a/./b/` is 00 02 61 00 62 00, which reads back as `./a/b`.
-pub fn keys_read_back()
-    ensures { KeysReadBack }
-{}
-
-/// Of the paths that have a key, one alone is in canonical form.
-///
-/// So what a key reads back as depends on the key alone. Calling it does nothing. Not in Rust's
-/// std.
-///
-/// Of `a/b`, `a//b` and `a/b/.`, which have the key 61 00 62 00, it is `a/b`.
-pub fn keys_alone()
-    ensures { KeysAlone }
-{}
-
-/// The key of a join with a path that has no root and no leading `.` is the key of the first path,
-/// and behind it that of the second.
-///
-/// Calling it does nothing. Not in Rust's std.
-///
-/// The key of `a/b` is the bytes 61 00 62 00: that of `a`, and behind it that of `b`.
+/// The key of `a/b` is the bytes 61 00 62 00: the key of `a`, followed by the key of `b`.
 pub fn key_of_join()
     ensures { KeyOfJoin }
 {}
 
 /// The key of a path has at most two bytes more than the path.
 ///
-/// A caller can size a buffer by it. Calling it does nothing. Not in Rust's std.
+/// A caller can choose the length of a buffer by it.
 ///
-/// The key of `/a` has 4 bytes, and the path 2.
+/// The path `/a` has 2 bytes, and its key has 4.
 pub fn key_is_short()
     ensures { KeyIsShort }
 {}

@@ -1,21 +1,23 @@
-//! Keys of paths for ordered stores: bytes that compare as the paths do.
+//! Keys of paths for ordered stores: byte strings that sort in path order.
+//!
+//! Functions do not allocate unless they take an allocator or say so. Functions named as in
+//! `std::path` behave as they do on Unix unless stated otherwise. Laws do nothing at run time.
+//! Indices and lengths count bytes.
+//!
+//! The bytes of keys are written in hexadecimal.
 #![tactic(auto)]
 
-mod coded;
 mod codes;
-mod decoded;
-mod fill;
+mod decode;
+pub mod encode;
 pub mod key;
-mod last;
 pub mod laws;
-mod names;
-mod parts;
+mod parent;
 pub mod read;
+mod recode;
 mod runs;
-mod spelled;
-pub mod written;
 
+pub use encode::{key_len, write_key};
 pub use key::{KeyRange, PathKey};
-pub use last::{key_name, key_parent, key_starts_with};
+pub use parent::{key_name, key_parent, key_starts_with};
 pub use read::{KeyError, is_key, path_of, write_path_of};
-pub use written::{key_len, write_key};

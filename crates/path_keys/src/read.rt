@@ -1,4 +1,4 @@
-//! The path of a key, read back.
+//! Reading a key back as a path.
 ghost use Rattle.std.specs.Prelude.{◌≡◌, ◌↔◌, ℕ, List, [], length, IfOk, IsErrOf, IsOk, IsTrue};
 ghost use Rattle.std.specs.Prelude.{is_some, None, Some};
 ghost use Rattle.std.specs.Fmt.{padded};
@@ -9,16 +9,16 @@ ghost use Rattle.path_runs.specs.Spelling.{spelling_of};
 ghost use Rattle.path_keys.specs.Keys.{key_of, IsKey};
 ghost use Rattle.path_keys.specs.Codes.{HasPath, IsRead};
 
-use crate::spelled::{path_len, write_text};
+use crate::decode::{path_len, write_text};
 use std::alloc::{AllocError, Global};
 use std::error::Error;
 use std::fmt;
 use unix_bytes::bytes::UnixString;
 use unix_path::PathBuf;
 
-/// Why bytes couldn't be read back as a path.
+/// The error of reading bytes back as a path.
 ///
-/// When it is displayed, its text is padded as any text is. Not in Rust's std.
+/// Its text is padded by width, precision, fill and alignment when it is displayed.
 #[derive(Debug, Drop)]
 pub enum KeyError {
     /// No path has these bytes as its key. It is printed as `not the key of a path`.
@@ -27,7 +27,7 @@ pub enum KeyError {
     Memory(AllocError),
 }
 
-/// The text of each variant, padded by width, precision, fill and alignment. Does not allocate.
+/// Writes the text of the variant, padded by width, precision, fill and alignment.
 ///
 /// `KeyError::NotAKey` is printed as `not the key of a path`.
 impl fmt::Display for KeyError {
@@ -47,9 +47,10 @@ impl fmt::Display for KeyError {
 
 impl Error for KeyError {}
 
-/// `Memory`, with the error of the allocation. Does not allocate.
+/// Returns `Memory` with the error of the allocation.
 ///
-/// With it `?` works on a `PathKey::from_path` in a function whose error is a `KeyError`.
+/// With it, `?` works on the result of `PathKey::from_path` in a function whose error is
+/// `KeyError`.
 impl From<AllocError> for KeyError {
     ghost use Rattle.path_keys.specs.declared.read.KeyError.TheVariants.{Memory};
 
@@ -60,7 +61,7 @@ impl From<AllocError> for KeyError {
     }
 }
 
-// The path of a key, of `len` bytes.
+// Returns the path of a key, of `len` bytes.
 fn read_text(alloc: Global, key: &[u8], len: usize) -> Result<Vec<u8>, AllocError>
     requires { HasPath key.now len }
     ensures read { IfOk result (λ text. IsRead key.now text.items) }
@@ -72,9 +73,9 @@ fn read_text(alloc: Global, key: &[u8], len: usize) -> Result<Vec<u8>, AllocErro
     Ok(text)
 }
 
-/// Whether these bytes are the key of some path. Does not allocate. Not in Rust's std.
+/// Returns true if these bytes are the key of some path.
 ///
-/// 61 00 are, and 61, 00 04 and 61 00 00 01 are not.
+/// 61 00 is a key. 61, 00 04 and 61 00 00 01 are not keys.
 #[must_use]
 pub fn is_key(key: &[u8]) -> bool
     ensures { IsTrue result ↔ IsKey key.now }
@@ -82,13 +83,13 @@ pub fn is_key(key: &[u8]) -> bool
     path_len(key).is_some()
 }
 
-/// The path of a key: the canonical spelling of the paths that have it.
+/// Returns the path of a key: the canonical form of the paths that have the key.
 ///
-/// The error is `NotAKey` exactly if no path has these bytes as its key, before anything is
-/// allocated, and `Memory` if the allocation fails. Allocates once, as many bytes as the path has,
-/// or not at all for the empty key. Not in Rust's std.
+/// The error is `NotAKey` if and only if no path has these bytes as its key. Nothing has been
+/// allocated then. The error is `Memory` if the allocation fails. Allocates once, the length of the
+/// path, or not at all for the empty key.
 ///
-/// For 00 02 61 00 62 00 it is `./a/b`. 61, 00 04 and 61 00 00 01 are no keys.
+/// For 00 02 61 00 62 00 it is `./a/b`. 61, 00 04 and 61 00 00 01 are not keys.
 pub fn path_of(alloc: Global, key: &[u8]) -> Result<PathBuf, KeyError>
     ensures not_a_key { IsErrOf result KeyError.NotAKey ↔ (IsKey key.now → ⊥) }
     ensures values { IfOk result (λ p. key_of (values (path_bytes p)) ≡ key.now) }
@@ -106,10 +107,10 @@ pub fn path_of(alloc: Global, key: &[u8]) -> Result<PathBuf, KeyError>
 /// Writes the path of a key to the beginning of `out`, and returns its length; `None` if no path
 /// has these bytes as its key.
 ///
-/// The path is that of `path_of`, the canonical spelling of the paths that have the key. The bytes
-/// of `out` behind it stay as they were. If `out` has no room for all of it, or the bytes are no
-/// key, nothing is written; the length of a path that has no room is greater than that of `out`.
-/// Does not allocate. Not in Rust's std.
+/// The path is what `path_of` returns, the canonical form of the paths that have the key. The bytes
+/// of `out` after it are unchanged. If `out` is too short for all of it, nothing is written, and
+/// the length returned is greater than the length of `out`. If the bytes are not a key, nothing is
+/// written either.
 ///
 /// For 00 02 61 00 62 00 it is `./a/b`, of 5 bytes. For 61, 00 04 and 61 00 00 01 it is `None`.
 pub fn write_path_of(key: &[u8], out: &mut [u8]) -> Option<usize>

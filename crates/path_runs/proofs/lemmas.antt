@@ -7,3 +7,4 @@ pub mod edits
 pub mod spelling
 pub mod gaps
 pub mod order
+pub mod rows

@@ -1,4 +1,4 @@
--- Edits of a path and lists of them (Rust's `PathBuf::push`, `PathBuf::pop`,
+-- Edits of a path and lists of edits (Rust's `PathBuf::push`, `PathBuf::pop`,
 -- `PathBuf::set_file_name`, `PathBuf::set_extension`, `PathBuf::add_extension`, `PathBuf::clear`).
 use Rattle.std.specs.Prelude.{ℕ, List, [], ◌∷◌, Bool, true, false, not, is_some, if◌then◌else◌}
 use Rattle.unix_path.specs.Parts.{values}
@@ -10,7 +10,7 @@ use Rattle.unix_path.specs.Extensions.{has_slash, added_extension_of}
 use Rattle.path_runs.specs.declared.edits.Answer.{Answer}
 use Rattle.path_runs.specs.declared.edits.Answer.TheVariants.{Plain, Flag, Separator}
 
--- an edit, with the bytes that it holds
+-- an edit, with the bytes that it needs
 pub data EditValue : Type 0 where
   Push : List ℕ → EditValue
   Pop : EditValue
@@ -19,7 +19,7 @@ pub data EditValue : Type 0 where
   AddExtension : List ℕ → EditValue
   Clear : EditValue
 
--- what an edit leaves of the path s, and what it answers
+-- the path s after an edit, and the edit's answer
 abbrev pub edit_of : List ℕ → EditValue → List ℕ × Answer
 edit_of s (Push b) = (join_of s b, Plain)
 edit_of s Pop = (popped_of s, Flag (is_some (parent_of s)))
@@ -32,7 +32,8 @@ edit_of s (AddExtension extension) =
     else (added_extension_of s extension, Flag (is_some (file_name_of (values s))))
 edit_of s Clear = ([], Plain)
 
--- what a list of edits leaves, each made on what the one before it left, and all their answers
+-- the path s after a list of edits, each applied to the result of the one before it, and all
+-- answers
 abbrev pub edits_of : List ℕ → List EditValue → List ℕ × List Answer
 edits_of s [] = (s, [])
 edits_of s (e ∷ es) =
@@ -40,7 +41,7 @@ edits_of s (e ∷ es) =
     let more = edits_of one.0 es in
     (more.0, one.1 ∷ more.1)
 
--- the edit is a push, a new file name, or an extension that isn't empty and holds no slash
+-- the edit is a push, a new file name, or an extension that isn't empty and contains no slash
 abbrev pub may_allocate : EditValue → Bool
 may_allocate (Push b) = true
 may_allocate (SetFileName name) = true

@@ -1,4 +1,5 @@
--- Edits as the definitions see them.
+-- The source's edits as edits of `EditLists`, and the results of setting or adding an extension as
+-- answers.
 use Rattle.std.specs.Prelude.{Bool, Option, Some, None, Result, Ok, Err}
 use Rattle.unix_path.specs.declared.buf.extensions.ExtensionError.{ExtensionError}
 use Rattle.unix_path.specs.declared.buf.extensions.ExtensionError.TheVariants.{Separator, Memory}
@@ -10,7 +11,7 @@ use Rattle.path_runs.specs.declared.edits.Edit.{Edit}
 use Rattle.path_runs.specs.declared.edits.Edit.TheVariants.{Push, Pop, SetFileName}
 use Rattle.path_runs.specs.declared.edits.Edit.TheVariants.{SetExtension, AddExtension, Clear}
 
--- an edit with the bytes that it holds
+-- the edit, with the bytes that its view points to
 abbrev pub edit_value : Edit → EditValue
 edit_value (Push path) = edit_lists.Push path.bytes.now
 edit_value Pop = edit_lists.Pop
@@ -19,7 +20,7 @@ edit_value (SetExtension extension) = edit_lists.SetExtension extension.bytes.no
 edit_value (AddExtension extension) = edit_lists.AddExtension extension.bytes.now
 edit_value Clear = edit_lists.Clear
 
--- what an edit of the extension answers, by the call's result; none if an allocation failed
+-- the answer of an edit of the extension, from the call's result; `None` if an allocation failed
 abbrev pub extension_answer : Result Bool ExtensionError → Option Answer
 extension_answer (Ok is_made) = Some (answers.Flag is_made)
 extension_answer (Err Separator) = Some answers.Separator

@@ -1,5 +1,5 @@
--- The gaps of a path: its slashes with an empty piece or the piece `.` behind them. No public
--- clause cites these words.
+-- The gaps of a path: each slash that is followed by an empty piece or the piece `.`. No public
+-- clause cites these definitions.
 use Rattle.std.specs.Prelude.{◌≡◌, ◌<◌, ◌≤◌, ℕ, ◌+◌, ◌-◌, ◌==◌, Bool, true, false, ◌||◌, ◌&&◌}
 use Rattle.std.specs.Prelude.{List, ◌∷◌, ◌++◌, length, drop, slice_index, slice_index_or}
 use Rattle.std.specs.List.{flat_map}
@@ -7,7 +7,7 @@ use Rattle.unix_path.specs.Parts.{slash, dot, value_bytes}
 use Rattle.unix_path.specs.CommonDir.{inner_values}
 use Rattle.unix_path.specs.Scan.{is_filler}
 
--- the byte at i is a slash, and the piece behind it is empty or `.`
+-- the byte at i is a slash, and the piece after it is empty or `.`
 abbrev pub is_gap : List ℕ → ℕ → Bool
 is_gap s i =
     let next = slice_index_or s (i + 1) slash in
@@ -20,22 +20,23 @@ pub record FirstGap (s : List ℕ) (at : ℕ) : Type 0 where
   pub gap : at < length s → is_gap s at ≡ true
   pub none_before : (i : ℕ) → i < at → is_gap s i ≡ false
 
--- a part stands at `at`, behind a slash
-pub record IsPart (s : List ℕ) (at : ℕ) : Type 0 where
-  pub behind : 0 < at
+-- a component begins at `at`, after a slash
+pub record IsPartStart (s : List ℕ) (at : ℕ) : Type 0 where
+  pub after_start : 0 < at
   pub after_slash : slice_index s (at - 1) ≡ slash
   pub begins : is_filler s at ≡ false
 
--- the bytes of the pieces of s that count, each behind a slash
+-- the bytes of the pieces of s that are neither empty nor `.`, each after a slash
 unfoldable pub slashed_parts : List ℕ → List ℕ
 slashed_parts s = flat_map (λ v. slash ∷ value_bytes v) (inner_values s)
 
--- `stretch` is the part at `start` and some parts behind it, each behind a slash; as many bytes of
--- s, from the slash before that part on, reach to another slash or to the end
-pub record IsCopied (s : List ℕ) (start : ℕ) (stretch : List ℕ) : Type 0 where
-  pub more : 1 < length stretch
-  pub in_range : start - 1 + length stretch ≤ length s
-  pub gap : start - 1 + length stretch < length s
-      → slice_index s (start - 1 + length stretch) ≡ slash
+-- `run` is the component at `start` and any number of components after it, each after a slash; the
+-- bytes of s after the run, at index `start - 1 + length run`, have the remaining components, and
+-- the first of these bytes, if any, is a slash
+pub record IsGaplessRun (s : List ℕ) (start : ℕ) (run : List ℕ) : Type 0 where
+  pub more : 1 < length run
+  pub in_range : start - 1 + length run ≤ length s
+  pub gap : start - 1 + length run < length s
+      → slice_index s (start - 1 + length run) ≡ slash
   pub same : slashed_parts (drop start s)
-      ≡ stretch ++ slashed_parts (drop (start - 1 + length stretch) s)
+      ≡ run ++ slashed_parts (drop (start - 1 + length run) s)

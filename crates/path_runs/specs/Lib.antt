@@ -6,12 +6,13 @@ pub mod SpellingLaws
 pub mod EditLists
 pub mod EditViews
 pub mod EditErrors
-pub mod Known
+pub mod ScanCache
 pub mod JoinLaws
 pub mod EditLaws
 pub mod QueryLaws
-pub mod AlikeLaws
+pub mod EqualPathLaws
 pub mod TableLaws
+pub mod Rows
 pub mod HashLaws
 pub mod Gaps
 pub mod Buffer

@@ -1,6 +1,6 @@
--- Bytes that overwrite others. No public clause cites this word.
+-- Bytes that overwrite others. No public clause cites this definition.
 use Rattle.std.specs.Prelude.{ℕ, ◌+◌, List, ◌++◌, length, take, drop}
 
--- the old bytes, overwritten with these from place `at` on
+-- the old bytes, with `bytes` written over them at index `at`
 abbrev pub overlay : ℕ → List ℕ → List ℕ → List ℕ
 overlay at bytes old = (take at old ++ bytes) ++ drop (at + length bytes) old

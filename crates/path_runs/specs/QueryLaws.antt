@@ -5,25 +5,25 @@ use Rattle.unix_path.specs.Parts.{dot, values, SameValues}
 use Rattle.unix_path.specs.Joins.{join_of}
 use Rattle.unix_path.specs.Names.{file_name_of, stem_of, extension_of, split_name}
 use Rattle.unix_path.specs.Parents.{parent_of, ancestors_of}
-use Rattle.unix_path.specs.Prefixes.{Begins}
+use Rattle.unix_path.specs.Prefixes.{IsPrefixOf}
 use Rattle.unix_path.specs.Order.{IsBefore}
 
--- a stem, and behind it a dot and the extension if there is one
+-- a stem, followed by a dot and the extension if there is one
 abbrev pub name_from_stem : List ℕ → Option (List ℕ) → List ℕ
 name_from_stem stem None = stem
 name_from_stem stem (Some extension) = stem ++ dot ∷ extension
 
--- a name is its stem, and behind it a dot and its extension if it has one
+-- a name is its stem, followed by a dot and its extension if it has one
 abbrev pub NameFromStem : Type 0
 NameFromStem = (name : List ℕ) → name_from_stem (split_name name).0 (split_name name).1 ≡ name
 
--- a path's file name is made of its stem and its extension
+-- a path's file name consists of its stem and its extension
 abbrev pub FileNameFromStem : Type 0
 FileNameFromStem =
     (s stem : List ℕ) → stem_of (values s) ≡ Some stem
     → file_name_of (values s) ≡ Some (name_from_stem stem (extension_of (values s)))
 
--- a path's parent comes before it in the order
+-- a path's parent is before the path in the order
 abbrev pub ParentIsBefore : Type 0
 ParentIsBefore =
     (s parent : List ℕ) → parent_of s ≡ Some parent → IsBefore (values parent) (values s)
@@ -43,6 +43,6 @@ abbrev pub AncestorsStep : Type 0
 AncestorsStep =
     (s parent : List ℕ) → parent_of s ≡ Some parent → ancestors_of s ≡ s ∷ ancestors_of parent
 
--- a path's bytes begin with those of each ancestor
+-- a path's bytes begin with the bytes of each ancestor
 abbrev pub AncestorsArePrefixes : Type 0
-AncestorsArePrefixes = (s : List ℕ) → All (λ prefix. Begins prefix s) (ancestors_of s)
+AncestorsArePrefixes = (s : List ℕ) → All (λ prefix. IsPrefixOf prefix s) (ancestors_of s)

@@ -1,17 +1,17 @@
--- The canonical spelling of a list of values. Not in Rust's std.
+-- The canonical form of a list of components. Not in Rust's std.
 use Rattle.std.specs.Prelude.{ℕ, List, [], ◌∷◌, map}
 use Rattle.std.specs.List.{flat_map, join_with_byte}
 use Rattle.unix_path.specs.Parts.{Value, RootDir, slash, value_bytes}
 
--- the values' bytes, with one slash between neighbours
+-- the components' bytes, with one slash between neighbours
 abbrev pub slashed_bytes : List Value → List ℕ
 slashed_bytes vs = join_with_byte slash (map value_bytes vs)
 
--- the values' bytes, each after a slash
+-- the components' bytes, each after a slash
 abbrev pub slash_each : List Value → List ℕ
 slash_each vs = flat_map (λ v. slash ∷ value_bytes v) vs
 
--- a first root as a slash, and then the other values' bytes with slashes between
+-- a leading root as a slash, followed by the other components' bytes with slashes between them
 unfoldable pub spelling_of : List Value → List ℕ
 spelling_of [] = []
 spelling_of (RootDir ∷ vs) = slash ∷ slashed_bytes vs

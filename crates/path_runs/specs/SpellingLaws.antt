@@ -1,29 +1,29 @@
--- Laws of the canonical spelling. Not in Rust's std.
+-- Laws of the canonical form. Not in Rust's std.
 use Rattle.std.specs.Prelude.{◌≡◌, ◌↔◌, ◌⊎◌, ◌<◌, ◌≤◌, ℕ, List, [], length, map}
 use Rattle.unix_path.specs.Joins.{join_all_of}
 use Rattle.unix_path.specs.Parts.{value_bytes, values, SameValues}
 use Rattle.path_runs.specs.Spelling.{spelling_of}
 
--- the spelling of a path's values has these values
+-- the canonical form of a path has the path's components
 abbrev pub SpellingReadsBack : Type 0
 SpellingReadsBack = (s : List ℕ) → SameValues (spelling_of (values s)) s
 
--- each path with these values is that spelling, or longer
+-- a path t with the components of s is the canonical form of s, or longer than it
 abbrev pub SpellingIsShortest : Type 0
 SpellingIsShortest =
     (s t : List ℕ) → SameValues t s
     → (t ≡ spelling_of (values s)) ⊎ (length (spelling_of (values s)) < length t)
 
--- the spelling of a path's values has no more bytes than the path
+-- the canonical form of a path has at most as many bytes as the path
 abbrev pub SpellingFits : Type 0
 SpellingFits = (s : List ℕ) → length (spelling_of (values s)) ≤ length s
 
--- two paths have the same values exactly if their spellings have the same bytes
-abbrev pub SpellingsTell : Type 0
-SpellingsTell =
+-- two paths have the same components if and only if their canonical forms have the same bytes
+abbrev pub SpellingDeterminesValues : Type 0
+SpellingDeterminesValues =
     (s t : List ℕ) → SameValues s t ↔ (spelling_of (values s) ≡ spelling_of (values t))
 
--- the bytes of a path's values, each joined to those before it, are the values' spelling
+-- the bytes of a path's components, each joined to those before it, are the canonical form
 abbrev pub JoinsAreSpelling : Type 0
 JoinsAreSpelling =
     (s : List ℕ) → join_all_of [] (map value_bytes (values s)) ≡ spelling_of (values s)

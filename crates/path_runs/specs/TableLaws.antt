@@ -1,4 +1,5 @@
--- Laws of tables with paths as keys: each is a table by values (Rust's `BTreeMap`).
+-- Laws of tables with paths as keys: such a table behaves like one whose keys are the paths'
+-- components (Rust's `BTreeMap`).
 use Rattle.std.specs.Prelude.{◌≡◌, ℕ, List, map}
 use Rattle.std.specs.BTreeMap.{insert_entry, is_at}
 use Rattle.std.specs.Map.{lookup, remove_entry}
@@ -11,18 +12,18 @@ use Rattle.unix_path.specs.declared.path.Path.{Path}
 abbrev pub view_bytes : Path → List ℕ
 view_bytes path = path.bytes.now
 
--- the entries, with each key replaced by its values
+-- the entries, with each key replaced by its components
 abbrev pub rows_of : {K V : Type 0} → (K → List ℕ) → List (K × V) → List (List Value × V)
 rows_of bytes_of entries = map (λ e. (values (bytes_of e.0), e.1)) entries
 
--- a look-up by a path gives what the rows have at its values
+-- a lookup by a path finds what the rows have at its components
 abbrev pub LookupByValues : {K : Type 0} → (K → List ℕ) → Type 0 → Type 0
 LookupByValues {K} bytes_of V =
     (w : List Value) (entries : List (K × V))
     → lookup (is_at (λ k. values_cmp w (values (bytes_of k)))) entries
     ≡ lookup (is_at (values_cmp w)) (rows_of bytes_of entries)
 
--- inserting by a path inserts into the rows at its values
+-- inserting by a path inserts into the rows at its components
 abbrev pub InsertByValues : {K : Type 0} → (K → List ℕ) → Type 0 → Type 0
 InsertByValues {K} bytes_of V =
     (entries : List (K × V)) (key : K) (value : V)
@@ -30,7 +31,7 @@ InsertByValues {K} bytes_of V =
     (insert_entry (on (λ k. values (bytes_of k)) values_cmp) entries key value)
     ≡ insert_entry values_cmp (rows_of bytes_of entries) (values (bytes_of key)) value
 
--- removing by a path removes from the rows at its values
+-- removing by a path removes from the rows at its components
 abbrev pub RemoveByValues : {K : Type 0} → (K → List ℕ) → Type 0 → Type 0
 RemoveByValues {K} bytes_of V =
     (w : List Value) (entries : List (K × V))

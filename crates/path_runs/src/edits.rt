@@ -1,21 +1,22 @@
-//! Edits of a path as values, and a function that makes a list of them.
+//! Edits of a path as values, and functions that apply a list of them (`apply`) or join the rest of
+//! a path to its base again (`rejoin`).
 ghost use Rattle.std.specs.Prelude.{◌≡◌, ◌↔◌, ◌<◌, [], true, length, take, slice_get, MatchOption};
 ghost use Rattle.std.specs.Prelude.{map, Some, IsSome, IsOk, IfOk, IfErr, IfSome, OnOk, OnErr};
 ghost use Rattle.std.specs.Fmt.{padded};
 ghost use Rattle.std.specs.Result.{result_ok};
 ghost use Rattle.unix_path.specs.Buffers.{path_bytes};
 ghost use Rattle.unix_path.specs.Joins.{join_of};
-ghost use Rattle.unix_path.specs.Prefixes.{Begins, stripped_of};
+ghost use Rattle.unix_path.specs.Prefixes.{IsPrefixOf, stripped_of};
 ghost use Rattle.unix_path.specs.Parts.{values, SameValues};
 ghost use Rattle.path_runs.specs.EditViews.{edit_value, extension_answer};
 ghost use Rattle.path_runs.specs.EditLists.{edit_of, edits_of, may_allocate};
-ghost use Rattle.path_runs.specs.Known.{IsKnown};
+ghost use Rattle.path_runs.specs.ScanCache.{IsCacheOf};
 
-mod known;
+mod cache;
 mod stems;
 mod step;
 
-use crate::edits::known::Known;
+use crate::edits::cache::ScanCache;
 use crate::edits::step::{add_extension, pop, push, set_extension, set_file_name};
 use std::alloc::{AllocError, Global};
 use std::error::Error;
@@ -23,54 +24,57 @@ use std::fmt;
 use unix_bytes::bytes::UnixStr;
 use unix_path::{ExtensionError, Path, PathBuf};
 
-/// One edit of a path, with the bytes that it holds.
+/// One edit of a path, with the bytes that it needs.
 ///
-/// Each variant stands for the method of `PathBuf` with its name. Two pushes are equal if their
-/// paths are equal, and two other edits of one kind if they hold the same bytes. Copying an edit
-/// copies views and not bytes. Not in Rust's std.
+/// Each variant represents the `PathBuf` method of the same name. Two pushes are equal if their
+/// paths are equal. Two other edits are equal if they are of one kind and have the same bytes.
+/// Copying an edit copies views, not bytes.
 ///
 /// `Edit::Push(path)` joins `path` to the edited path.
 #[derive(Clone, Copy, Debug, PartialEq, Eq)]
 pub enum Edit<'a> {
-    /// Joins a path to the edited one; a rooted path replaces it.
+    /// Joins a path to the edited path. A rooted path replaces the edited path.
     Push(Path<'a>),
-    /// Drops the last part, unless it is the root.
+    /// Removes the last component, unless it is the root.
     Pop,
-    /// Replaces the file name, or joins the name to a path that has none.
+    /// Replaces the file name. If the path has none, joins the name to the path.
     SetFileName(UnixStr<'a>),
-    /// Replaces the extension of the file name, or adds one; the empty one removes it.
+    /// Replaces the extension of the file name, or adds one if there is none. An empty extension
+    /// removes it.
     SetExtension(UnixStr<'a>),
-    /// Puts a dot and the extension behind the file name; the empty one adds nothing.
+    /// Appends a dot and the extension to the file name. An empty extension changes nothing.
     AddExtension(UnixStr<'a>),
-    /// Drops all bytes, which leaves the empty path.
+    /// Removes all bytes, which leaves the empty path.
     Clear,
 }
 
-/// What an edit answers. Not in Rust's std.
+/// The answer of one edit.
 ///
-/// For a pop of `/` it is `Flag(false)`, and for the extension `x/y` it is `Separator`.
+/// The answer of a pop of `/` is `Flag(false)`, and the answer of setting the extension `x/y` is
+/// `Separator`.
 #[derive(Clone, Copy, Debug, PartialEq, Eq)]
 pub enum Answer {
-    /// Nothing: an edit of this kind always takes place.
+    /// Nothing to report: an edit of this kind always takes effect.
     Plain,
-    /// Whether the edit took place.
+    /// True if there was something to edit: a parent for a pop, a file name for an extension. It
+    /// can be true even if the edit changes no byte.
     Flag(bool),
-    /// The extension holds a `/`: the path stays as it was.
+    /// The extension contains a `/`. The path is unchanged.
     Separator,
 }
 
-/// Why a list of edits ended early: an allocation failed. An edit that answers `Separator` does not
-/// end the list. It is printed as `out of memory`, padded by width, precision, fill and alignment.
-/// Not in Rust's std.
+/// The error of [`apply`] when an allocation fails. An edit with the answer `Separator` is no error
+/// and does not end the list. The error is printed as `out of memory`, padded by width, precision,
+/// fill and alignment.
 ///
 /// `ApplyError { done: 1 }` says that the first edit was made, and that the second one failed.
 #[derive(Debug, Drop)]
 pub struct ApplyError {
-    /// How many edits were made before the one that failed.
+    /// The number of edits made before the one that failed.
     pub done: usize,
 }
 
-/// The text `out of memory`, padded by width, precision, fill and alignment. Does not allocate.
+/// Writes `out of memory`, padded by width, precision, fill and alignment.
 impl fmt::Display for ApplyError {
     ghost use Rattle.path_runs.specs.EditErrors.{apply_error_text};
 
@@ -85,21 +89,25 @@ impl fmt::Display for ApplyError {
 
 impl Error for ApplyError {}
 
-// What an edit of the extension answers, unless an allocation failed.
+// Returns the answer of an edit of the extension, or the error if an allocation fails.
 fn extension_answer(edited: Result<bool, ExtensionError>) -> Result<Answer, AllocError>
     ensures { result_ok result ≡ extension_answer edited }
 {
     match edited {
-        Ok(is_made) => Ok(Answer::Flag(is_made)),
+        Ok(had_target) => Ok(Answer::Flag(had_target)),
         Err(ExtensionError::Separator) => Ok(Answer::Separator),
         Err(ExtensionError::Memory(error)) => Err(error),
     }
 }
 
-// Makes one edit of a path of which some is known, and returns its answer.
-fn apply_one(path: &mut PathBuf, known: &mut Known, edit: &Edit<'_>) -> Result<Answer, AllocError>
-    requires { IsKnown (path_bytes path.old) known.old }
-    ensures known { OnOk result (IsKnown (path_bytes path.new) known.new) }
+// Makes one edit of a path, using and updating the cache, and returns its answer.
+fn apply_one(
+    path: &mut PathBuf,
+    cache: &mut ScanCache,
+    edit: &Edit<'_>,
+) -> Result<Answer, AllocError>
+    requires { IsCacheOf (path_bytes path.old) cache.old }
+    ensures cache { OnOk result (IsCacheOf (path_bytes path.new) cache.new) }
     ensures ok { OnOk result
         (path_bytes path.new ≡ (edit_of (path_bytes path.old) (edit_value edit.now)).0) }
     ensures value { IfOk result
@@ -109,40 +117,41 @@ fn apply_one(path: &mut PathBuf, known: &mut Known, edit: &Edit<'_>) -> Result<A
 {
     match edit {
         Edit::Push(other) => {
-            push(path, known, *other)?;
+            push(path, cache, *other)?;
             Ok(Answer::Plain)
         }
-        Edit::Pop => Ok(Answer::Flag(pop(path, known))),
+        Edit::Pop => Ok(Answer::Flag(pop(path, cache))),
         Edit::SetFileName(name) => {
-            set_file_name(path, known, *name)?;
+            set_file_name(path, cache, *name)?;
             Ok(Answer::Plain)
         }
         Edit::SetExtension(extension) => {
-            extension_answer(set_extension(path, known, *extension))
+            extension_answer(set_extension(path, cache, *extension))
         }
         Edit::AddExtension(extension) => {
-            extension_answer(add_extension(path, known, *extension))
+            extension_answer(add_extension(path, cache, *extension))
         }
         Edit::Clear => {
             path.clear();
-            known.clear();
+            cache.clear();
             Ok(Answer::Plain)
         }
     }
 }
 
-/// Makes these edits one after the other, and returns the answer of each.
+/// Makes the edits one after the other, and returns the answer of each.
 ///
-/// Allocates once for all answers, before the first edit; then each edit allocates as the method of
-/// `PathBuf` with its name does, but an extension may leave more room than it needs. An empty list
-/// allocates nothing. If an allocation fails, the path keeps what the edits before it left, and the
-/// error has their number: 0 if the answers could not be allocated. An edit whose extension holds a
-/// `/` does not fail: its answer is `Separator`, it leaves the bytes as they were, and the next
-/// edit is made. The time of a list grows with the bytes of its edits, of the path and of what it
-/// leaves. Not in Rust's std; each edit is the method of Rust's `PathBuf` with its name.
+/// Allocates once for all answers, before the first edit. Then each edit allocates like the
+/// `PathBuf` method of the same name, except that an edit of the extension may leave spare
+/// capacity. An empty list allocates nothing, and succeeds. If an allocation fails, the path is as
+/// the edits before the failing one left it, and the error has the number of these edits: 0 if the
+/// answers could not be allocated, or if the first edit failed. An edit whose extension contains a
+/// `/` does not fail: it leaves the bytes unchanged, its answer is `Separator`, and the next edit
+/// is made. The time of a list is linear in the number of its edits, their bytes, and the bytes of
+/// the path and of the result.
 ///
-/// On `foo/.`, setting the extension `bar` and then two pops leave the empty path, and answer true,
-/// true and false.
+/// On `foo/.`, setting the extension `bar` and then two pops leave the empty path. The answers are
+/// true, true and false.
 pub fn apply(
     alloc: Global,
     path: &mut PathBuf,
@@ -165,9 +174,9 @@ pub fn apply(
         Ok(answers) => answers,
         Err(_) => return Err(ApplyError { done: 0 }),
     };
-    let mut known = Known::new();
+    let mut cache = ScanCache::new();
     for (done, edit) in edits.iter().enumerate() {
-        match apply_one(path, &mut known, edit) {
+        match apply_one(path, &mut cache, edit) {
             Ok(answer) => answers.push_reserved(answer),
             Err(_) => return Err(ApplyError { done }),
         }
@@ -175,23 +184,24 @@ pub fn apply(
     Ok(answers)
 }
 
-/// `base`, joined with what follows it in `path`; `None` if `path` doesn't start with `base`.
+/// Returns `base` joined with what follows it in `path`, or `None` if `path` doesn't start with
+/// `base`.
 ///
-/// The path that is returned is equal to `path`. Allocates once, the length of the answer in bytes;
-/// fails if the allocation fails. For `None` and for an empty answer does not allocate, and
-/// succeeds. Not in Rust's std: there it is a `Path::strip_prefix` and a `Path::join`.
+/// The path returned has the same components as `path`. Makes one allocation, exactly as long as
+/// the result, and fails if the allocation fails. If the result is `None` or empty, does not
+/// allocate, and succeeds. In Rust's std this is a `Path::strip_prefix` and a `Path::join`.
 ///
 /// For `/a//b/.` and `/a/` it is `/a/b`, and for `a` and `a` it is `a/`.
 #[tactic(auto, using(crate::proofs::lemmas::joins::StripLemmas::strip_then_join))]
 pub fn rejoin(alloc: Global, path: Path<'_>, base: Path<'_>) -> Result<Option<PathBuf>, AllocError>
     ensures ok { IfOk result (λ found. IsSome found
-        ↔ Begins (values base.entry.bytes.now) (values path.entry.bytes.now)) }
+        ↔ IsPrefixOf (values base.entry.bytes.now) (values path.entry.bytes.now)) }
     ensures value { IfOk result (λ found. IfSome found
         (λ p. path_bytes p ≡ join_of base.entry.bytes.now
         (stripped_of path.entry.bytes.now base.entry.bytes.now))) }
     ensures same { IfOk result (λ found. IfSome found
         (λ p. SameValues (path_bytes p) path.entry.bytes.now)) }
-    ensures succeeds { ¬ Begins (values base.entry.bytes.now) (values path.entry.bytes.now)
+    ensures succeeds { ¬ IsPrefixOf (values base.entry.bytes.now) (values path.entry.bytes.now)
         → IsOk result }
     ensures succeeds_empty { join_of base.entry.bytes.now
         (stripped_of path.entry.bytes.now base.entry.bytes.now) ≡ [] → IsOk result }

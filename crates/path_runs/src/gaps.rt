@@ -1,13 +1,13 @@
-//! The gaps of a path: its slashes with an empty piece or the piece `.` behind them.
+//! The gaps of a path: each slash that is followed by an empty piece or the piece `.`.
 ghost use Rattle.std.specs.Prelude.{◌≡◌, ℕ, ◌+◌, ◌<◌, ◌≤◌, length, drop, false, slice_index};
 ghost use Rattle.unix_path.specs.Parts.{slash};
 ghost use Rattle.unix_path.specs.Scan.{is_filler};
-ghost use Rattle.path_runs.specs.Gaps.{is_gap, slashed_parts, FirstGap, IsPart};
+ghost use Rattle.path_runs.specs.Gaps.{is_gap, slashed_parts, FirstGap, IsPartStart};
 
 use std::simd::prelude::*;
 use unix_path::filler::is_filler;
 
-// Whether the byte at `at` is a slash, and the piece behind it is empty or `.`.
+// Returns true if the byte at `at` is a slash, and the piece after it is empty or `.`.
 #[inline]
 fn is_gap(bytes: &[u8], at: usize) -> bool
     requires { at < length bytes.now }
@@ -16,10 +16,10 @@ fn is_gap(bytes: &[u8], at: usize) -> bool
     bytes[at] == b'/' && (at + 1 == bytes.len() || is_filler(bytes, at + 1))
 }
 
-// How many of the 16 bytes from `at` on stand before the first gap among them, or 16 if no gap
-// begins there.
+// Returns how many of the 16 bytes at index `at` come before the first gap that begins among them,
+// or 16 if no gap does.
 #[inline]
-fn gapless_in_lanes(bytes: &[u8], at: usize) -> usize
+fn gapless_simd16(bytes: &[u8], at: usize) -> usize
     requires { at + 18 ≤ length bytes.now }
     ensures in_range { result ≤ 16 }
     ensures none_before { ((i : ℕ) → i < at → is_gap bytes.now i ≡ false)
@@ -38,8 +38,8 @@ fn gapless_in_lanes(bytes: &[u8], at: usize) -> usize
     }
 }
 
-// The place of the first gap, or of the last two bytes if no gap begins before these. It is 0 for
-// fewer than 18 bytes.
+// Returns the length of a prefix in which no gap begins: the bytes before the first gap, or all
+// bytes except the last two if no gap begins before those two. Returns 0 for fewer than 18 bytes.
 #[inline]
 fn gapless_len(bytes: &[u8]) -> usize
     ensures in_range { result ≤ length bytes.now }
@@ -51,17 +51,17 @@ fn gapless_len(bytes: &[u8]) -> usize
     let last = bytes.len() - 18;
     let mut at = 0;
     while at < last {
-        let len = gapless_in_lanes(bytes, at);
+        let len = gapless_simd16(bytes, at);
         if len < 16 {
             return at + len;
         }
         at += 16;
     }
-    last + gapless_in_lanes(bytes, last)
+    last + gapless_simd16(bytes, last)
 }
 
-// The place of the first gap, or the length if there is none. The bytes are searched 16 at a time,
-// and one by one from the place where that search ends.
+// Returns the index of the first gap, or the length if there is none. Searches 16 bytes at a time,
+// and where that search ends, continues byte by byte.
 #[inline]
 pub(crate) fn first_gap(bytes: &[u8]) -> usize
     ensures { FirstGap bytes.now result }
@@ -73,14 +73,14 @@ pub(crate) fn first_gap(bytes: &[u8]) -> usize
     at
 }
 
-// The place of the next part behind the gap at `gap`, or the length if no part follows.
+// Returns the index of the next component after the gap at `gap`, or the length if none follows.
 #[inline]
-pub(crate) fn past_gap(bytes: &[u8], gap: usize) -> usize
+pub(crate) fn after_gap(bytes: &[u8], gap: usize) -> usize
     requires in_range { gap ≤ length bytes.now }
     requires gap { gap < length bytes.now → slice_index bytes.now gap ≡ slash }
     ensures forward { gap ≤ result }
     ensures in_range { result ≤ length bytes.now }
-    ensures part { result < length bytes.now → IsPart bytes.now result }
+    ensures part { result < length bytes.now → IsPartStart bytes.now result }
     ensures same { slashed_parts (drop gap bytes.now) ≡ slashed_parts (drop result bytes.now) }
 {
     let mut at = gap;

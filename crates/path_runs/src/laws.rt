@@ -1,4 +1,4 @@
-//! Laws of paths: facts about the definitions alone, which a proof gets by calling them.
+//! Laws of paths: facts about the definitions, each available to a proof that calls it.
 mod edits;
 mod hashes;
 mod joins;
@@ -9,10 +9,10 @@ mod spelling;
 mod tables;
 
 pub use edits::{edits_congruent, extension_set, push_then_pop};
-pub use hashes::hash_inputs_tell;
+pub use hashes::hash_input_injective;
 pub use joins::{join_associative, join_starts_with, join_values, strip_then_join};
 pub use order::{
-    base_before_under, order_behind_prefix, order_total, prefix_both_ways, under_is_interval,
+    base_before_under, descendants_contiguous, order_after_prefix, order_total, prefix_both_ways,
 };
 pub use parts::{no_part_no_byte, parts_fit, rest_reads_again};
 pub use queries::{ancestors_step, name_rejoined, parent_before, queries_congruent};

@@ -1,4 +1,4 @@
-//! A walk over a path's parts by a list of turns.
+//! A walk over a path's components by a list of turns.
 ghost use Rattle.std.specs.Prelude.{◌≡◌, ◌++◌, [], IfOk, OnOk, IsOk, length, map, reverse, take};
 ghost use Rattle.std.specs.Prelude.{None};
 ghost use Rattle.std.specs.Option.{option_to_list};
@@ -10,31 +10,33 @@ ghost use Rattle.path_runs.specs.Turns.{back_turns, front_turns};
 use std::alloc::{AllocError, Global};
 use unix_path::{Component, Path};
 
-/// The end of a path at which the next part is taken. Not in Rust's std.
+/// The end of a path from which the next component is taken.
 ///
 /// `Turn::Front` takes `a` from `a/b`, and `Turn::Back` takes `b`.
 #[derive(Clone, Copy, Debug, PartialEq, Eq)]
 pub enum Turn {
-    /// The first part that is left, as `Components::next` takes it.
+    /// Takes the first component of the rest, like `Components::next`.
     Front,
-    /// The last part that is left, as `Components::next_back` takes it.
+    /// Takes the last component of the rest, like `Components::next_back`.
     Back,
 }
 
-/// What a walk took from each end of a path, and what it left between. Not in Rust's std.
+/// The components that a walk has taken from each end of a path, and the rest between them.
 ///
 /// For `a/b/c` and the turns front and back, `front` is `a`, `rest` is `b` and `behind` is `c`.
 #[derive(Debug, Drop)]
 pub struct Walked<'a> {
-    /// The parts taken in front, in the order of the path.
+    /// The components taken from the front, in the order of the path.
     pub front: Vec<Component<'a>>,
-    /// The bytes between, as a slice of the path: from the first part left to the end of the last.
+    /// The rest of the path, as a slice of it: from the first component that was not taken to the
+    /// end of the last.
     pub rest: Path<'a>,
-    /// The parts taken behind, in the order of taking: the path's last part first.
+    /// The components taken from the back, in the order taken: the path's last component comes
+    /// first.
     pub behind: Vec<Component<'a>>,
 }
 
-// Appends the part to the list, if there is one.
+// Appends the component to the list, if there is one.
 #[inline]
 fn push_some<'a>(
     list: &mut Vec<Component<'a>>,
@@ -49,16 +51,17 @@ fn push_some<'a>(
     Ok(())
 }
 
-/// The parts that these turns take from the two ends of a path, and what they leave between.
+/// Takes a component from one end of the path for each turn, and returns the components taken from
+/// each end and the rest between them.
 ///
-/// Each turn takes one part, or nothing if none is left. The parts in front, those of the rest, and
-/// those behind in reverse are the path's parts. The rest is a slice of the path. Allocates as the
-/// two lists of parts grow; fails if an allocation fails, and then the lists are dropped. Without
-/// turns, or for the empty path, does not allocate, and succeeds. Not in Rust's std; each turn is a
-/// `next` or `next_back` of Rust's `Components`.
+/// A turn takes nothing if no component remains. The components of `front`, of `rest`, and of
+/// `behind` in reverse order are the components of the path. The rest is a slice of the path.
+/// Allocates as the two lists grow. Fails if an allocation fails, and then drops both lists.
+/// Without turns, or for the empty path, does not allocate, and succeeds. Each turn is a `next` or
+/// `next_back` of Rust's `Components`.
 ///
-/// For `/a/./b/../c` and the turns front, back, front, back it takes `/` and `a` in front, leaves
-/// `b`, and takes `c` and `..` behind. With no turn it leaves `foo` of `foo/`.
+/// For `/a/./b/../c` and the turns front, back, front, back, `front` is `/` and `a`, `rest` is `b`,
+/// and `behind` is `c` and `..`. For `foo/` and no turns, `rest` is `foo`.
 pub fn walk<'a>(alloc: Global, path: Path<'a>, turns: &[Turn]) -> Result<Walked<'a>, AllocError>
     ensures front { let all = values path.entry.bytes.now in
         IfOk result (λ w. map value_of w.front.items ≡
@@ -75,18 +78,18 @@ pub fn walk<'a>(alloc: Global, path: Path<'a>, turns: &[Turn]) -> Result<Walked<
     ensures succeeds { turns.now ≡ [] → IsOk result }
     ensures succeeds_empty { path.entry.bytes.now ≡ [] → IsOk result }
 {
-    let mut left = path.components();
+    let mut remaining = path.components();
     let mut front = Vec::new(alloc);
     let mut behind = Vec::new(alloc);
     for turn in turns {
         match turn {
-            Turn::Front => push_some(&mut front, left.next())?,
-            Turn::Back => push_some(&mut behind, left.next_back())?,
+            Turn::Front => push_some(&mut front, remaining.next())?,
+            Turn::Back => push_some(&mut behind, remaining.next_back())?,
         }
     }
     Ok(Walked {
         front,
-        rest: left.as_path(),
+        rest: remaining.as_path(),
         behind,
     })
 }

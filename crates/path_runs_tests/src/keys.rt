@@ -2,12 +2,12 @@
 mod short_pairs;
 mod written;
 
-use path_keys::{KeyError, PathKey};
+use path_keys::{KeyError, PathKey, key_name, key_parent};
 use std::alloc::{AllocError, Global};
 use std::test::Fail;
 use unix_path::Path;
 
-// A path, its key's range, the key of its parent, and its name in the key.
+// A path, the start and the end of its key's range, the key of its parent, and its name in the key.
 type Parts = (
     &'static str,
     &'static [u8],
@@ -51,7 +51,7 @@ static PARTS: [Parts; 8] = [
     ),
 ];
 
-// Whether the range, the parent and the name of the path's key are those of the row.
+// Returns true if the range, the parent and the name of the path's key are those in the row.
 fn has_key_parts(alloc: Global, row: &Parts) -> Result<bool, AllocError> {
     let key = PathKey::from_path(alloc, Path::from_text(row.0))?;
     let range = key.range_under()?;
@@ -70,7 +70,7 @@ fn ranges_parents_and_names(rt: HostRuntime) -> Result<(), Fail> {
     Ok(())
 }
 
-// Whether a key takes another path's place in the room that it has, and shows its bytes.
+// Returns true if a key can be set to another path's key within its capacity, and has its bytes.
 fn is_reused(alloc: Global) -> Result<bool, AllocError> {
     let mut key = PathKey::new(alloc);
     let is_empty = key.as_bytes().is_empty() && key.as_vec().is_empty();
@@ -88,6 +88,42 @@ fn is_reused(alloc: Global) -> Result<bool, AllocError> {
 #[test]
 fn a_key_is_reused(rt: HostRuntime) -> Result<(), Fail> {
     assert!(rt; is_reused(rt.alloc())?);
+    Ok(())
+}
+
+// Byte strings that are not keys.
+static NO_KEYS: [&'static [u8]; 7] = [
+    b"\x61",
+    b"\x00",
+    b"\x00\x04",
+    b"\x61\x00\x00\x01",
+    b"\x61\x00\x00\x04",
+    b"\x61\x00\x62",
+    b"\x00\x03\x2F\x00",
+];
+
+// Returns true if the bytes are refused as a key, and have no parent and no name.
+fn is_refused(alloc: Global, bytes: &[u8]) -> bool {
+    let is_no_key = match PathKey::from_bytes(alloc, bytes) {
+        Err(KeyError::NotAKey) => true,
+        _ => false,
+    };
+    is_no_key && key_parent(bytes).is_none() && key_name(bytes).is_none()
+}
+
+#[test]
+fn keys_are_made_from_their_bytes(rt: HostRuntime) -> Result<(), Fail> {
+    for row in PARTS.iter() {
+        let made = PathKey::from_bytes(rt.alloc(), row.1)?;
+        assert!(rt;
+            made == PathKey::from_path(rt.alloc(), Path::from_text(row.0))?,
+            "{}",
+            row.0
+        );
+    }
+    for bytes in NO_KEYS.iter() {
+        assert!(rt; is_refused(rt.alloc(), bytes), "{bytes:?}");
+    }
     Ok(())
 }
 

@@ -1,4 +1,4 @@
-//! Callers of walks and laws, edits, pairs of paths, and what only owned paths and texts answer.
+//! Callers of walks, laws and edits, pairs of paths, and what only owned paths and texts return.
 ghost use Rattle.std.specs.Prelude.{◌≡◌, is_some};
 ghost use Rattle.unix_path.specs.Names.{name_of};
 ghost use Rattle.unix_path.specs.Views.{value_of};
@@ -17,14 +17,14 @@ mod texts;
 use std::alloc::AllocError;
 use unix_path::Component;
 
-// Whether the component is a name.
+// Returns true if the component is a name.
 fn is_name(part: Component<'_>) -> bool
     ensures { result ≡ is_some (name_of (value_of part.entry)) }
 {
     matches!(part, Component::Normal(_))
 }
 
-// Whether a list was made, and is this one.
+// Returns true if a list was created and is this list.
 fn is_list<T: PartialEq + Drop>(list: Result<Vec<T>, AllocError>, want: &[T]) -> bool {
     match list {
         Ok(list) => list.as_slice() == want,

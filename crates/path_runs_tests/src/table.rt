@@ -1,13 +1,13 @@
-//! What a table answers as a map does, its callers, and a table beside a list.
-mod beside_list;
+//! Methods that a table has like any map, callers of tables, and a table compared with a list.
 mod callers;
+mod vs_list;
 
 use path_table::PathTable;
 use std::alloc::{AllocError, Global};
 use std::test::Fail;
 use unix_path::PathBuf;
 
-fn table_of(alloc: Global, paths: &[&str]) -> Result<PathTable<u32>, AllocError> {
+fn table_from(alloc: Global, paths: &[&str]) -> Result<PathTable<u32>, AllocError> {
     let mut table = PathTable::new(alloc);
     let mut value = 0u32;
     for path in paths {
@@ -36,13 +36,13 @@ fn write(
     Ok(())
 }
 
-// Whether the table's debug text is this.
-fn is_shown(alloc: Global, table: &PathTable<u32>, text: &str) -> Result<bool, AllocError> {
+// Returns true if this is the table's debug text.
+fn has_debug_text(alloc: Global, table: &PathTable<u32>, text: &str) -> Result<bool, AllocError> {
     let shown = format!(in alloc; "{table:?}")?;
     Ok(shown.as_str() == text)
 }
 
-// Whether these are the table's values, in path order.
+// Returns true if these are the table's values, in path order.
 fn has_values(alloc: Global, table: &PathTable<u32>, want: &[u32]) -> Result<bool, AllocError> {
     let mut values = Vec::new(alloc);
     for (_, value) in table.iter() {
@@ -51,13 +51,14 @@ fn has_values(alloc: Global, table: &PathTable<u32>, want: &[u32]) -> Result<boo
     Ok(values.as_slice() == want)
 }
 
-// Whether the table, of `a.b` and `a//b`, knows what it contains, and is empty once it is cleared.
-fn answers_as_a_map(alloc: Global, table: &mut PathTable<u32>) -> Result<bool, AllocError> {
+// Returns true if the table, with `a.b` and `a//b`, contains what it should, and is empty once it
+// is cleared.
+fn behaves_as_map(alloc: Global, table: &mut PathTable<u32>) -> Result<bool, AllocError> {
     if !contains(alloc, table, "a/b/")? || contains(alloc, table, "a")? {
         return Ok(false);
     }
     write(alloc, table, "a/b/", 7)?;
-    let is_written = is_shown(alloc, table, r#"{"a//b": 7, "a.b": 1}"#)?
+    let is_written = has_debug_text(alloc, table, r#"{"a//b": 7, "a.b": 1}"#)?
         && has_values(alloc, table, [7, 1].as_slice())?
         && !table.is_empty();
     table.clear();
@@ -67,7 +68,7 @@ fn answers_as_a_map(alloc: Global, table: &mut PathTable<u32>) -> Result<bool, A
 #[test]
 fn what_else_a_map_answers(rt: HostRuntime) -> Result<(), Fail> {
     let alloc = rt.alloc();
-    let mut table = table_of(alloc, &["a.b", "a//b"])?;
-    assert!(rt; answers_as_a_map(alloc, &mut table)?);
+    let mut table = table_from(alloc, &["a.b", "a//b"])?;
+    assert!(rt; behaves_as_map(alloc, &mut table)?);
     Ok(())
 }

@@ -1,8 +1,6 @@
-pub mod BeginLemmas
 pub mod RowLemmas
 pub mod UnderLemmas
 pub mod StripLemmas
 pub mod RangeLemmas
 pub mod NextLemmas
-pub mod UpdateLemmas
 pub mod RestsLemmas

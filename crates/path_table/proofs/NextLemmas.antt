@@ -1,4 +1,4 @@
--- A call of `next` leaves rows that ascend and are not before the base.
+-- After a call of `next` the remaining rows are strictly increasing, and none is before the base.
 use Rattle.std.proofs.Common.{◌≡◌, ◌∷◌, ◌∙◌, ◌<◌, [], List, true, Option, Some, None}
 use Rattle.std.proofs.Common.{ap, sym, subst, length, arith}
 use Rattle.std.proofs.lemmas.List.Elements.{All-nil, All-head, All-rest}
@@ -6,19 +6,19 @@ use Rattle.std.proofs.lemmas.Map.Keys.{sorted_tail}
 use Rattle.std.specs.Borrow.{Bor}
 use Rattle.std.specs.List.Sorted.{IsStrictlySortedBy}
 use Rattle.std.specs.Ordering.{is_le}
-use Rattle.unix_bytes.specs.Begins.{Begins}
+use Rattle.unix_bytes.specs.IsPrefixOf.{IsPrefixOf}
 use Rattle.std.specs.Map.Iter.{TakesFirst, deref_pair}
 use Rattle.unix_path.specs.Buffers.{path_bytes}
 use Rattle.unix_path.specs.Order.{values_cmp}
 use Rattle.unix_path.specs.Parts.{Value, values}
 use Rattle.unix_path.specs.declared.buf.PathBuf.{PathBuf}
 use Rattle.path_runs.specs.TableLaws.{rows_of}
-use Rattle.path_runs.specs.OrderLaws.{UnderIsInterval}
+use Rattle.path_runs.specs.OrderLaws.{DescendantsContiguous}
 use Rattle.path_table.specs.Table.{NoneBefore, entries_under, paths_of}
 use Rattle.path_table.proofs.UnderLemmas.{none_under, skip_under}
 
 module _ {V : Type 0} (old new : List (PathBuf × V)) where
-  -- paths that ascend still do after a call of `next`
+  -- paths that are strictly increasing still are after a call of `next`
   pub next_ordered : (r : Option (Bor PathBuf × Bor V)) → TakesFirst deref_pair old r new
       → IsStrictlySortedBy values_cmp (paths_of old) → IsStrictlySortedBy values_cmp (paths_of new)
   unfolding IsStrictlySortedBy
@@ -38,14 +38,14 @@ module _ {V : Type 0} (old new : List (PathBuf × V)) where
       All-rest (λ v. is_le (values_cmp base v) ≡ true) (values (path_bytes e.0.now))
       (paths_of new) (paths_of old) (ap paths_of some) from
 
-  -- if the first of the paths that are left isn't under base, none is, before the call of `next`
-  -- and after
-  pub none_left : UnderIsInterval → (base : List Value) (e : PathBuf × V) → old ≡ e ∷ new
+  -- if the first remaining path isn't under base, no remaining path is, before and after the call
+  -- of `next`
+  pub none_remaining : DescendantsContiguous → (base : List Value) (e : PathBuf × V) → old ≡ e ∷ new
       → IsStrictlySortedBy values_cmp (paths_of old) → NoneBefore base (paths_of old)
-      → (Begins base (values (path_bytes e.0)) → ⊥)
+      → (IsPrefixOf base (values (path_bytes e.0)) → ⊥)
       → (entries_under base (rows_of path_bytes old) ≡ [])
       × (entries_under base (rows_of path_bytes new) ≡ [])
-  none_left interval base e next sorted from apart =
+  none_remaining interval base e next sorted from apart =
       let row : List Value × V = (values (path_bytes e.0), e.1) in
       let rows = rows_of path_bytes new in
       let paths = ap paths_of next in
@@ -58,6 +58,6 @@ module _ {V : Type 0} (old new : List (PathBuf × V)) where
         none,
       )
 
--- behind the first of a list there is one item fewer
+-- a list without its first item is shorter
 pub one_fewer : {A : Type 0} (x : A) (old new : List A) → old ≡ x ∷ new → length new < length old
 one_fewer x old new next = rw next (omega arith)

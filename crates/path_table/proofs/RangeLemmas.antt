@@ -1,4 +1,5 @@
--- The rows of the range of a table that is not before a base.
+-- The rows of a table that are not before a base: they are the rows of the map's range that starts
+-- at the base.
 use Rattle.std.proofs.Common.{◌≡◌, ◌∙◌, ◌≤◌, List, Bool, sym, ap, subst, length}
 use Rattle.std.proofs.Common.{arith}
 use Rattle.std.proofs.lemmas.List.{length-map}
@@ -15,7 +16,8 @@ use Rattle.unix_path.specs.Parts.{Value, values}
 use Rattle.unix_path.specs.declared.buf.PathBuf.{PathBuf}
 use Rattle.path_runs.specs.OrderLaws.{BaseBeforeUnder}
 use Rattle.path_runs.specs.TableLaws.{rows_of}
-use Rattle.path_table.specs.Table.{NoneBefore, entries_under, is_under, paths_of, row_under}
+use Rattle.path_runs.specs.Rows.{is_under}
+use Rattle.path_table.specs.Table.{NoneBefore, entries_under, paths_of, row_after_base}
 use Rattle.path_table.proofs.RowLemmas.{sorted-rows_of, rows_of-filter, keys_of-filter}
 use Rattle.path_table.proofs.UnderLemmas.{from_base, under_from_base}
 
@@ -26,14 +28,14 @@ module _ {V : Type 0} (base : List Value) (entries range : List (PathBuf × V))
   rows_are =
       ap (rows_of path_bytes) is ∙ rows_of-filter (λ v. is_le (values_cmp base v)) entries
 
-  -- the values of the range's paths are those that are not before base
+  -- the components of the range's paths are those that are not before base
   keys_are : keys_of (rows_of path_bytes range)
       ≡ filter (λ v. is_le (values_cmp base v)) (keys_of (rows_of path_bytes entries))
   keys_are =
       ap keys_of rows_are
       ∙ keys_of-filter (λ v. is_le (values_cmp base v)) (rows_of path_bytes entries)
 
-  -- the range's paths ascend
+  -- the range's paths are strictly increasing
   pub range_ordered : IsStrictlySortedBy (on (λ p. values (path_bytes p)) values_cmp)
       (keys_of entries) → IsStrictlySortedBy values_cmp (paths_of range)
   range_ordered sorted =
@@ -47,7 +49,7 @@ module _ {V : Type 0} (base : List Value) (entries range : List (PathBuf × V))
       subst (NoneBefore base) (sym keys_are)
       (filter_passes (λ v. is_le (values_cmp base v)) _)
 
-  -- what is under base in the range is all that is under it
+  -- the rows under base in the range are all rows under base
   pub range_under : BaseBeforeUnder
       → entries_under base (rows_of path_bytes range)
       ≡ entries_under base (rows_of path_bytes entries)
@@ -55,14 +57,14 @@ module _ {V : Type 0} (base : List Value) (entries range : List (PathBuf × V))
       ap (entries_under base) rows_are
       ∙ under_from_base base before (rows_of path_bytes entries)
 
--- no more of the files are under a base than there are
+-- there are no more entries under a base than entries
 pub fewer_under : {V : Type 0} (base : List Value) (range : List (PathBuf × V))
     → length (entries_under base (rows_of path_bytes range)) ≤ length range
 fewer_under {V} base range =
     let rows : List (List Value × V) = rows_of path_bytes range in
     let test : List Value × V → Bool = λ row. is_under base row.0 in
     let kept : length (entries_under base rows) ≡ count_by test rows =
-    length-map (filter test rows) (row_under base) ∙ length-filter test rows in
+    length-map (filter test rows) (row_after_base base) ∙ length-filter test rows in
     let all : length rows ≡ length range =
     length-map range (λ e. (values (path_bytes e.0), e.1)) in
     omega (arith, kept, all, count_by-le-length test rows)

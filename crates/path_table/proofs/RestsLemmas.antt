@@ -1,10 +1,10 @@
--- The rests of the files under a base, as bytes of their paths.
+-- The rests of the paths under a base, as bytes of these paths.
 use Rattle.std.proofs.Common.{◌≡◌, ◌∷◌, [], ◌∙◌, ℕ, List, Bool, true, false, cond, true≢false, map}
 use Rattle.std.proofs.Common.{length, refl, suc, sym, ap}
 use Rattle.std.proofs.lemmas.List.{nil_from_length}
 use Rattle.std.specs.List.{filter}
 use Rattle.std.specs.Ordering.{is_le}
-use Rattle.unix_bytes.specs.Begins.{Begins}
+use Rattle.unix_bytes.specs.IsPrefixOf.{IsPrefixOf}
 use Rattle.unix_path.specs.Buffers.{path_bytes}
 use Rattle.unix_path.specs.Order.{values_cmp}
 use Rattle.unix_path.specs.Parts.{Value, values}
@@ -12,10 +12,11 @@ use Rattle.unix_path.specs.Prefixes.{stripped_of}
 use Rattle.unix_path.specs.declared.buf.PathBuf.{PathBuf}
 use Rattle.path_runs.specs.OrderLaws.{BaseBeforeUnder}
 use Rattle.path_runs.specs.TableLaws.{rows_of}
-use Rattle.path_table.specs.Table.{entries_under, is_under, rests_under, row_under}
-use Rattle.path_table.proofs.BeginLemmas.{begins_from_under, under_from_begins}
+use Rattle.path_runs.specs.Rows.{is_under}
+use Rattle.path_table.specs.Table.{entries_under, rests_under, row_after_base}
+use Rattle.path_runs.proofs.lemmas.rows.UnderLemmas.{begins_from_under, under_from_begins}
 
--- what passes a test still passes it where those were kept that pass a weaker one
+-- filtering by a weaker test first doesn't change what passes the test
 module _ {X : Type 0} (test weaker : X → Bool)
     (implies : (x : X) → test x ≡ true → weaker x ≡ true) where
   filter_first : (x : X) (xs : List X) (p q : Bool) → test x ≡ p → weaker x ≡ q
@@ -35,7 +36,7 @@ module _ {X : Type 0} (test weaker : X → Bool)
       filter_first x xs (test x) (weaker x) refl refl (filter_filter xs)
 
 module _ {V : Type 0} (base : List ℕ) where
-  -- what follows base in the path of the entry, with what stands there
+  -- the rest of the entry's path after base, with the value
   abbrev rest_of : PathBuf × V → List ℕ × V
   rest_of e = (stripped_of (path_bytes e.0) base, e.1)
 
@@ -43,7 +44,8 @@ module _ {V : Type 0} (base : List ℕ) where
   abbrev is_entry_under : PathBuf × V → Bool
   is_entry_under e = is_under (values base) (values (path_bytes e.0))
 
-  -- the rests of a range from base on are all rests under it
+  -- if a range has all entries that are not before base, its rests under base are all rests under
+  -- base
   pub rests_from_base : BaseBeforeUnder → (entries range : List (PathBuf × V))
       → range ≡ filter (λ e. is_le (values_cmp (values base) (values (path_bytes e.0)))) entries
       → rests_under base range ≡ rests_under base entries
@@ -55,9 +57,9 @@ module _ {V : Type 0} (base : List ℕ) where
       (λ e is. before (values base) (values (path_bytes e.0))
       (begins_from_under (values base) (values (path_bytes e.0)) is)) entries)
 
-  -- an entry under base is the first of those under it
+  -- the rest of a first entry under base is the first rest
   pub first_rest : (e : PathBuf × V) (entries : List (PathBuf × V))
-      → Begins (values base) (values (path_bytes e.0))
+      → IsPrefixOf (values base) (values (path_bytes e.0))
       → rests_under base (e ∷ entries)
       ≡ rest_of e ∷ rests_under base entries
   first_rest e entries begins =
@@ -65,7 +67,7 @@ module _ {V : Type 0} (base : List ℕ) where
       (cond b (e ∷ filter is_entry_under entries) (filter is_entry_under entries)))
       (under_from_begins (values base) (values (path_bytes e.0)) begins)
 
-  -- there are as many rests under base as rows
+  -- there are as many rests under base as rows under base
   as_many : (entries : List (PathBuf × V))
       → length (rests_under base entries)
       ≡ length (entries_under (values base) (rows_of path_bytes entries))
@@ -77,7 +79,7 @@ module _ {V : Type 0} (base : List ℕ) where
       (rows_of path_bytes entries) in
       elim (is_entry_under e) as (λ b.
       length (map rest_of (cond b (e ∷ rests) rests))
-      ≡ length (map (row_under (values base)) (cond b (row ∷ rows) rows))) [
+      ≡ length (map (row_after_base (values base)) (cond b (row ∷ rows) rows))) [
         | true ↦ ap (λ n. suc n) (as_many entries)
         | false ↦ as_many entries
       ]

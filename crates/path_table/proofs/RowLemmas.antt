@@ -1,4 +1,5 @@
--- The rows of a table ascend, and a test of values keeps the rows of those entries that it keeps.
+-- The rows of a table are strictly increasing, and filtering them by components filters the entries
+-- in the same way.
 use Rattle.std.proofs.Common.{◌≡◌, ◌∷◌, [], List, Bool, true, false, cond, refl, ap, Less}
 use Rattle.std.specs.List.{AllByRecursion, filter}
 use Rattle.std.specs.List.Sorted.{IsStrictlySortedBy}
@@ -13,22 +14,22 @@ use Rattle.path_runs.specs.TableLaws.{rows_of}
 
 module _ {V : Type 0} where
   -- if paths are greater than v, so are their rows
-  ascend_behind : (v : List Value) (entries : List (PathBuf × V))
+  rows_greater : (v : List Value) (entries : List (PathBuf × V))
       → AllByRecursion (λ p. values_cmp v (values (path_bytes p)) ≡ Less) (keys_of entries)
       → AllByRecursion (λ w. values_cmp v w ≡ Less) (keys_of (rows_of path_bytes entries))
-  ascend_behind v [] behind = tt
-  ascend_behind v (e ∷ entries) behind = (behind.0, ascend_behind v entries behind.1)
+  rows_greater v [] greater = tt
+  rows_greater v (e ∷ entries) greater = (greater.0, rows_greater v entries greater.1)
 
-  -- if paths ascend, so do their rows
+  -- if paths are strictly increasing, so are their rows
   pub sorted-rows_of : (entries : List (PathBuf × V))
       → IsStrictlySortedBy (on (λ p. values (path_bytes p)) values_cmp) (keys_of entries)
       → IsStrictlySortedBy values_cmp (keys_of (rows_of path_bytes entries))
   unfolding IsStrictlySortedBy
   sorted-rows_of [] sorted = tt
   sorted-rows_of (e ∷ entries) sorted =
-      (ascend_behind (values (path_bytes e.0)) entries sorted.0, sorted-rows_of entries sorted.1)
+      (rows_greater (values (path_bytes e.0)) entries sorted.0, sorted-rows_of entries sorted.1)
 
-  -- the rows of the entries that pass a test of their values are the rows that pass it
+  -- the rows of the entries whose components pass a test are the rows whose components pass it
   pub rows_of-filter : (test : List Value → Bool) (entries : List (PathBuf × V))
       → rows_of path_bytes (filter (λ e. test (values (path_bytes e.0))) entries)
       ≡ filter (λ row. test row.0) (rows_of path_bytes entries)
@@ -43,7 +44,7 @@ module _ {V : Type 0} where
         | false ↦ rows_of-filter test entries
       ]
 
-  -- the values of the rows that pass a test are the rows' values that pass it
+  -- the components of the rows that pass a test are the rows' components that pass it
   pub keys_of-filter : (test : List Value → Bool) (rows : List (List Value × V))
       → keys_of (filter (λ row. test row.0) rows) ≡ filter test (keys_of rows)
   keys_of-filter test [] = refl
@@ -56,7 +57,7 @@ module _ {V : Type 0} where
         | false ↦ keys_of-filter test rows
       ]
 
-  -- a value written by a path is written by its values
+  -- setting the value at a path sets it at the path's components
   pub rows_of-set_value : (v : List Value) (entries : List (PathBuf × V)) (x : V)
       → rows_of path_bytes
       (set_value (is_at (λ p. values_cmp v (values (path_bytes p)))) entries x)

@@ -1,16 +1,17 @@
--- The values of a path without its base.
+-- The components of a path without its base.
 use Rattle.std.proofs.Common.{◌≡◌, ◌∙◌, ℕ, ◌+◌, ◌-◌, ◌≤◌, List, drop, length, length-drop, arith}
 use Rattle.std.proofs.lemmas.List.{take_all}
 use Rattle.unix_path.specs.Parts.{values}
 use Rattle.unix_path.specs.Prefixes.{stripped_of}
 use Rattle.path_runs.specs.PartLaws.{RestHasValues}
 
--- a path without its base has the path's values but for as many in front as the base has
+-- a path without its base has the path's components except the first n, where n is the number of
+-- the base's components
 pub values-stripped_of : RestHasValues → (s base : List ℕ)
     → values (stripped_of s base) ≡ drop (length (values base)) (values s)
 values-stripped_of again s base =
     let n = length (values base) in
-    let left = drop n (values s) in
-    let fits : length left ≤ length (values s) - (n + 0) =
+    let rest = drop n (values s) in
+    let fits : length rest ≤ length (values s) - (n + 0) =
     rw (length-drop n (values s)) (omega arith) in
-    again s n 0 ∙ take_all _ left fits
+    again s n 0 ∙ take_all _ rest fits

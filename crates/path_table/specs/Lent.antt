@@ -1,4 +1,4 @@
--- What becomes of a table once the borrow of one of its values ends. Not in Rust's std.
+-- What a table becomes when the borrow of one of its values ends.
 use Rattle.std.specs.Prelude.{◌≡◌, List, Option}
 use Rattle.std.specs.Borrow.{Fml, LendsSo, MutBor, RattleType}
 use Rattle.std.specs.BTreeMap.{is_at}
@@ -9,11 +9,11 @@ use Rattle.path_table.specs.Table.{key_bytes, table_of}
 use Rattle.path_table.specs.contracts.table.PathTable.{the_row}
 use Rattle.path_table.specs.declared.table.PathTable.{PathTable}
 
--- the table behind s then has the last value behind r in the row at v, and its paths as they were
--- spelled; if r is `None`, it is as it was
-abbrev pub lends_value : (V : RattleType) → MutBor (PathTable V.Denot) → List Value
+-- when the borrow r of the value at v ends, the table s has the last value of r in that row, and
+-- the bytes of its keys are unchanged; if r is `None`, the table is unchanged
+abbrev pub lends_table_value : (V : RattleType) → MutBor (PathTable V.Denot) → List Value
     → Option (MutBor V.Denot) → Fml
-lends_value V s v r = LendsSo (the_row V) V s r
+lends_table_value V s v r = LendsSo (the_row V) V s r
     (λ t x. (table_of t ≡ set_value (is_at (values_cmp v)) (table_of s.now) x)
     × (key_bytes t ≡ key_bytes s.now))
     (λ t. (table_of t ≡ table_of s.now) × (key_bytes t ≡ key_bytes s.now))

@@ -1,4 +1,4 @@
--- What a walk over the files under a base has still to give. Not in Rust's std.
+-- What a walk over the entries under a base has not yielded yet.
 use Rattle.std.specs.Prelude.{ℕ, List, Option}
 use Rattle.std.specs.Borrow.{Bor}
 use Rattle.std.specs.Iterator.{YieldsFirstBy}
@@ -6,19 +6,20 @@ use Rattle.unix_path.specs.Buffers.{path_bytes}
 use Rattle.unix_path.specs.Parts.{Value, values}
 use Rattle.path_runs.specs.TableLaws.{rows_of}
 use Rattle.unix_path.specs.declared.path.Path.{Path}
-use Rattle.path_table.specs.Table.{answer_rest, answer_row, entries_under, rests_under}
+use Rattle.path_table.specs.Table.{item_rest, item_row, entries_under, rests_under}
 use Rattle.path_table.specs.declared.table.under.Under.{Under}
 
--- the rows of the files that are left and stand under the base, without the base's values
-abbrev pub under_left : {V : Type 0} → Under V → List (List Value × V)
-under_left walk = entries_under (values walk.base.bytes.now) (rows_of path_bytes walk.files)
+-- the remaining rows under the base, each without the components of the base
+abbrev pub remaining_rows : {V : Type 0} → Under V → List (List Value × V)
+remaining_rows walk = entries_under (values walk.base.bytes.now) (rows_of path_bytes walk.inner)
 
--- what follows the base in the paths of these files, with what stands there
-abbrev pub rests_left : {V : Type 0} → Under V → List (List ℕ × V)
-rests_left walk = rests_under walk.base.bytes.now walk.files
+-- for each remaining path under the base, the bytes of its rest after the base, with its value
+abbrev pub remaining_rests : {V : Type 0} → Under V → List (List ℕ × V)
+remaining_rests walk = rests_under walk.base.bytes.now walk.inner
 
--- a call gives the first row that is left, as the bytes of its rest
-pub record GivesUnder {V : Type 0} (old : Under V) (item : Option (Path × Bor V)) (new : Under V)
+-- a call of `next` yields the first remaining row, as an item whose path has the bytes of the first
+-- remaining rest
+pub record YieldsUnder {V : Type 0} (old : Under V) (item : Option (Path × Bor V)) (new : Under V)
     : Type 0 where
-  pub row_is : YieldsFirstBy answer_row under_left old item new
-  pub rest_is : YieldsFirstBy answer_rest rests_left old item new
+  pub row_is : YieldsFirstBy item_row remaining_rows old item new
+  pub rest_is : YieldsFirstBy item_rest remaining_rests old item new

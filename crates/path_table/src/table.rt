@@ -1,4 +1,4 @@
-//! A table of files: values by path, over the standard library's ordered map.
+//! A table of values by path, built on the standard library's ordered map.
 ghost use Rattle.std.specs.Prelude.{◌≡◌, ◌↔◌, ◌<◌, ◌^◌, [], length, is_some, map};
 ghost use Rattle.std.specs.Prelude.{IfOk, OnOk, OnErr, IsOk, IsSome, IsTrue};
 ghost use Rattle.std.specs.Borrow.{sem};
@@ -12,8 +12,10 @@ ghost use Rattle.unix_path.specs.Order.{values_cmp};
 ghost use Rattle.unix_path.specs.Parts.{values};
 ghost use Rattle.unix_path.specs.declared.buf.PathBuf.{PathBuf};
 ghost use Rattle.path_runs.specs.TableLaws.{rows_of};
-ghost use Rattle.path_table.specs.Table.{SameElsewhere, entries_of, key_bytes, paths_cmp};
-ghost use Rattle.path_table.specs.Table.{table_of, value_at};
+ghost use Rattle.path_runs.specs.Rows.{SameElsewhere};
+ghost use Rattle.path_table.specs.Table.{entries_of, key_bytes, paths_cmp};
+ghost use Rattle.path_runs.specs.Rows.{value_at};
+ghost use Rattle.path_table.specs.Table.{table_of};
 
 mod under;
 
@@ -25,39 +27,39 @@ use std::fmt;
 pub use under::Under;
 use unix_path::PathBuf;
 
-/// Values by path: a table in which equal paths are one key.
+/// A table of values by path, like a `BTreeMap<PathBuf, V>`.
 ///
-/// The paths stand in path order. A table with 1 at `a/b` has 1 at `a//b` too. Not in Rust's std;
-/// as a `BTreeMap<PathBuf, V>`.
+/// Equal paths are one key, and the entries are in path order. A table with 1 at `a/b` has 1 at
+/// `a//b` too.
 #[derive(Drop)]
 pub struct PathTable<V> {
-    files: BTreeMap<PathBuf, V>,
+    inner: BTreeMap<PathBuf, V>,
 }
 
 impl<V> PathTable<V> {
-    ghost use Rattle.path_table.specs.Lent.{lends_value};
+    ghost use Rattle.path_table.specs.Lent.{lends_table_value};
 
-    /// A table without files. Does not allocate. As Rust's `BTreeMap::new`.
+    /// Returns a table without entries. Allocates nothing.
     ///
     /// At `a` it has no value.
     pub fn new(alloc: Global) -> PathTable<V>
         ensures { table_of result ≡ [] }
     {
         PathTable {
-            files: BTreeMap::new(alloc),
+            inner: BTreeMap::new(alloc),
         }
     }
 
-    /// Inserts the value at the path, and returns the value that an equal path had; `None` if there
-    /// was no such path.
+    /// Inserts `value` at `path`. Returns the value that an equal path had, or `None` if there was
+    /// no such path.
     ///
-    /// If an equal path has a value, that path stays as the key, its value is replaced, and nothing
-    /// is allocated. Else the path itself, in its spelling, becomes the key, which allocates for
-    /// the place in the table; fails if the allocation fails: then the table stays as it was, and
-    /// the path and the value are dropped. All other keys stay as they are spelled. As Rust's
-    /// `BTreeMap::insert`.
+    /// If the table has an equal path, that path stays the key with its bytes unchanged, its value
+    /// is replaced, and nothing is allocated. Otherwise `path` becomes the key with its bytes
+    /// unchanged, which allocates for the entry. If that allocation fails, the call fails, the
+    /// table is unchanged, and `path` and `value` are dropped. The bytes of all other keys are
+    /// unchanged.
     ///
-    /// With 1 at `a/b`, inserting 2 at `a//b/` gives 1 and leaves 2 at `a/b` alone.
+    /// With 1 at `a/b`, inserting 2 at `a//b/` returns 1 and leaves only the entry `a/b` with 2.
     pub fn insert(&mut self, path: PathBuf, value: V) -> Result<Option<V>, AllocError>
     where
         V: Drop,
@@ -80,12 +82,11 @@ impl<V> PathTable<V> {
     {
         laws::lookup_by_values::<V>();
         laws::insert_by_values::<V>();
-        let old = self.files.insert(path, value)?;
+        let old = self.inner.insert(path, value)?;
         Ok(old)
     }
 
-    /// The value at the path that is equal to this one; `None` if there is no such path. Does not
-    /// allocate. As Rust's `BTreeMap::get`.
+    /// Returns the value at the path equal to `path`, or `None` if there is no such path.
     ///
     /// With 1 at `a/b`, for `a/./b` it is 1.
     pub fn get(&self, path: &PathBuf) -> Option<&V>
@@ -93,28 +94,27 @@ impl<V> PathTable<V> {
             ≡ value_at (values (path_bytes path.now)) (table_of self.now) }
     {
         laws::lookup_by_values::<V>();
-        self.files.get(path)
+        self.inner.get(path)
     }
 
-    /// A mutable reference to the value at the path that is equal to this one; `None` if there is
-    /// no such path. Does not allocate. As Rust's `BTreeMap::get_mut`.
+    /// Returns a mutable reference to the value at the path equal to `path`, or `None` if there is
+    /// no such path.
     ///
     /// With 1 at `a/b`, writing 2 through the reference for `a//b` leaves 2 at `a/b`.
     pub fn get_mut(&mut self, path: &PathBuf) -> Option<&mut V>
-        ensures* writes_back { sem 𝓛 (lends_value V.row self.entry
+        ensures* writes_back { sem 𝓛 (lends_table_value V.row self.entry
             (values (path_bytes path.now)) result) }
         ensures value { option_copied_mut result
             ≡ value_at (values (path_bytes path.now)) (table_of self.old) }
     {
         laws::lookup_by_values::<V>();
-        self.files.get_mut(path)
+        self.inner.get_mut(path)
     }
 
-    /// Removes the path that is equal to this one, and returns its value; `None` if there is no
-    /// such path. All other keys stay as they are spelled. Does not allocate. As Rust's
-    /// `BTreeMap::remove`.
+    /// Removes the entry at the path equal to `path`. Returns its value, or `None` if there is no
+    /// such path. The bytes of all other keys are unchanged.
     ///
-    /// With 1 at `a/b` alone, removing `a//b` gives 1 and leaves no files.
+    /// With only 1 at `a/b`, removing `a//b` returns 1 and leaves no entries.
     pub fn remove(&mut self, path: &PathBuf) -> Option<V>
         ensures value { result ≡ value_at (values (path_bytes path.now)) (table_of self.old) }
         ensures rows { table_of self.new
@@ -128,29 +128,29 @@ impl<V> PathTable<V> {
     {
         laws::lookup_by_values::<V>();
         laws::remove_by_values::<V>();
-        self.files.remove(path)
+        self.inner.remove(path)
     }
 
-    /// How many files there are. Does not allocate. As Rust's `BTreeMap::len`.
+    /// Returns the number of entries.
     ///
     /// With 1 at `a/b`, and 2 then inserted at `a//b`, it is 1.
     pub fn len(&self) -> usize
         ensures { result ≡ length (table_of self.now) }
     {
-        self.files.len()
+        self.inner.len()
     }
 
-    /// Whether there are no files. Does not allocate. As Rust's `BTreeMap::is_empty`.
+    /// Returns true if and only if there are no entries.
     ///
     /// It is true of a new table.
     #[must_use]
     pub fn is_empty(&self) -> bool
         ensures { IsTrue result ↔ (table_of self.now ≡ []) }
     {
-        self.files.is_empty()
+        self.inner.is_empty()
     }
 
-    /// Removes all files. Does not allocate. As Rust's `BTreeMap::clear`.
+    /// Removes all entries.
     ///
     /// With 1 at `a/b`, it leaves no value at `a/b`.
     pub fn clear(&mut self)
@@ -158,13 +158,13 @@ impl<V> PathTable<V> {
         V: Drop,
         ensures { table_of self.new ≡ [] }
     {
-        self.files.clear();
+        self.inner.clear();
     }
 
-    /// The paths, as they were inserted, and their values, in path order. Does not allocate. As
-    /// Rust's `BTreeMap::iter`.
+    /// Returns an iterator over the entries in path order. The keys have the bytes with which they
+    /// were inserted.
     ///
-    /// With 1 at `a.b` and 2 at `a//b` it gives `a//b` with 2, and then `a.b` with 1.
+    /// With 1 at `a.b` and 2 at `a//b` it yields `a//b` with 2, and then `a.b` with 1.
     pub fn iter(&self) -> Iter<'_, PathBuf, V>
         ensures rows { rows_of path_bytes result ≡ table_of self.now }
         ensures keys { map path_bytes (keys_of result) ≡ key_bytes self.now }
@@ -173,10 +173,10 @@ impl<V> PathTable<V> {
         ensures runs_back { ShowsInReverse (deref_pair {K = PathBuf} {X = V}) }
         ensures fits { length (table_of self.now) < 2 ^ 63 }
     {
-        self.files.iter()
+        self.inner.iter()
     }
 
-    /// Whether an equal path is in the table. Does not allocate. As Rust's
+    /// Returns true if and only if the table has a path equal to `path`. Corresponds to Rust's
     /// `BTreeMap::contains_key`.
     ///
     /// With 1 at `a/b`, it contains `a//b/`, and not `a`.
@@ -185,15 +185,15 @@ impl<V> PathTable<V> {
         ensures { result ≡ is_some (value_at (values (path_bytes path.now)) (table_of self.now)) }
     {
         laws::lookup_by_values::<V>();
-        self.files.contains_key(path)
+        self.inner.contains_key(path)
     }
 }
 
-/// The paths and their values, in path order. As Rust's `BTreeMap` shows them.
+/// Writes the paths and their values in path order, like the debug form of a `BTreeMap`.
 ///
 /// With 1 at `a/b` it is `{"a/b": 1}`.
 impl<V: fmt::Debug> fmt::Debug for PathTable<V> {
     fn fmt<W: fmt::Write>(&self, f: &mut fmt::Formatter<W>) -> fmt::Result {
-        self.files.fmt(f)
+        self.inner.fmt(f)
     }
 }

@@ -1,23 +1,23 @@
--- The entries that two trees have with different values. Not in Rust's std.
+-- The entries that two trees have with different values.
 use Rattle.std.specs.Prelude.{ℕ, Bool, List, filter, not}
 use Rattle.std.specs.Borrow.{Bor}
 use Rattle.std.specs.List.{filter_map}
 use Rattle.std.specs.Option.{option_map}
-use Rattle.unix_path.specs.Parts.{Value}
-use Rattle.path_table.specs.Table.{value_at}
-use Rattle.path_tree.specs.Read.{key_values}
+use Rattle.path_tree.specs.Rows.{entry_at}
 
--- the values for which a key stands that is lent, with both things that are lent beside it
-abbrev pub lent_both : {V W : Type 0} → Bor (List ℕ) × Bor V × Bor W → List Value × V × W
-lent_both entry = (key_values entry.0.now, entry.1.now, entry.2.now)
+-- the bytes of a borrowed key, with the two values that are borrowed with it
+abbrev pub lent_both : {V W : Type 0} → Bor (List ℕ) × Bor V × Bor W → List ℕ × V × W
+lent_both entry = (entry.0.now, entry.1.now, entry.2.now)
 
--- the rows at whose values something stands in the other rows too, with that, in their order
-abbrev pub rows_in_both : {V W : Type 0} → List (List Value × W) → List (List Value × V)
-    → List (List Value × V × W)
-rows_in_both other rows =
-    filter_map (λ row. option_map (λ y. (row.0, row.1, y)) (value_at row.0 other)) rows
+-- the entries whose keys the other entries have too, each with its value and then the other value,
+-- in their order
+abbrev pub entries_in_both : {V W : Type 0} → List (List ℕ × W) → List (List ℕ × V)
+    → List (List ℕ × V × W)
+entries_in_both other entries =
+    filter_map (λ e. option_map (λ y. (e.0, e.1, y)) (entry_at e.0 other)) entries
 
--- of those the ones where both things aren't equal
-abbrev pub rows_changed : {V : Type 0} → (V → V → Bool) → List (List Value × V)
-    → List (List Value × V) → List (List Value × V × V)
-rows_changed eq other rows = filter (λ both. not (eq both.1 both.2)) (rows_in_both other rows)
+-- the entries in both whose two values are not equal
+abbrev pub entries_changed : {V : Type 0} → (V → V → Bool) → List (List ℕ × V)
+    → List (List ℕ × V) → List (List ℕ × V × V)
+entries_changed eq other entries =
+    filter (λ both. not (eq both.1 both.2)) (entries_in_both other entries)

@@ -1,25 +1,25 @@
--- What the errors of trees are printed as. Not in Rust's std.
+-- The texts of the errors of trees.
 use Rattle.std.specs.Prelude.{ℕ, List, codes}
 use Rattle.path_tree.specs.declared.tree.lookup.LookupError.{LookupError}
 use Rattle.path_tree.specs.declared.tree.lookup.LookupError.TheVariants.{Absent}
 use Rattle.path_tree.specs.declared.tree.lookup.LookupError.TheVariants as lookup_errors
-use Rattle.path_tree.specs.declared.tree.moved.MoveError.{MoveError}
-use Rattle.path_tree.specs.declared.tree.moved.MoveError.TheVariants.{Inside, Occupied}
-use Rattle.path_tree.specs.declared.tree.moved.MoveError.TheVariants as move_errors
+use Rattle.path_tree.specs.declared.tree.move_under.MoveError.{MoveError}
+use Rattle.path_tree.specs.declared.tree.move_under.MoveError.TheVariants.{Inside, Occupied}
+use Rattle.path_tree.specs.declared.tree.move_under.MoveError.TheVariants as move_errors
 use Rattle.path_tree.specs.declared.tree.sorted.SortedError.{SortedError}
 use Rattle.path_tree.specs.declared.tree.sorted.SortedError.TheVariants.{Memory, NotSorted}
 
--- what an error of items that should rise is printed as
+-- the text that an error of a tree from sorted items is printed as
 abbrev pub sorted_error_text : SortedError → List ℕ
 sorted_error_text NotSorted = codes "paths are not sorted"
 sorted_error_text (Memory error) = codes "out of memory"
 
--- what an error of a look-up is printed as
+-- the text that an error of a look-up is printed as
 abbrev pub lookup_error_text : LookupError → List ℕ
 lookup_error_text Absent = codes "no such path"
 lookup_error_text (lookup_errors.Memory error) = codes "out of memory"
 
--- what an error of a move is printed as
+-- the text that an error of a move is printed as
 abbrev pub move_error_text : MoveError → List ℕ
 move_error_text Inside = codes "the target is inside its source"
 move_error_text Occupied = codes "the target has entries"

@@ -1,10 +1,10 @@
 pub mod Read
 pub mod Rows
-pub mod Made
+pub mod LookupKey
 pub mod Hashed
-pub mod Marks
-pub mod Ahead
+pub mod KeyFilter
 pub mod Tree
+pub mod Cursor
 pub mod Lent
 pub mod Nearest
 pub mod Many

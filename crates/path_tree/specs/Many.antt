@@ -1,4 +1,4 @@
--- Many entries that are inserted one after the other, as `Extend` of Rust's `BTreeMap` does.
+-- Many entries inserted one after the other (Rust's `Extend` of `BTreeMap`).
 use Rattle.std.specs.Prelude.{◌≡◌, List, Option, Some, fold}
 use Rattle.std.specs.BTreeMap.{insert_entry}
 use Rattle.std.specs.Iterator.{Drains, YieldsThen}
@@ -6,13 +6,13 @@ use Rattle.unix_path.specs.Order.{values_cmp}
 use Rattle.unix_path.specs.Parts.{Value, values}
 use Rattle.unix_path.specs.declared.path.Path.{Path}
 
--- these rows, after each of these values was put at the values of its path, one after the other
+-- the rows after each item's value was inserted at the components of its path, one after the other
 abbrev pub inserted_all : {V : Type 0} → List (List Value × V) → List (Path × V)
     → List (List Value × V)
 inserted_all rows items =
     fold (λ rows item. insert_entry values_cmp rows (values item.0.bytes.now) item.1) rows items
 
--- an iterator's items were all inserted into the old rows, one after the other
+-- all items of an iterator were inserted into the old rows, one after the other
 pub record InsertsAll {V S : Type 0} (steps : S → Option (Path × V) → S → Type 0) (items : S)
     (old new : List (List Value × V)) : Type 0 where
   pub entries : List (Path × V)

@@ -1,11 +1,12 @@
--- The entry nearest to a path: the one with the longest path that begins it. Not in Rust's std.
+-- The entry nearest to a path: the entry whose path is the path's longest prefix.
 use Rattle.std.specs.Prelude.{◌≡◌, ℕ, List, Some, IsSome, length}
-use Rattle.unix_bytes.specs.Begins.{IsLongest}
+use Rattle.unix_bytes.specs.IsPrefixOf.{IsLongest}
 use Rattle.unix_path.specs.Parts.{Value, values}
 use Rattle.unix_path.specs.Rest.{rest}
-use Rattle.path_table.specs.Table.{value_at}
+use Rattle.path_runs.specs.Rows.{value_at}
 
--- x stands at the longest values with a row that begin the path s, and `left` is what follows them
+-- x is the value of the row with the longest components that the path s starts with, and `left` is
+-- what follows them in s
 pub record IsNearest {V : Type 0} (s : List ℕ) (rows : List (List Value × V)) (left : List ℕ)
     (x : V) : Type 0 where
   pub base : List Value

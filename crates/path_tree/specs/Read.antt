@@ -1,4 +1,4 @@
--- The values that a key stands for: the codes of a key, read from the front. Not in Rust's std.
+-- The components that a key represents: the codes of a key, read from its beginning.
 use Rattle.std.specs.Prelude.{ℕ, ◌==◌, Bool, List, [], ◌∷◌, ◌++◌, Option, Some, None, if◌then◌else◌}
 use Rattle.std.specs.Str.{bytes_eq}
 use Rattle.unix_path.specs.Parts.{Value, RootDir, CurDir, ParentDir, Normal, values}
@@ -6,11 +6,11 @@ use Rattle.path_runs.specs.Spelling.{spelling_of}
 use Rattle.path_keys.specs.Keys.{key_of}
 use Rattle.path_keys.specs.Codes.{lowered}
 
--- the value whose code is 0 and this byte
+-- the component whose code is 0 and then this byte
 abbrev pub marked : ℕ → Value
 marked mark = if mark == 1 then RootDir else (if mark == 2 then CurDir else ParentDir)
 
--- the values of a key from here on: behind these bytes of a name, or behind the 0 of a mark (None)
+-- the components of the rest of a key, after these bytes of a name, or after the 0 of a mark (None)
 unfoldable pub values_from : Option (List ℕ) → List ℕ → List Value
 values_from name [] = []
 values_from None (b ∷ key) = marked b ∷ values_from (Some []) key
@@ -20,11 +20,11 @@ values_from (Some (a ∷ name)) (b ∷ key) =
     if b == 0 then Normal (a ∷ name) ∷ values_from (Some []) key
     else values_from (Some ((a ∷ name) ++ lowered b ∷ [])) key
 
--- the values whose codes these bytes are, one after the other
+-- the components whose codes these bytes are, one after the other
 abbrev pub key_values : List ℕ → List Value
 key_values key = values_from (Some []) key
 
--- the key of the path that spells the bytes' values is these bytes. No public clause cites this
--- word
+-- the path in canonical form with the components of these bytes has these bytes as its key. No
+-- public clause cites this word
 abbrev pub is_own : List ℕ → Bool
 is_own key = bytes_eq (key_of (values (spelling_of (key_values key)))) key

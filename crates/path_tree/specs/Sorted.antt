@@ -1,4 +1,4 @@
--- Items whose paths rise, of which a tree is made at once. Not in Rust's std.
+-- Items whose paths are strictly increasing, from which a tree is created at once.
 use Rattle.std.specs.Prelude.{◌≡◌, List, [], ◌∷◌, ◌++◌, Option, Some, map}
 use Rattle.std.specs.Iterator.{Drains, YieldsThen}
 use Rattle.std.specs.List.Sorted.{IsStrictlySortedBy}
@@ -8,11 +8,11 @@ use Rattle.unix_path.specs.Order.{values_cmp}
 use Rattle.unix_path.specs.Parts.{Value, values}
 use Rattle.unix_path.specs.declared.path.Path.{Path}
 
--- the values of each item's path, with what comes with it
+-- the components of each item's path, with the item's value
 abbrev pub rows_in : {V : Type 0} → List (Path × V) → List (List Value × V)
 rows_in items = map (λ item. (values item.0.bytes.now, item.1)) items
 
--- an iterator's items rise, and the rows are theirs
+-- the paths of an iterator's items are strictly increasing, and the rows are the items' rows
 pub record ListsAll {V S : Type 0} (steps : S → Option (Path × V) → S → Type 0) (items : S)
     (rows : List (List Value × V)) : Type 0 where
   pub entries : List (Path × V)
@@ -20,7 +20,8 @@ pub record ListsAll {V S : Type 0} (steps : S → Option (Path × V) → S → T
   pub rise : IsStrictlySortedBy values_cmp (keys_of (rows_in entries))
   pub rows_are : rows ≡ rows_in entries
 
--- an iterator's first items rise, and the path of the item after them isn't greater than the last
+-- the paths of an iterator's first items are strictly increasing, and the path of the next item is
+-- not greater than the last of these paths
 pub record StopsRising {V S : Type 0} (steps : S → Option (Path × V) → S → Type 0) (items : S)
     : Type 0 where
   pub entries : List (Path × V)

@@ -1,12 +1,37 @@
-//! Laws of trees: facts about the definitions alone, which a proof gets by calling them.
+//! Laws of trees: facts about the definitions, each available to a proof that calls it.
+ghost use Rattle.std.specs.Prelude.{◌≡◌, map};
+ghost use Rattle.std.specs.List.{All};
+ghost use Rattle.std.specs.List.Sorted.{IsStrictlySortedBy};
+ghost use Rattle.std.specs.Map.{keys_of};
+ghost use Rattle.unix_path.specs.Order.{values_cmp};
+ghost use Rattle.path_keys.specs.Keys.{IsKey};
+ghost use Rattle.path_keys.specs.Ranges.{bytes_cmp};
 ghost use Rattle.path_tree.specs.Laws.{KeysStandFor};
+ghost use Rattle.path_tree.specs.Read.{key_values};
+ghost use Rattle.path_tree.specs.Tree.{entries_of, table_of};
 
-/// The key of a path stands for the path's values.
+use crate::tree::PathTree;
+
+/// The key of a path represents the components of the path.
 ///
-/// So what a tree has at a key is what it has at each path that has the key. Calling it does
-/// nothing. Not in Rust's std.
+/// What a tree has at a key is therefore what it has at each path that has the key.
 ///
-/// 61 00 62 00, the key of `a//b`, stands for `a` and `b`.
+/// 61 00 62 00, the key of `a//b`, represents `a` and `b`.
 pub fn keys_stand_for()
     ensures { KeysStandFor }
 {}
+
+/// The keys of a tree are keys of paths, in strictly increasing order of their bytes, and their
+/// paths are in path order.
+///
+/// So `path_of` reads back each key that a tree lends, and each key is lent once.
+///
+/// With 1 at `a//b` and 2 at `a.b`, the keys are 61 00 62 00 and 61 2F 62 00.
+pub fn tree_has_keys<V>(tree: &PathTree<V>)
+    ensures keys { All IsKey (keys_of (entries_of tree.now)) }
+    ensures ordered { IsStrictlySortedBy bytes_cmp (keys_of (entries_of tree.now)) }
+    ensures rows { map (λ e. (key_values e.0, e.1)) (entries_of tree.now) ≡ table_of tree.now }
+    ensures rows_ordered { IsStrictlySortedBy values_cmp (keys_of (table_of tree.now)) }
+{
+    tree.show_entries();
+}

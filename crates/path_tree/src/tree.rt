@@ -9,29 +9,28 @@ ghost use Rattle.std.specs.Option.{option_copied, option_copied_mut};
 ghost use Rattle.std.proofs.Props.{props};
 ghost use Rattle.unix_path.specs.Order.{values_cmp};
 ghost use Rattle.unix_path.specs.Parts.{values};
-ghost use Rattle.path_table.specs.Table.{SameElsewhere, value_at};
+ghost use Rattle.path_runs.specs.Rows.{SameElsewhere, value_at};
 ghost use Rattle.path_keys.specs.Held.{key_bytes};
 ghost use Rattle.path_keys.specs.Keys.{key_of};
-ghost use Rattle.path_tree.specs.Marks.{is_marked};
+ghost use Rattle.path_tree.specs.KeyFilter.{may_contain};
 ghost use Rattle.path_tree.specs.Read.{is_own, key_values};
 
-mod ahead;
 mod changed;
 mod children;
 mod difference;
 mod entries;
-mod few;
+mod longest_prefix;
 mod lookup;
 mod many;
-mod moved;
-mod nearest;
+mod merge_cursor;
+mod move_under;
 mod ranges;
 mod sorted;
 
-use crate::made::{MadeKey, ROOM, bytes_of, owned_key};
-use crate::marks::Marks;
+use crate::key_filter::KeyFilter;
+use crate::lookup_key::{LookupKey, STACK_LEN, bytes_of, owned_key};
 pub use lookup::LookupError;
-pub use moved::MoveError;
+pub use move_under::MoveError;
 use path_keys::PathKey;
 pub use sorted::SortedError;
 use std::alloc::{AllocError, Global};
@@ -41,21 +40,21 @@ use unix_path::Path;
 
 /// Values by path: a tree in which equal paths are one key, kept as the bytes of `PathKey`.
 ///
-/// The paths stand in path order. A look-up takes a key that the caller keeps, or a path, and needs
-/// no owned path. A path's spelling isn't kept. Not in Rust's std; as a `BTreeMap<PathBuf, V>`.
+/// The entries are in path order. A look-up needs a key that the caller keeps, or a path, but no
+/// owned path. A path's spelling is not kept. Compare `BTreeMap<PathBuf, V>`.
 ///
-/// A tree of more than 64 entries also keeps marks of its keys, in one to four bytes for each,
-/// which save `longest_prefix` most of its look-ups. They are made anew when they are full; if that
-/// allocation fails, the tree goes on with those that it has.
+/// A tree of more than 64 entries also keeps a Bloom filter over its keys, of one to four bytes for
+/// each key, which saves `longest_prefix` most of its look-ups. When the filter is full it is
+/// rebuilt. If the allocation for that fails, the tree keeps the filter that it has.
 ///
-/// A tree with 1 at `a/b` has 1 at `a//b` too.
+/// A tree with 1 at `a/b` also has 1 at `a//b`.
 #[derive(Drop)]
 pub struct PathTree<V> {
     alloc: Global,
     entries: BTreeMap<Vec<u8>, V>,
-    marks: Marks,
+    key_filter: KeyFilter,
     ghost own: { AllPass (λ k. is_own k.items) (keys_of entries.entries) } by { Prim.hlevel props },
-    ghost marked: { AllPass (λ k. is_marked marks k.items)
+    ghost filtered: { AllPass (λ k. may_contain key_filter k.items)
         (keys_of entries.entries) } by { Prim.hlevel props },
 }
 
@@ -63,29 +62,30 @@ impl<V> PathTree<V> {
     ghost use Rattle.path_tree.specs.Lent.{lends_value};
     ghost use Rattle.path_tree.specs.Tree.{table_of};
 
-    /// A tree without entries. Does not allocate. As Rust's `BTreeMap::new`.
+    /// Returns a tree without entries. Does not allocate.
     ///
-    /// At `a` it has no value.
+    /// It has no value at `a`.
     pub fn new(alloc: Global) -> PathTree<V>
         ensures { table_of result ≡ [] }
     {
         PathTree {
             alloc,
             entries: BTreeMap::new(alloc),
-            marks: Marks::none(alloc),
+            key_filter: KeyFilter::accept_all(alloc),
         }
     }
 
     /// Inserts the value at the path, and returns the value that an equal path had; `None` if there
-    /// was no such path.
+    /// was no equal path.
     ///
-    /// Allocates for the path's key, even if an equal path is there, and for a new place in the
-    /// tree; fails if an allocation fails: then the tree stays as it was, and the value is dropped.
-    /// It also allocates for marks when those are full, and doesn't fail if that fails. For a path
-    /// that is there `get_mut` gives the place of its value, and doesn't allocate. As Rust's
-    /// `BTreeMap::insert`.
+    /// Allocates for the path's key, even if the tree has an equal path, and for a new entry. Fails
+    /// if one of these allocations fails: then the tree is unchanged, and the value is dropped.
+    /// Also allocates for a new Bloom filter when the filter is full, and does not fail if that
+    /// allocation fails. To change the value of a path that the tree has, `get_mut` returns a
+    /// reference to the value, and does not allocate.
     ///
-    /// With 1 at `a/b`, inserting 2 at `a//b/` gives 1 and leaves 2 at `a/b` alone.
+    /// With 1 at `a/b` and no other entry, inserting 2 at `a//b/` returns 1. The tree then has 2 at
+    /// `a/b`, and no other entry.
     pub fn insert(&mut self, path: Path<'_>, value: V) -> Result<Option<V>, AllocError>
     where
         V: Drop,
@@ -103,8 +103,7 @@ impl<V> PathTree<V> {
         self.put(key, value)
     }
 
-    /// The value at the path of this key; `None` if there is no such path. Does not allocate. As
-    /// Rust's `BTreeMap::get`.
+    /// Returns the value at the path of this key; `None` if there is no such path.
     ///
     /// With 1 at `a/b`, for the key of `a/./b` it is 1.
     pub fn get(&self, key: &PathKey) -> Option<&V>
@@ -114,10 +113,10 @@ impl<V> PathTree<V> {
         self.find(bytes_of(key))
     }
 
-    /// The value at the path that is equal to this one; `None` if there is no such path.
+    /// Returns the value at the path that is equal to this one; `None` if there is no such path.
     ///
-    /// Does not allocate if the path's key has at most 512 bytes, as it has for each path of up to
-    /// 510; else allocates once, and fails if the allocation fails. As Rust's `BTreeMap::get`.
+    /// Allocates, once, only if the path's key is longer than 512 bytes, which requires a path of
+    /// more than 510 bytes. Fails only if that allocation fails. Like `BTreeMap::get`.
     ///
     /// With 1 at `a/b`, for `a/./b` it is 1.
     pub fn get_path(&self, path: Path<'_>) -> Result<Option<&V>, AllocError>
@@ -125,13 +124,13 @@ impl<V> PathTree<V> {
             ≡ value_at (values path.entry.bytes.now) (table_of self.now)) }
         ensures succeeds { length (key_of (values path.entry.bytes.now)) ≤ 512 → IsOk result }
     {
-        let mut room = [0u8; ROOM];
-        let made = MadeKey::of(self.alloc, path, &mut room)?;
-        Ok(self.find(made.as_bytes()))
+        let mut buffer = [0u8; STACK_LEN];
+        let key = LookupKey::of(self.alloc, path, &mut buffer)?;
+        Ok(self.find(key.as_bytes()))
     }
 
-    /// A mutable reference to the value at the path of this key; `None` if there is no such path.
-    /// Does not allocate. As Rust's `BTreeMap::get_mut`.
+    /// Returns a mutable reference to the value at the path of this key; `None` if there is no such
+    /// path.
     ///
     /// With 1 at `a/b`, writing 2 through the reference for the key of `a//b` leaves 2 at `a/b`.
     pub fn get_mut(&mut self, key: &PathKey) -> Option<&mut V>
@@ -143,10 +142,10 @@ impl<V> PathTree<V> {
         self.find_mut(bytes_of(key))
     }
 
-    /// Whether the path of this key is in the tree. Does not allocate. As Rust's
-    /// `BTreeMap::contains_key`.
+    /// Returns true if the path of this key is in the tree, like `BTreeMap::contains_key`.
     ///
-    /// With 1 at `a/b`, it contains the key of `a//b/`, and not that of `a`.
+    /// With 1 at `a/b` and no other entry, a tree contains the key of `a//b/`, but not the key of
+    /// `a`.
     #[must_use]
     pub fn contains(&self, key: &PathKey) -> bool
         ensures { result
@@ -155,13 +154,12 @@ impl<V> PathTree<V> {
         self.get(key).is_some()
     }
 
-    /// Whether an equal path is in the tree.
+    /// Returns true if an equal path is in the tree, like `BTreeMap::contains_key`.
     ///
-    /// Does not allocate if the path's key has at most 512 bytes, as it has for each path of up to
-    /// 510; else allocates once, and fails if the allocation fails. As Rust's
-    /// `BTreeMap::contains_key`.
+    /// Allocates, once, only if the path's key is longer than 512 bytes, which requires a path of
+    /// more than 510 bytes. Fails only if that allocation fails.
     ///
-    /// With 1 at `a/b`, it contains `a//b/`, and not `a`.
+    /// With 1 at `a/b` and no other entry, a tree contains `a//b/`, but not `a`.
     pub fn contains_path(&self, path: Path<'_>) -> Result<bool, AllocError>
         ensures value { IfOk result (λ found. found
             ≡ is_some (value_at (values path.entry.bytes.now) (table_of self.now))) }
@@ -170,10 +168,10 @@ impl<V> PathTree<V> {
         Ok(self.get_path(path)?.is_some())
     }
 
-    /// Removes the path of this key, and returns its value; `None` if there is no such path. Does
-    /// not allocate. As Rust's `BTreeMap::remove`.
+    /// Removes the path of this key, and returns its value; `None` if there is no such path.
     ///
-    /// With 1 at `a/b` alone, removing the key of `a//b` gives 1 and leaves no entries.
+    /// With 1 at `a/b` and no other entry, removing the key of `a//b` returns 1 and leaves no
+    /// entries.
     pub fn remove(&mut self, key: &PathKey) -> Option<V>
         ensures value { result ≡ value_at (key_values (key_bytes key.now)) (table_of self.old) }
         ensures rows { table_of self.new
@@ -189,11 +187,11 @@ impl<V> PathTree<V> {
     /// Removes the path that is equal to this one, and returns its value; `None` if there is no
     /// such path.
     ///
-    /// Does not allocate if the path's key has at most 512 bytes, as it has for each path of up to
-    /// 510; else allocates once, and fails if the allocation fails, and then the tree stays as it
-    /// was. As Rust's `BTreeMap::remove`.
+    /// Allocates, once, only if the path's key is longer than 512 bytes, which requires a path of
+    /// more than 510 bytes. Fails only if that allocation fails, and then the tree is unchanged.
+    /// Like `BTreeMap::remove`.
     ///
-    /// With 1 at `a/b` alone, removing `a//b` gives 1 and leaves no entries.
+    /// With 1 at `a/b` and no other entry, removing `a//b` returns 1 and leaves no entries.
     pub fn remove_path(&mut self, path: Path<'_>) -> Result<Option<V>, AllocError>
         ensures value { IfOk result (λ found. found
             ≡ value_at (values path.entry.bytes.now) (table_of self.old)) }
@@ -207,23 +205,23 @@ impl<V> PathTree<V> {
         ensures err { OnErr result (table_of self.new ≡ table_of self.old) }
         ensures succeeds { length (key_of (values path.entry.bytes.now)) ≤ 512 → IsOk result }
     {
-        let mut room = [0u8; ROOM];
-        let made = MadeKey::of(self.alloc, path, &mut room)?;
-        Ok(self.take(made.as_bytes()))
+        let mut buffer = [0u8; STACK_LEN];
+        let key = LookupKey::of(self.alloc, path, &mut buffer)?;
+        Ok(self.take(key.as_bytes()))
     }
 
-    /// How many entries there are. Does not allocate. As Rust's `BTreeMap::len`.
+    /// Returns the number of entries.
     ///
-    /// With 1 at `a/b`, and 2 then inserted at `a//b`, it is 1.
+    /// It is 1 if 1 was inserted at `a/b`, and then 2 at `a//b`.
     pub fn len(&self) -> usize
         ensures { result ≡ length (table_of self.now) }
     {
         self.entries.len()
     }
 
-    /// Whether there are no entries. Does not allocate. As Rust's `BTreeMap::is_empty`.
+    /// Returns true if there are no entries.
     ///
-    /// It is true of a new tree.
+    /// It is true for a new tree.
     #[must_use]
     pub fn is_empty(&self) -> bool
         ensures { IsTrue result ↔ (table_of self.now ≡ []) }
@@ -231,7 +229,7 @@ impl<V> PathTree<V> {
         self.entries.is_empty()
     }
 
-    /// Removes all entries. Does not allocate. As Rust's `BTreeMap::clear`.
+    /// Removes all entries.
     ///
     /// With 1 at `a/b`, it leaves no value at `a/b`.
     pub fn clear(&mut self)
@@ -243,7 +241,7 @@ impl<V> PathTree<V> {
     }
 }
 
-/// The bytes of the keys and their values, in path order. As Rust's `BTreeMap` shows them.
+/// Writes the bytes of the keys and their values, in path order, as `BTreeMap` does.
 ///
 /// With 1 at `a/b` it is `{[97, 0, 98, 0]: 1}`.
 impl<V: fmt::Debug> fmt::Debug for PathTree<V> {

@@ -1,10 +1,11 @@
-//! Texts of errors, which are padded as any text.
+//! Texts of errors, with padding.
 use path_tree::{LookupError, MoveError, SortedError};
 use path_within::{RequestError, StripError, WithinError};
 use std::alloc::{AllocError, Global};
 use std::fmt;
 
-// Whether the error is displayed as this text: bare, and in fields of 25 columns at either end.
+// Returns true if the error is displayed as this text: without padding, and in fields of 25 columns
+// at either end.
 fn is_shown<E: fmt::Display>(alloc: Global, error: &E, text: &str) -> bool {
     match format!(in alloc; "{error}|{error:<25}|{error:>25}") {
         Ok(shown) => shown.as_str() == text,
@@ -12,14 +13,14 @@ fn is_shown<E: fmt::Display>(alloc: Global, error: &E, text: &str) -> bool {
     }
 }
 
-// Whether the errors of requests, roots and joins are displayed as their texts.
+// Returns true if the errors of requests, roots and joins are displayed as their texts.
 fn are_requests_shown(alloc: Global) -> bool {
     let root = "path has a root|path has a root          |          path has a root";
     let leaves = "path leaves its root|path leaves its root     |     path leaves its root";
     let nul = "path has a NUL byte|path has a NUL byte      |      path has a NUL byte";
     let outside = "path is outside its root|path is outside its root | path is outside its root";
     is_shown(alloc, &RequestError::Rooted, root)
-        && is_shown(alloc, &RequestError::Climbs, leaves)
+        && is_shown(alloc, &RequestError::Escapes, leaves)
         && is_shown(alloc, &RequestError::Nul, nul)
         && is_shown(alloc, &StripError::Outside, outside)
         && is_shown(alloc, &StripError::Nul, nul)
@@ -27,7 +28,7 @@ fn are_requests_shown(alloc: Global) -> bool {
         && is_shown(alloc, &WithinError::Nul, nul)
 }
 
-// Whether the errors of trees are displayed as their texts.
+// Returns true if the errors of trees are displayed as their texts.
 fn are_trees_shown(alloc: Global) -> bool {
     let falls = "paths are not sorted|paths are not sorted     |     paths are not sorted";
     let absent = "no such path|no such path             |             no such path";

@@ -1,7 +1,7 @@
 //! Rows of calls of the crate `callers`, each of which shows a rule.
-use callers::archive::{UnpackError, target_of};
+use callers::archive::{UnpackError, unpack_path};
 use callers::changes::changes_from;
-use callers::index::{place_of, value_at};
+use callers::index::{search_by_path, value_at};
 use callers::manifest::normalise;
 use callers::mounts::mounted_file;
 use callers::router::route;
@@ -40,14 +40,14 @@ static SERVED: [(&'static str, Option<&'static str>); 6] = [
     ("/shell.php\0.png", None),
 ];
 
-// An entry of an archive, and where it goes below `/tmp/x`, or why it is refused.
+// An entry of an archive, and where it goes below `/tmp/x`, or why it is rejected.
 static ENTRIES: [(&'static str, Result<&'static str, RequestError>); 7] = [
     ("a/./b", Ok("/tmp/x/a/b")),
     ("a/../b/", Ok("/tmp/x/b")),
     ("./", Ok("/tmp/x")),
     ("/etc/passwd", Err(RequestError::Rooted)),
-    ("../b", Err(RequestError::Climbs)),
-    ("a/../../b\0", Err(RequestError::Climbs)),
+    ("../b", Err(RequestError::Escapes)),
+    ("a/../../b\0", Err(RequestError::Escapes)),
     ("a\0b", Err(RequestError::Nul)),
 ];
 
@@ -87,8 +87,8 @@ static FILES: [(&'static str, Option<&'static str>); 7] = [
     ("/static/a/../../www/a", Some("refused")),
 ];
 
-// A path, the handler of its route and what is left for it, with 1 at `/`, 2 at `/api`, 3 at
-// `/api/v1` and 4 at `static`, and the fallback 0.
+// A path, the handler of its route and the rest for the handler, with the handlers 1 at `/`, 2 at
+// `/api`, 3 at `/api/v1` and 4 at `static`, and the fallback 0.
 static ROUTED: [(&'static str, u8, &'static str); 9] = [
     ("/api//users", 2, "users"),
     ("/apis/", 1, "apis"),
@@ -101,7 +101,7 @@ static ROUTED: [(&'static str, u8, &'static str); 9] = [
     ("", 0, ""),
 ];
 
-// Whether the path that was found has the bytes that are wanted.
+// Returns true if the path that was found has the expected bytes.
 fn is_wanted(found: Option<PathBuf>, want: Option<&str>) -> bool {
     match (found, want) {
         (Some(found), Some(want)) => found.as_path().as_unix_str() == UnixStr::new(want),
@@ -117,7 +117,7 @@ fn requests_stay_below(rt: HostRuntime) {
     }
 }
 
-// Whether the request finds its file, or leaves the buffer as it was.
+// Returns true if the request finds its file, or leaves the buffer unchanged.
 fn is_served(alloc: Global, root: &Root, row: &(&str, Option<&str>)) -> Result<bool, AllocError> {
     let mut file = PathBuf::from_text(alloc, "as it was")?;
     let is_found = find_file(root, &mut file, Path::from_text(row.0))?;
@@ -134,9 +134,9 @@ fn requests_find_files(rt: HostRuntime) -> Result<(), Fail> {
     Ok(())
 }
 
-// Whether the entry goes where it should, or is refused as it should be.
+// Returns true if the entry goes where it should, or is rejected for the expected reason.
 fn is_unpacked(alloc: Global, root: &Root, row: &(&str, Result<&str, RequestError>)) -> bool {
-    match (target_of(alloc, root, Path::from_text(row.0)), row.1) {
+    match (unpack_path(alloc, root, Path::from_text(row.0)), row.1) {
         (Ok(target), Ok(want)) => has_bytes(&target, want),
         (Err(UnpackError::Refused(error)), Err(want)) => error == want,
         _ => false,
@@ -152,7 +152,7 @@ fn entries_are_unpacked(rt: HostRuntime) -> Result<(), Fail> {
     Ok(())
 }
 
-// Whether the file that a URL's path names is the one that is wanted.
+// Returns true if the file that a URL's path names is the expected one.
 fn names(found: Result<Option<PathBuf>, WithinError>, want: Option<&str>) -> bool {
     match found {
         Ok(found) => is_wanted(found, want),
@@ -162,7 +162,7 @@ fn names(found: Result<Option<PathBuf>, WithinError>, want: Option<&str>) -> boo
     }
 }
 
-// Whether the row's URL names its file.
+// Returns true if the row's URL names its file.
 fn is_file(alloc: Global, row: &(&str, Option<&str>)) -> bool {
     let (prefix, root) = (Path::from_text("/static"), Path::from_text("/srv/./www"));
     names(file_of(alloc, prefix, root, Path::from_text(row.0)), row.1)
@@ -175,7 +175,7 @@ fn urls_name_files(rt: HostRuntime) {
     }
 }
 
-// Whether the row's URL is mapped to its file.
+// Returns true if the row's URL is mapped to its file.
 fn is_mapped(alloc: Global, root: &Root, row: &(&str, Option<&str>)) -> Result<bool, AllocError> {
     let found = map_url(
         alloc,
@@ -195,13 +195,13 @@ fn urls_are_mapped(rt: HostRuntime) -> Result<(), Fail> {
     Ok(())
 }
 
-// The paths of a manifest as it stands, and of the same manifest normalised.
+// The paths of a manifest, before and after it is normalised.
 static MANIFEST: [&str; 6] = ["b", "a//b/.", "./a", "a.b", "a/b", "b/"];
 
 static NORMALISED: [&str; 4] = ["./a", "a/b", "a.b", "b"];
 
-// Whether the manifest, with its paths repeated `times` times, is normalised to `want`: these
-// bytes, in this order.
+// Returns true if the manifest, with its paths repeated `times` times, is normalised to `want`:
+// these bytes, in this order.
 fn is_normalised(alloc: Global, times: usize, want: &[&str]) -> Result<bool, AllocError> {
     let mut paths = Vec::new(alloc);
     for _ in 0..times {
@@ -227,15 +227,15 @@ fn has_bytes(path: &PathBuf, text: &str) -> bool {
 #[test]
 fn manifests_are_normalised(rt: HostRuntime) -> Result<(), Fail> {
     assert!(rt; is_normalised(rt.alloc(), 1, NORMALISED.as_slice())?);
-    // Each path many times over.
+    // Repeats each path 200 times.
     assert!(rt; is_normalised(rt.alloc(), 200, NORMALISED.as_slice())?);
     Ok(())
 }
 
-// How many paths there are of a letter, a slash and a letter.
+// The number of paths of a letter, a slash and a letter.
 const LETTERS: usize = 676;
 
-// These paths, from the first on or from the last down.
+// Returns these paths in increasing order, or in decreasing order if `falls` is true.
 fn letters(alloc: Global, falls: bool) -> Result<Vec<PathBuf>, AllocError> {
     let mut paths = Vec::with_capacity(alloc, LETTERS)?;
     for place in 0..LETTERS {
@@ -246,8 +246,8 @@ fn letters(alloc: Global, falls: bool) -> Result<Vec<PathBuf>, AllocError> {
     Ok(paths)
 }
 
-// Whether these paths are normalised to `want`. If there is a `last`, it is added to them, and
-// comes before all of them in the set.
+// Returns true if these paths are normalised to `want`. If there is a `last`, it is added after
+// them, and is expected before all of them in the set.
 fn are_ordered(
     alloc: Global,
     given: &[PathBuf],
@@ -272,12 +272,14 @@ fn listings_are_ordered(rt: HostRuntime) -> Result<(), Fail> {
     let falling = letters(rt.alloc(), true)?;
     assert!(rt; are_ordered(rt.alloc(), &rising, None, &rising)?);
     assert!(rt; are_ordered(rt.alloc(), &falling, None, &rising)?);
-    // With `/` as the last path, the first comes behind the last, although the list rises up to it.
+    // With `/` as the last path, the first path is greater than the last, although the list
+    // increases up to it.
     assert!(rt; are_ordered(rt.alloc(), &rising, Some(Path::from_text("/")), &rising)?);
     Ok(())
 }
 
-// Whether `a/b` and `a//b/` are one file of the tree, which is found and taken out at the key.
+// Returns true if `a/b` and `a//b/` are one file of the tree, which is found and removed at the
+// key.
 fn is_one_file(alloc: Global, tree: &mut Tree<u8>, key: &PathBuf) -> Result<bool, AllocError> {
     let first = tree.insert(alloc, Path::from_text("a/b"), 1)?;
     let second = tree.insert(alloc, Path::from_text("a//b/"), 2)?;
@@ -303,10 +305,11 @@ fn an_equal_view_is_found(rt: HostRuntime) -> Result<(), Fail> {
     Ok(())
 }
 
-// Whether `a//b` and `a/c` have these places among the files.
+// Returns true if `a//b` is found at index `found` of the files, and `a/c` would be inserted at
+// index `missing`.
 fn have_places(files: &[(PathBuf, u8)], found: usize, missing: usize) -> bool {
-    place_of(files, Path::from_text("a//b")) == Ok(found)
-        && place_of(files, Path::from_text("a/c")) == Err(missing)
+    search_by_path(files, Path::from_text("a//b")) == Ok(found)
+        && search_by_path(files, Path::from_text("a/c")) == Err(missing)
 }
 
 #[test]
@@ -319,7 +322,7 @@ fn an_equal_path_is_found_in_order(rt: HostRuntime) -> Result<(), Fail> {
     Ok(())
 }
 
-// A table of the mounts that the rows above speak of.
+// Returns a tree of the mounts that the rows above describe.
 fn mounts(alloc: Global) -> Result<PathTree<Root>, AllocError> {
     let mut mounts = PathTree::new(alloc);
     mounts.insert(
@@ -333,7 +336,7 @@ fn mounts(alloc: Global) -> Result<PathTree<Root>, AllocError> {
     Ok(mounts)
 }
 
-// Whether the path has its file.
+// Returns true if the row's path is mapped to its file.
 fn is_mounted(
     alloc: Global,
     mounts: &PathTree<Root>,
@@ -352,7 +355,7 @@ fn mounts_have_files(rt: HostRuntime) -> Result<(), Fail> {
     Ok(())
 }
 
-// A tree of these paths, with these values.
+// Returns a tree of these paths with these values.
 fn tree_of(alloc: Global, files: &[(&str, u8)]) -> Result<PathTree<u8>, AllocError> {
     let mut tree = PathTree::new(alloc);
     for (path, value) in files {
@@ -361,7 +364,7 @@ fn tree_of(alloc: Global, files: &[(&str, u8)]) -> Result<PathTree<u8>, AllocErr
     Ok(tree)
 }
 
-// Whether the path goes to the handler, with what is left of it.
+// Returns true if the path goes to the handler, with the expected rest.
 fn is_routed(routes: &PathTree<u8>, row: &(&str, u8, &str)) -> Result<bool, AllocError> {
     let (handler, left) = route(routes, &0, Path::from_text(row.0))?;
     Ok(*handler == row.1 && left.as_unix_str() == UnixStr::new(row.2))
@@ -377,7 +380,8 @@ fn paths_are_routed(rt: HostRuntime) -> Result<(), Fail> {
     Ok(())
 }
 
-// What is new, gone and different from the first of these manifests to the second.
+// Compares two manifests. Returns true if the expected paths are new, gone and different in the
+// second.
 fn has_changed(alloc: Global) -> Result<bool, AllocError> {
     let before = [("a", 1), ("b", 2), ("d//e", 5), ("d.e", 6)];
     let before = tree_of(alloc, before.as_slice())?;
@@ -394,7 +398,7 @@ fn has_changed(alloc: Global) -> Result<bool, AllocError> {
     )
 }
 
-// Whether nothing has changed from the manifest to itself.
+// Returns true if the manifest has no changes compared with itself.
 fn has_stayed(tree: &PathTree<u8>) -> Result<bool, AllocError> {
     let none = changes_from(tree, tree)?;
     Ok(none.new.is_empty() && none.gone.is_empty() && none.different.is_empty())

@@ -1,4 +1,4 @@
-//! Rows of calls of a tree, its callers, and a tree beside a list.
+//! Rows of calls of a tree, its callers, and a tree compared with a list.
 mod beside_list;
 mod children;
 mod marked;
@@ -14,7 +14,7 @@ use std::alloc::{AllocError, Global};
 use std::test::Fail;
 use unix_path::Path;
 
-// A tree of these paths, with 1, 2 and so on in their order.
+// Returns a tree of these paths, with the values 1, 2 and so on in their order.
 fn tree_of(alloc: Global, paths: &[&str]) -> Result<PathTree<u32>, AllocError> {
     let mut tree = PathTree::new(alloc);
     let mut value = 0u32;
@@ -25,7 +25,7 @@ fn tree_of(alloc: Global, paths: &[&str]) -> Result<PathTree<u32>, AllocError> {
     Ok(tree)
 }
 
-// Whether the tree has this at the path and at its key, if anything.
+// Returns true if the tree has this value, or none, at the path and at its key.
 fn has_at(
     alloc: Global,
     tree: &PathTree<u32>,
@@ -40,7 +40,8 @@ fn has_at(
     Ok(by_path && by_key && is_known && tree.contains(&key) == want.is_some())
 }
 
-// The tree's paths, a path, and the place of the path among them, from 1, if it is one.
+// The tree's paths, a path, and the position of the path among them, counted from 1, if it is one
+// of them.
 type Row = (&'static [&'static str], &'static [u8], Option<u32>);
 
 static FOUND: [Row; 14] = [
@@ -73,14 +74,14 @@ fn what_is_found(rt: HostRuntime) -> Result<(), Fail> {
     Ok(())
 }
 
-// A path of `len` bytes, whose key has one more.
+// Returns a path of `len` bytes, whose key is one byte longer.
 fn long_name(alloc: Global, len: u32) -> Result<Vec<u8>, AllocError> {
     let mut name = Vec::new(alloc);
     name.resize(len as usize, b'a')?;
     Ok(name)
 }
 
-// Inserts the length of a name at the name.
+// Inserts a name with its length as the value.
 fn insert_name(
     alloc: Global,
     tree: &mut PathTree<u32>,
@@ -90,7 +91,7 @@ fn insert_name(
     tree.insert(Path::from_bytes(&name), len)
 }
 
-// Whether the name has its length in the tree, and no more once it is removed.
+// Returns true if the tree has the name with its length, and no longer has it once it is removed.
 fn is_taken_out(alloc: Global, tree: &mut PathTree<u32>, len: u32) -> Result<bool, AllocError> {
     let name = long_name(alloc, len)?;
     Ok(
@@ -101,7 +102,8 @@ fn is_taken_out(alloc: Global, tree: &mut PathTree<u32>, len: u32) -> Result<boo
     )
 }
 
-// Whether names as long as a key on the stack may be, and one longer, are told apart.
+// Tests that the tree distinguishes names whose keys have one byte less than fits on the stack, as
+// many, and one more.
 #[test]
 fn long_paths_are_found(rt: HostRuntime) -> Result<(), Fail> {
     let mut tree = PathTree::new(rt.alloc());
@@ -115,7 +117,8 @@ fn long_paths_are_found(rt: HostRuntime) -> Result<(), Fail> {
     Ok(())
 }
 
-// Whether 8 stands at `a/b`, is written as 9 and then as 8 by paths, and `./a/b` is absent.
+// Returns true if the value at `a/b` is 8, can be changed to 9 and back to 8 by paths, and `./a/b`
+// is absent.
 fn writes_by_path(tree: &mut PathTree<u32>) -> bool {
     for (path, old, new) in [("a//b", 8u32, 9u32), ("./a/b", 0, 0), ("a/b/.", 9, 8)] {
         match tree.get_mut_path(Path::from_text(path)) {
@@ -127,7 +130,7 @@ fn writes_by_path(tree: &mut PathTree<u32>) -> bool {
     true
 }
 
-// Whether the tree, of `a.b` and `a//b`, has one entry for all spellings of a path.
+// Returns true if the tree, with `a.b` and `a//b`, has one entry for all spellings of a path.
 fn has_one_entry(alloc: Global, tree: &mut PathTree<u32>) -> Result<bool, AllocError> {
     let key = PathKey::from_path(alloc, Path::from_text("a/./b"))?;
     let before = tree.insert(Path::from_text("a/b/"), 7)? == Some(2) && tree.len() == 2;
@@ -149,7 +152,7 @@ fn equal_paths_are_one_entry(rt: HostRuntime) -> Result<(), Fail> {
     Ok(())
 }
 
-// Whether the tree has 3 at `a/b`, 2 at `c`, and no more.
+// Returns true if the tree has 3 at `a/b`, 2 at `c`, and no other entry.
 fn has_both(alloc: Global, tree: &PathTree<u32>) -> Result<bool, AllocError> {
     let is_there = has_at(alloc, tree, b"a/b", Some(3))? && has_at(alloc, tree, b"c", Some(2))?;
     Ok(is_there && tree.len() == 2)

@@ -1,4 +1,4 @@
-//! Calls that allocate, beside those that write to buffers; rows of requests and roots.
+//! Calls that allocate, compared with calls that write to buffers; rows of requests and roots.
 mod bounds;
 mod made;
 mod requests;

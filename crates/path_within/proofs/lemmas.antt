@@ -1,6 +1,6 @@
 -- The lemmas, by subject.
-pub mod kept
-pub mod plain
+pub mod stack
+pub mod names_only
 pub mod below
-pub mod ways
+pub mod relative
 pub mod backward

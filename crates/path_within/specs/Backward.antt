@@ -1,4 +1,5 @@
--- Paths that are resolved from the last part to the first. No public clause cites these words.
+-- Paths that are resolved from the last component to the first. No public clause cites these
+-- definitions.
 use Rattle.std.specs.Prelude.{◌≡◌, ◌<◌, ◌+◌, ◌-◌, ℕ, zero, suc, List, [], ◌∷◌, ◌++◌, drop, length}
 use Rattle.std.specs.Prelude.{map, if◌then◌else◌}
 use Rattle.std.specs.List.{slice_split}
@@ -6,73 +7,75 @@ use Rattle.unix_path.specs.Parts.{Value, CurDir, ParentDir, Normal, counts, is_s
 use Rattle.unix_path.specs.Parts.{value_of_piece, values}
 use Rattle.path_runs.specs.Spelling.{slash_each}
 use Rattle.path_within.specs.Below.{names_below}
-use Rattle.path_within.specs.Resolved.{kept_of}
-use Rattle.path_within.specs.Written.{slashed_len}
-use Rattle.path_within.specs.declared.backward.Last.{Last}
-use Rattle.path_within.specs.declared.backward.Last.TheVariants.{Ups}
-use Rattle.path_within.specs.declared.backward.Last.TheVariants as last
+use Rattle.path_within.specs.Resolved.{resolve_onto}
+use Rattle.path_within.specs.WrittenBytes.{slashed_len}
+use Rattle.path_within.specs.declared.backward.LastResolved.{LastResolved}
+use Rattle.path_within.specs.declared.backward.LastResolved.TheVariants.{ParentDirs}
+use Rattle.path_within.specs.declared.backward.LastResolved.TheVariants as last
 use Rattle.path_within.specs.declared.backward.Piece.{Piece}
-use Rattle.path_within.specs.declared.backward.Piece.TheVariants.{Filler, Name, Up}
+use Rattle.path_within.specs.declared.backward.Piece.TheVariants.{Filler, Name, DotDot}
 
--- how many of these values are `..`
-abbrev pub ups_in : List Value → ℕ
-ups_in [] = zero
-ups_in (ParentDir ∷ vs) = suc (ups_in vs)
-ups_in (v ∷ vs) = ups_in vs
+-- the number of `..` among these components
+abbrev pub parent_dir_count : List Value → ℕ
+parent_dir_count [] = zero
+parent_dir_count (ParentDir ∷ vs) = suc (parent_dir_count vs)
+parent_dir_count (v ∷ vs) = parent_dir_count vs
 
--- how many `..` are left of these values, once each has taken away the name before it
-unfoldable pub ups_left : List Value → ℕ
-ups_left vs = ups_in (kept_of [] vs)
+-- the number of `..` that remain of these components after resolving
+unfoldable pub remaining_parent_dirs : List Value → ℕ
+remaining_parent_dirs vs = parent_dir_count (resolve_onto [] vs)
 
--- the last of the names of these values, at most this many
+-- of the names that remain of these components, the last n, or all if there are fewer
 abbrev pub last_names : ℕ → List Value → List Value
 last_names n vs = drop (length (names_below vs) - n) (names_below vs)
 
--- a piece as a value: filler as a `.`, which adds nothing where it is kept
+-- a piece as a component; filler becomes `.`, which resolving drops
 abbrev pub piece_value : List ℕ → Value
 piece_value bytes = if counts bytes then value_of_piece bytes else CurDir
 
 abbrev pub value_in : Piece → Value
 value_in Filler = CurDir
-value_in Up = ParentDir
+value_in DotDot = ParentDir
 value_in (Name name) = Normal name.bytes.now
 
--- the pieces of a string, as values
+-- the pieces of a string, as components
 abbrev pub piece_values : List ℕ → List Value
 piece_values s = map piece_value (slice_split is_slash s)
 
--- the last name that is left of vs is taken, and ws are the values before it
+-- `name`, the last name that remains of vs, is taken, and ws are the components before it
 pub record TakesName (name : List ℕ) (vs ws : List Value) : Type 0 where
   pub names : names_below vs ≡ names_below ws ++ Normal name ∷ []
-  pub ups : ups_left vs ≡ ups_left ws
+  pub parent_dirs : remaining_parent_dirs vs ≡ remaining_parent_dirs ws
   pub fewer : length ws < length vs
 
--- no name is left of vs, and n times `..`
-pub record HasUps (n : ℕ) (vs : List Value) : Type 0 where
+-- no name remains of vs, and `..` remains n times
+pub record HasParentDirs (n : ℕ) (vs : List Value) : Type 0 where
   pub names : names_below vs ≡ []
-  pub ups : ups_left vs ≡ n
+  pub parent_dirs : remaining_parent_dirs vs ≡ n
 
--- what is taken from the values vs, of which ws are left then
-abbrev pub Takes : Last → List Value → List Value → Type 0
+-- what is taken from the components vs: the last name that remains, so that ws are left, or the
+-- number of `..` if no name remains
+abbrev pub Takes : LastResolved → List Value → List Value → Type 0
 Takes (last.Name name) vs ws = TakesName name.bytes.now vs ws
-Takes (Ups n) vs ws = HasUps n vs
+Takes (ParentDirs n) vs ws = HasParentDirs n vs
 
--- the last `count` of all values are taken, which have `len` bytes with a slash for each, and the
--- others are left
-pub record TakesLast (all left : List Value) (count len : ℕ) : Type 0 where
+-- the last `count` components of `all` are taken, and `rest` remain; `len` is the length of the
+-- taken components, with a slash for each
+pub record TakesLast (all rest : List Value) (count len : ℕ) : Type 0 where
   pub taken : List Value
-  pub all_is : all ≡ left ++ taken
+  pub all_is : all ≡ rest ++ taken
   pub count_is : length taken ≡ count
   pub len_is : len ≡ slashed_len taken
 
--- s and t have the same values, and then those of what they have from `place` on
-pub record ShareFirst (s t : List ℕ) (place : ℕ) : Type 0 where
+-- s and t have the same components up to `index`; the components after them are, for each string,
+-- those of its bytes from `index` on
+pub record SharePrefix (s t : List ℕ) (index : ℕ) : Type 0 where
   pub shared : List Value
-  pub first : values s ≡ shared ++ values (drop place s)
-  pub second : values t ≡ shared ++ values (drop place t)
+  pub first : values s ≡ shared ++ values (drop index s)
+  pub second : values t ≡ shared ++ values (drop index t)
 
--- the bytes of `out` before `end` become these values, each after a slash, and begin at `start`;
--- both places count a slash that is imagined before `out`
+-- these components, each after a slash, overwrite the bytes of `out` from `start` up to `end`, and
+-- `new` is the result; both indices are counted as if there were a slash before `out`
 pub record Puts (vs : List Value) (end : ℕ) (out : List ℕ) (start : ℕ) (new : List ℕ) : Type 0 where
   pub size : start + slashed_len vs ≡ end
   pub bytes : (ws : List Value) → drop end (slash ∷ out) ≡ slash_each ws

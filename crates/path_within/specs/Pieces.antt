@@ -1,9 +1,9 @@
--- The pieces that are left of a path. No public clause cites this word.
+-- The pieces of a path that have not been taken. No public clause cites this definition.
 use Rattle.std.specs.Prelude.{List, [], if◌then◌else◌}
 use Rattle.unix_path.specs.Parts.{Value}
 use Rattle.path_within.specs.Backward.{piece_values}
 use Rattle.path_within.specs.declared.backward.Pieces.{Pieces}
 
--- their values, from the first on
-abbrev pub values_left : Pieces → List Value
-values_left p = if p.is_over then [] else piece_values p.left.now
+-- these pieces as components, from the first to the last
+abbrev pub remaining_values : Pieces → List Value
+remaining_values p = if p.is_exhausted then [] else piece_values p.rest.now

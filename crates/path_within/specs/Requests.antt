@@ -1,4 +1,4 @@
--- What the clauses on requests and roots speak of.
+-- The bytes and names of requests and roots, for clauses.
 use Rattle.std.specs.Prelude.{ℕ, List}
 use Rattle.unix_path.specs.Buffers.{path_bytes}
 use Rattle.unix_path.specs.Parts.{Value, values}
@@ -6,11 +6,11 @@ use Rattle.path_within.specs.Below.{names_below}
 use Rattle.path_within.specs.declared.request.Request.{Request}
 use Rattle.path_within.specs.declared.root.Root.{Root}
 
--- the bytes of a request, as they are spelled
+-- the bytes of a request, verbatim
 abbrev pub request_bytes : Request → List ℕ
 request_bytes r = r.path.bytes.now
 
--- the names that a request stands for
+-- the names that a request represents
 abbrev pub request_names : Request → List Value
 request_names r = names_below (values (request_bytes r))
 

@@ -1,48 +1,50 @@
--- Paths resolved by names alone: each `..` takes away the name before it (as Go's `path.Clean`,
--- which gives `.` if nothing is left).
+-- Paths resolved lexically: each `..` drops the name before it (like Go's `path.Clean`, which
+-- returns `.` where nothing remains). The components that remain so far are a stack: a list that
+-- starts with its top, the last component.
 use Rattle.std.specs.Prelude.{ℕ, List, [], ◌∷◌, reverse, ⊤}
 use Rattle.unix_path.specs.Parts.{Value, RootDir, CurDir, ParentDir, Normal, values}
 use Rattle.path_runs.specs.Spelling.{spelling_of}
 
--- the values kept so far, the last first, after one more `..`: it takes a last name away, is
--- dropped behind the root, and is kept behind another `..` or if nothing else is kept
-abbrev pub up_from : List Value → List Value
-up_from (Normal name ∷ kept) = kept
-up_from (RootDir ∷ kept) = RootDir ∷ kept
-up_from kept = ParentDir ∷ kept
+-- the stack after one more `..`: it drops a name that is on top, is dropped itself if the root is
+-- on top, and otherwise becomes the top
+abbrev pub push_parent_dir : List Value → List Value
+push_parent_dir (Normal name ∷ stack) = stack
+push_parent_dir (RootDir ∷ stack) = RootDir ∷ stack
+push_parent_dir stack = ParentDir ∷ stack
 
--- the values kept so far, the last first, after one more: the root replaces all, `.` is dropped
-abbrev pub keep : List Value → Value → List Value
-keep kept RootDir = RootDir ∷ []
-keep kept CurDir = kept
-keep kept ParentDir = up_from kept
-keep kept (Normal name) = Normal name ∷ kept
+-- the stack after one more component: the root replaces all of it, and `.` is dropped
+abbrev pub push_component : List Value → Value → List Value
+push_component stack RootDir = RootDir ∷ []
+push_component stack CurDir = stack
+push_component stack ParentDir = push_parent_dir stack
+push_component stack (Normal name) = Normal name ∷ stack
 
--- the values kept so far, the last first, after all of these
-abbrev pub kept_of : List Value → List Value → List Value
-kept_of kept [] = kept
-kept_of kept (v ∷ vs) = kept_of (keep kept v) vs
+-- the stack after all these components
+abbrev pub resolve_onto : List Value → List Value → List Value
+resolve_onto stack [] = stack
+resolve_onto stack (v ∷ vs) = resolve_onto (push_component stack v) vs
 
--- the values that are left once each `..` has taken away the name before it
+-- the components that remain after each `..` has dropped the name before it
 unfoldable pub resolved_of : List Value → List Value
-resolved_of vs = reverse (kept_of [] vs)
+resolved_of vs = reverse (resolve_onto [] vs)
 
--- a path's values, resolved and spelled
+-- a path's components, resolved, in canonical form
 abbrev pub resolved_bytes_of : List ℕ → List ℕ
 resolved_bytes_of s = spelling_of (resolved_of (values s))
 
--- all these values are names
-abbrev pub AreNames : List Value → Type 0
-AreNames [] = ⊤
-AreNames (Normal name ∷ vs) = AreNames vs
-AreNames vs = ⊥
+-- all these components are names
+abbrev pub AllNames : List Value → Type 0
+AllNames [] = ⊤
+AllNames (Normal name ∷ vs) = AllNames vs
+AllNames vs = ⊥
 
--- these values are `..` any number of times, and then names
-abbrev pub AreUpsThenNames : List Value → Type 0
-AreUpsThenNames (ParentDir ∷ vs) = AreUpsThenNames vs
-AreUpsThenNames vs = AreNames vs
+-- these components are `..` any number of times, and then names
+abbrev pub ParentDirsThenNames : List Value → Type 0
+ParentDirsThenNames (ParentDir ∷ vs) = ParentDirsThenNames vs
+ParentDirsThenNames vs = AllNames vs
 
--- no value is `.`, no `..` stands behind a name or the root, and a root stands only in front
+-- no component is `.`, no `..` follows a name or the root, and only the first component may be a
+-- root
 abbrev pub IsNormal : List Value → Type 0
-IsNormal (RootDir ∷ vs) = AreNames vs
-IsNormal vs = AreUpsThenNames vs
+IsNormal (RootDir ∷ vs) = AllNames vs
+IsNormal vs = ParentDirsThenNames vs

@@ -1,42 +1,43 @@
-//! A path resolved from its last part to its first, without memory.
+//! Resolves a path from its last component to its first, without allocating.
 ghost use Rattle.std.specs.Prelude.{◌≡◌, ◌≤◌, ◌<◌, ◌+◌, ◌*◌, ◌^◌, ◌∷◌, ◌++◌, ℕ, length, drop};
 ghost use Rattle.std.specs.Prelude.{[], false, replicate, None, IfSome};
 ghost use Rattle.unix_path.specs.Parts.{ParentDir, is_rooted, slash, values, SameValues};
-ghost use Rattle.path_within.specs.Backward.{last_names, piece_value, ups_left, value_in, Puts};
+ghost use Rattle.path_within.specs.Backward.{last_names, piece_value, remaining_parent_dirs};
+ghost use Rattle.path_within.specs.Backward.{value_in, Puts};
 ghost use Rattle.path_within.specs.Backward.{Takes};
 ghost use Rattle.path_within.specs.Below.{names_below};
-ghost use Rattle.path_within.specs.Written.{slashed_len};
+ghost use Rattle.path_within.specs.WrittenBytes.{slashed_len};
 
 use unix_bytes::buffers::write_at;
 use unix_bytes::bytes::UnixStr;
-use unix_bytes::search::past_last;
+use unix_bytes::search::after_last;
 use unix_path::Path;
 
-// What is between two slashes.
+// The bytes between two slashes, classified.
 #[derive(Clone, Copy)]
 pub(crate) enum Piece<'a> {
     // Nothing, or `.`.
     Filler,
     // `..`.
-    Up,
+    DotDot,
     Name(UnixStr<'a>),
 }
 
-// Returns what these bytes are, none of which is a slash.
+// Classifies bytes without a slash.
 #[inline(always)]
-fn read_piece(bytes: &[u8]) -> Piece<'_>
+fn classify_piece(bytes: &[u8]) -> Piece<'_>
     ensures { value_in result ≡ piece_value bytes.now }
 {
     if bytes.is_empty() || bytes == b".".as_slice() {
         return Piece::Filler;
     }
     if bytes == b"..".as_slice() {
-        return Piece::Up;
+        return Piece::DotDot;
     }
     Piece::Name(UnixStr::from_bytes(bytes))
 }
 
-// Returns the path, without the filler after its last part if it ends in a slash or a dot.
+// Returns the path, without the filler after its last component if it ends in a slash or a dot.
 #[inline]
 pub(crate) fn without_filler(path: Path<'_>) -> Path<'_>
     ensures { SameValues result.bytes.now path.entry.bytes.now }
@@ -47,29 +48,32 @@ pub(crate) fn without_filler(path: Path<'_>) -> Path<'_>
     path
 }
 
-// The pieces that are left of a path: those of its bytes up to a slash.
+// The pieces of a path that have not been taken: none if `is_exhausted`, and otherwise the pieces
+// of `rest`.
 #[derive(Clone, Copy)]
 pub(crate) struct Pieces<'a> {
-    left: &'a [u8],
-    // True once the first piece was taken.
-    is_over: bool,
+    rest: &'a [u8],
+    // True after the first piece was taken.
+    is_exhausted: bool,
 }
 
 impl<'a> Pieces<'a> {
-    ghost use Rattle.path_within.specs.Pieces.{values_left};
+    ghost use Rattle.path_within.specs.Pieces.{remaining_values};
 
-    // Returns all pieces of a path.
+    // Returns the pieces of a path, without trailing filler. Resolving these pieces leaves the same
+    // names as resolving the path and, if the path has no root, as many `..`.
     #[inline(always)]
     pub(crate) fn new(path: Path<'a>) -> Pieces<'a>
-        ensures names { names_below (values_left result)
+        ensures names { names_below (remaining_values result)
             ≡ names_below (values path.entry.bytes.now) }
-        ensures ups { is_rooted path.entry.bytes.now ≡ false
-            → ups_left (values_left result) ≡ ups_left (values path.entry.bytes.now) }
-        ensures few { length (values_left result) < 2 ^ 64 }
+        ensures parent_dirs { is_rooted path.entry.bytes.now ≡ false
+            → remaining_parent_dirs (remaining_values result)
+            ≡ remaining_parent_dirs (values path.entry.bytes.now) }
+        ensures few { length (remaining_values result) < 2 ^ 64 }
     {
         Pieces {
-            left: without_filler(path).bytes,
-            is_over: false,
+            rest: without_filler(path).bytes,
+            is_exhausted: false,
         }
     }
 
@@ -77,95 +81,101 @@ impl<'a> Pieces<'a> {
     // registers.
     #[inline(always)]
     fn next_back(&mut self) -> Option<Piece<'a>>
-        ensures none { result ≡ None → values_left self.old ≡ [] }
+        ensures none { result ≡ None → remaining_values self.old ≡ [] }
         ensures some { IfSome result (λ piece.
-            values_left self.old ≡ values_left self.new ++ value_in piece ∷ []) }
+            remaining_values self.old ≡ remaining_values self.new ++ value_in piece ∷ []) }
     {
-        if self.is_over {
+        if self.is_exhausted {
             return None;
         }
-        let bytes = self.left;
-        let start = past_last(bytes, b'/');
-        self.left = &bytes[..start.saturating_sub(1)];
-        self.is_over = start == 0;
-        Some(read_piece(&bytes[start..]))
+        let bytes = self.rest;
+        let start = after_last(bytes, b'/');
+        self.rest = &bytes[..start.saturating_sub(1)];
+        self.is_exhausted = start == 0;
+        Some(classify_piece(&bytes[start..]))
     }
 
-    // Takes the last name that is left once each `..` has taken away the name before it, with all
-    // pieces after that name. Always inlined, as `next_back` is.
+    // Takes the last name that remains after resolving, together with all pieces after it, and
+    // returns this name. If no name remains, returns the number of `..` that remain. Always
+    // inlined, for the same reason as `next_back`.
     #[inline(always)]
-    pub(crate) fn take_last(&mut self) -> Last<'a>
-        requires { length (values_left self.old) < 2 ^ 64 }
-        ensures { Takes result (values_left self.old) (values_left self.new) }
+    pub(crate) fn next_back_resolved(&mut self) -> LastResolved<'a>
+        requires { length (remaining_values self.old) < 2 ^ 64 }
+        ensures { Takes result (remaining_values self.old) (remaining_values self.new) }
     {
-        // How many of the names before are taken away by the `..` after them.
-        let mut ups = 0_usize;
+        // The number of `..` that were taken and have not dropped a name yet.
+        let mut parent_dirs = 0_usize;
         while let Some(piece) = self.next_back() {
             match piece {
                 Piece::Name(name) => {
-                    if ups == 0 {
-                        return Last::Name(name);
+                    if parent_dirs == 0 {
+                        return LastResolved::Name(name);
                     }
-                    ups -= 1;
+                    parent_dirs -= 1;
                 }
-                Piece::Up => ups += 1,
+                Piece::DotDot => parent_dirs += 1,
                 Piece::Filler => {}
             }
         }
-        Last::Ups(ups)
+        LastResolved::ParentDirs(parent_dirs)
     }
 }
 
-// The last part of a resolved path, beside its root.
+// The last name of a resolved path or, if it has no name, the number of its `..`.
 #[derive(Clone, Copy)]
-pub(crate) enum Last<'a> {
+pub(crate) enum LastResolved<'a> {
     // A name.
     Name(UnixStr<'a>),
-    // No name, but `..` this many times.
-    Ups(usize),
+    // There is no name, and `..` is there this many times.
+    ParentDirs(usize),
 }
 
-// What a resolved path consists of, beside a root.
+// The contents of a resolved path, other than its root.
 #[derive(Clone, Copy)]
 pub(crate) struct Counts {
-    // How many `..` are left.
-    pub(crate) ups: usize,
-    // How many names it has.
+    // The number of `..`.
+    pub(crate) parent_dirs: usize,
+    // The number of names.
     pub(crate) names: usize,
-    // How many bytes the names have, with a slash for each.
+    // The length of the names, with a slash for each.
     pub(crate) len: usize,
 }
 
-// Counts what the path consists of once it is resolved.
-pub(crate) fn counted(path: Path<'_>) -> Counts
-    ensures ups { result.ups ≡ ups_left (values path.entry.bytes.now) }
+// Counts the contents of the path after it is resolved.
+pub(crate) fn count_resolved(path: Path<'_>) -> Counts
+    ensures parent_dirs { result.parent_dirs ≡ remaining_parent_dirs (values path.entry.bytes.now) }
     ensures names { result.names ≡ length (names_below (values path.entry.bytes.now)) }
     ensures len { result.len ≡ slashed_len (names_below (values path.entry.bytes.now)) }
     ensures fits { result.len ≤ 1 + length path.entry.bytes.now }
 {
-    let mut left = Pieces::new(path);
+    let mut rest = Pieces::new(path);
     let mut names = 0_usize;
     let mut len = 0_usize;
     loop {
-        match left.take_last() {
-            Last::Name(name) => {
+        match rest.next_back_resolved() {
+            LastResolved::Name(name) => {
                 names += 1;
                 len += 1 + name.bytes.len();
             }
-            Last::Ups(ups) => {
-                let ups = if path.has_root() { 0 } else { ups };
-                return Counts { ups, names, len };
+            LastResolved::ParentDirs(parent_dirs) => {
+                let parent_dirs = if path.has_root() { 0 } else { parent_dirs };
+                return Counts {
+                    parent_dirs,
+                    names,
+                    len,
+                };
             }
         }
     }
 }
 
-// Overwrites the bytes before `end` with a slash and the name, and returns where the slash is.
-// Both places count a slash that is imagined before `out`: the first name's slash is that one.
+// Overwrites the bytes before `end` with a slash and the name. Returns the index of the slash. Both
+// indices are counted as if there were a slash before `out`, at index 0. If the name is written to
+// the beginning of `out`, this is its slash.
 #[inline]
 pub(crate) fn put_before(out: &mut [u8], end: usize, name: &[u8]) -> usize
     requires in_range { end ≤ 1 + length out.old }
-    requires room { 1 + length name.now ≤ end }
+    requires space { 1 + length name.now ≤ end }
     ensures start { result + (1 + length name.now) ≡ end }
     ensures bytes { drop result (slash ∷ out.new) ≡ slash ∷ name.now ++ drop end (slash ∷ out.old) }
 {
@@ -178,30 +188,31 @@ pub(crate) fn put_before(out: &mut [u8], end: usize, name: &[u8]) -> usize
     start
 }
 
-// Overwrites the bytes before `end` with the last `count` names of the path, as it is resolved, and
-// a slash before each. Returns where the first of these slashes is, counted as in `put_before`.
+// Overwrites the bytes before `end` with the last `count` names of the resolved path, and a slash
+// before each. Returns the index of the first of these slashes. Indices are counted as in
+// `put_before`.
 #[inline(never)]
 pub(crate) fn put_names_before(out: &mut [u8], end: usize, path: Path<'_>, count: usize) -> usize
     requires in_range { end ≤ 1 + length out.old }
-    requires room { slashed_len (last_names count (values path.bytes.now)) ≤ end }
+    requires space { slashed_len (last_names count (values path.bytes.now)) ≤ end }
     ensures { Puts (last_names count (values path.entry.bytes.now)) end out.old result out.new }
 {
     let mut end = end;
-    let mut more = count;
-    let mut left = Pieces::new(path);
-    while more > 0 {
-        let Last::Name(name) = left.take_last() else {
+    let mut remaining = count;
+    let mut rest = Pieces::new(path);
+    while remaining > 0 {
+        let LastResolved::Name(name) = rest.next_back_resolved() else {
             return end;
         };
         end = put_before(out, end, name.bytes);
-        more -= 1;
+        remaining -= 1;
     }
     end
 }
 
-// Overwrites the bytes before `end`, counted as in `put_before`, with as many `..` as there is room
-// for, and a slash between two of them.
-pub(crate) fn put_ups_before(out: &mut [u8], end: usize)
+// Overwrites the bytes before `end` with as many `..` as fit, and a slash before each. The index is
+// counted as in `put_before`.
+pub(crate) fn put_parent_dirs_before(out: &mut [u8], end: usize)
     requires { end ≤ 1 + length out.old }
     ensures { (n : ℕ) → end ≡ 3 * n → Puts (replicate n ParentDir) end out.old 0 out.new }
 {

@@ -1,29 +1,29 @@
-//! Tests of a path from outside: whether it climbs, has a `..`, or has a NUL.
+//! Tests of a path from outside: whether it escapes, has a `..`, or has a NUL.
 ghost use Rattle.std.specs.Prelude.{◌≡◌, ◌↔◌, false, true, IsTrue};
 ghost use Rattle.unix_path.specs.Parts.{values};
 ghost use Rattle.unix_path.specs.Views.{value_of};
 ghost use Rattle.path_within.specs.Below.{has_nul};
-ghost use Rattle.path_within.specs.Climbs.{has_root_or_up, is_root_or_up, Climbs};
-ghost use Rattle.path_within.specs.PlainPieces.{is_plain};
-ghost use Rattle.path_within.specs.declared.check.Check.TheVariants.{Plain, Refused};
+ghost use Rattle.path_within.specs.Escapes.{has_root_or_parent_dir, is_root_or_parent_dir, Escapes};
+ghost use Rattle.path_within.specs.NamePieces.{is_names_only};
+ghost use Rattle.path_within.specs.declared.check.Check.TheVariants.{NamesOnly, Refused};
 
-use crate::plain::is_plain;
-use unix_bytes::search::first_place;
+use crate::names_only::is_names_only;
+use unix_bytes::search::find_byte;
 use unix_path::{Component, Path};
 
-// The outcome of a test of a path from outside.
+// The result of a test of a path from outside.
 #[derive(Clone, Copy)]
 pub(crate) enum Check {
-    // The path leaves its root.
+    // The path fails the test.
     Refused,
-    // The path stays, and is plain: its bytes are its names.
-    Plain,
-    // The path stays.
+    // The path passes, and is one of names only.
+    NamesOnly,
+    // The path passes. It may be one of names only.
     Accepted,
 }
 
 impl Check {
-    ghost use Rattle.path_within.specs.declared.check.Check.TheVariants.{Plain, Refused};
+    ghost use Rattle.path_within.specs.declared.check.Check.TheVariants.{NamesOnly, Refused};
 
     #[inline]
     pub(crate) fn is_refused(self) -> bool
@@ -33,29 +33,29 @@ impl Check {
     }
 
     #[inline]
-    pub(crate) fn is_plain(self) -> bool
-        ensures { IsTrue result ↔ (self ≡ Plain) }
+    pub(crate) fn is_names_only(self) -> bool
+        ensures { IsTrue result ↔ (self ≡ NamesOnly) }
     {
-        matches!(self, Check::Plain)
+        matches!(self, Check::NamesOnly)
     }
 }
 
 /// Returns true if a byte is NUL, at which a system call cuts a path.
 ///
-/// Looks at 16 bytes at a time. Does not allocate. Not in Rust's std.
+/// Reads 16 bytes at a time.
 ///
-/// For `a\0.png` it is true; for `a%00.png` it is false.
+/// It is true for `a\0.png`, and false for `a%00.png`.
 #[must_use]
 #[inline]
 pub fn has_nul(bytes: &[u8]) -> bool
     ensures { result ≡ has_nul bytes.now }
 {
-    first_place(bytes, 0) < bytes.len()
+    find_byte(bytes, 0) < bytes.len()
 }
 
-// Returns true if the path climbs. Looks at its parts one by one.
-fn climbs_by_parts(path: Path<'_>) -> bool
-    ensures { IsTrue result ↔ Climbs (values path.entry.bytes.now) }
+// Returns true if the path escapes. Visits its components one by one.
+fn escapes_by_components(path: Path<'_>) -> bool
+    ensures { IsTrue result ↔ Escapes (values path.entry.bytes.now) }
 {
     let mut depth = 0_usize;
     for part in path.components() {
@@ -70,73 +70,75 @@ fn climbs_by_parts(path: Path<'_>) -> bool
     false
 }
 
-// Tests whether the path climbs. The parts of a plain path aren't looked at.
-pub(crate) fn check_climb(path: Path<'_>) -> Check
-    ensures refused { result ≡ Refused ↔ Climbs (values path.entry.bytes.now) }
-    ensures plain { result ≡ Plain → is_plain path.entry.bytes.now ≡ true }
+// Tests whether the path escapes. Does not visit the components of a path of names only.
+pub(crate) fn check_escape(path: Path<'_>) -> Check
+    ensures refused { result ≡ Refused ↔ Escapes (values path.entry.bytes.now) }
+    ensures names_only { result ≡ NamesOnly → is_names_only path.entry.bytes.now ≡ true }
 {
     if path.has_root() {
         return Check::Refused;
     }
-    if is_plain(path) {
-        return Check::Plain;
+    if is_names_only(path) {
+        return Check::NamesOnly;
     }
-    if climbs_by_parts(path) {
+    if escapes_by_components(path) {
         return Check::Refused;
     }
     Check::Accepted
 }
 
-// Returns true if the part is the root or `..`.
+// Returns true if the component is the root or `..`.
 #[inline]
-fn is_root_or_up(part: Component<'_>) -> bool
-    ensures { result ≡ is_root_or_up (value_of part.entry) }
+fn is_root_or_parent_dir(part: Component<'_>) -> bool
+    ensures { result ≡ is_root_or_parent_dir (value_of part.entry) }
 {
     matches!(part, Component::RootDir | Component::ParentDir)
 }
 
-// Tests whether the path has a root or a `..`. The parts of a plain path aren't looked at.
-pub(crate) fn check_up(path: Path<'_>) -> Check
-    ensures refused { result ≡ Refused ↔ (has_root_or_up (values path.entry.bytes.now) ≡ true) }
-    ensures plain { result ≡ Plain → is_plain path.entry.bytes.now ≡ true }
+// Tests whether the path has a root or a `..`. Does not visit the components of a path of names
+// only.
+pub(crate) fn check_parent_dir(path: Path<'_>) -> Check
+    ensures refused { result ≡ Refused
+        ↔ (has_root_or_parent_dir (values path.entry.bytes.now) ≡ true) }
+    ensures names_only { result ≡ NamesOnly → is_names_only path.entry.bytes.now ≡ true }
 {
     if path.has_root() {
         return Check::Refused;
     }
-    if is_plain(path) {
-        return Check::Plain;
+    if is_names_only(path) {
+        return Check::NamesOnly;
     }
     let mut parts = path.components();
-    if parts.any(is_root_or_up) {
+    if parts.any(is_root_or_parent_dir) {
         return Check::Refused;
     }
     Check::Accepted
 }
 
-/// Returns true if the path has a root or climbs: read from the left, it goes above where it starts
-/// at some part, whatever follows.
+/// Returns true if the path escapes: it has a root, or some prefix of its components has more `..`
+/// than names.
 ///
-/// It is lexical: if a part may be a link, only the system knows where a `..` leads. Does not
-/// allocate. Not in Rust's std; the opposite of Go's `filepath.IsLocal`, except that the empty path
-/// doesn't climb.
+/// Purely lexical: if a component may be a symbolic link, only the system knows where a `..` leads.
+/// Go's `filepath.IsLocal` returns the opposite, except that it returns false for the empty path,
+/// which does not escape.
 ///
-/// For `a/../../root/x` and `/a` it is true; for `a/../..foo` it is false.
+/// It is true for `a/../../root/x` and `/a`, and false for `a/../..foo`.
 #[must_use]
-pub fn climbs(path: Path<'_>) -> bool
-    ensures { IsTrue result ↔ Climbs (values path.entry.bytes.now) }
+pub fn escapes(path: Path<'_>) -> bool
+    ensures { IsTrue result ↔ Escapes (values path.entry.bytes.now) }
 {
-    check_climb(path).is_refused()
+    check_escape(path).is_refused()
 }
 
 /// Returns true if the path has a root or any `..`.
 ///
-/// A path that has neither only goes down by its names when it is joined to a root: `join_verbatim`
-/// refuses all others. Does not allocate. Not in Rust's std.
+/// Lexically, a path with neither only goes down from the root that it is joined to.
+/// `join_verbatim` refuses all other paths.
 ///
-/// For `/a` and `a/../b` it is true; for `./a` and `..a` it is false.
+/// It is true for `/a` and `a/../b`, and false for `./a` and `..a`.
 #[must_use]
-pub fn has_root_or_up(path: Path<'_>) -> bool
-    ensures { result ≡ has_root_or_up (values path.entry.bytes.now) }
+pub fn has_root_or_parent_dir(path: Path<'_>) -> bool
+    ensures { result ≡ has_root_or_parent_dir (values path.entry.bytes.now) }
 {
-    check_up(path).is_refused()
+    check_parent_dir(path).is_refused()
 }

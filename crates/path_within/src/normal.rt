@@ -1,16 +1,16 @@
-//! Paths that are resolved as they stand.
+//! Tests for paths that are resolved already.
 ghost use Rattle.std.specs.Prelude.{◌≡◌, ◌↔◌, [], IsTrue};
 ghost use Rattle.std.specs.List.{list_all};
 ghost use Rattle.unix_path.specs.Cursor.{cursor_values};
 ghost use Rattle.unix_path.specs.Views.{value_of};
-ghost use Rattle.path_within.specs.Climbs.{is_name, is_parent};
-ghost use Rattle.path_within.specs.Resolved.{resolved_bytes_of, AreUpsThenNames, IsNormal};
+ghost use Rattle.path_within.specs.Escapes.{is_name, is_parent_dir};
+ghost use Rattle.path_within.specs.Resolved.{resolved_bytes_of, ParentDirsThenNames, IsNormal};
 
-use crate::plain::{begins_plain, is_plain};
+use crate::names_only::{is_names_only, name_starts_at};
 use path_runs::canonical::is_canonical;
 use unix_path::{Component, Components, Path};
 
-// Whether the part is a name.
+// Returns true if the component is a name.
 #[inline]
 fn is_name(part: Component<'_>) -> bool
     ensures { result ≡ is_name (value_of part.entry) }
@@ -18,76 +18,78 @@ fn is_name(part: Component<'_>) -> bool
     matches!(part, Component::Normal(_))
 }
 
-// Whether all these parts are names. If the path that is left is plain, they aren't looked at one
-// by one.
+// Returns true if all these components are names. Does not visit the components of a path of names
+// only.
 #[inline]
 pub(crate) fn are_names(parts: Components<'_>) -> bool
     ensures { result ≡ list_all is_name (cursor_values parts.entry) }
 {
-    let left = parts.as_path();
-    if is_plain(left) {
-        return !left.has_root();
+    let rest = parts.as_path();
+    if is_names_only(rest) {
+        return !rest.has_root();
     }
     let mut parts = parts;
     parts.all(is_name)
 }
 
-// Whether the part is `..`.
+// Returns true if the component is `..`.
 #[inline]
-fn is_up(part: Component<'_>) -> bool
-    ensures { result ≡ is_parent (value_of part.entry) }
+fn is_parent_dir(part: Component<'_>) -> bool
+    ensures { result ≡ is_parent_dir (value_of part.entry) }
 {
     matches!(part, Component::ParentDir)
 }
 
-// Whether these parts are `..`, any number of times, and then names.
-fn are_ups_then_names(parts: Components<'_>) -> bool
-    ensures { IsTrue result ↔ AreUpsThenNames (cursor_values parts.entry) }
+// Returns true if these components are `..`, any number of times, and then names.
+fn are_parent_dirs_then_names(parts: Components<'_>) -> bool
+    ensures { IsTrue result ↔ ParentDirsThenNames (cursor_values parts.entry) }
 {
-    let mut left = parts;
-    while let Some(part) = left.next() {
-        if !is_up(part) {
-            return is_name(part) && are_names(left);
+    let mut rest = parts;
+    while let Some(part) = rest.next() {
+        if !is_parent_dir(part) {
+            return is_name(part) && are_names(rest);
         }
     }
     true
 }
 
-// Whether a root stands only in front, no part is `.`, and no `..` stands behind a name or a root.
+// Returns true if no component after the first is a root, none is `.`, and no `..` follows a name
+// or a root.
 fn is_normal(parts: Components<'_>) -> bool
     ensures { IsTrue result ↔ IsNormal (cursor_values parts.entry) }
 {
-    let mut left = parts;
-    match left.next() {
-        Some(Component::RootDir) => are_names(left),
-        _ => are_ups_then_names(parts),
+    let mut rest = parts;
+    match rest.next() {
+        Some(Component::RootDir) => are_names(rest),
+        _ => are_parent_dirs_then_names(parts),
     }
 }
 
-// Whether the path is resolved as it stands: whether `resolved` gives the same bytes for it. It
-// isn't inlined: its callers ask it of few paths, and stay small.
+// Returns true if the path is resolved already: if `resolved` returns the same bytes for it. Not
+// inlined, so that its callers, which call it for few paths, stay small.
 #[inline(never)]
 pub(crate) fn is_resolved(path: Path<'_>) -> bool
     ensures { IsTrue result
         ↔ (resolved_bytes_of path.entry.bytes.now ≡ path.entry.bytes.now) }
 {
-    // `is_canonical` looks for a gap 16 bytes at a time, so it is asked first.
+    // `is_canonical` looks for a gap 16 bytes at a time, so it is called first.
     is_canonical(path) && is_normal(path.components())
 }
 
-// Returns true only if the path is resolved as it is spelled. Looks at the parts of few paths: of
-// those that begin with no plain piece, or end in a dot that isn't filler.
+// Returns true only if the path is resolved already, and always for the empty path. Visits the
+// components of few paths: only where the first piece is not a name, or the path ends in a dot that
+// is not filler.
 #[inline]
-pub(crate) fn is_spelled_resolved(path: Path<'_>) -> bool
+pub(crate) fn is_known_resolved(path: Path<'_>) -> bool
     ensures resolved { IsTrue result
         → resolved_bytes_of path.entry.bytes.now ≡ path.entry.bytes.now }
     ensures empty { path.entry.bytes.now ≡ [] → IsTrue result }
 {
-    if is_plain(path) {
+    if is_names_only(path) {
         return true;
     }
     let bytes = path.bytes;
-    if !begins_plain(bytes, 0) {
+    if !name_starts_at(bytes, 0) {
         return is_resolved(path);
     }
     bytes.ends_with(b".") && !bytes.ends_with(b"/.") && is_resolved(path)

@@ -5,39 +5,40 @@ ghost use Rattle.std.specs.List.{position_or_len};
 ghost use Rattle.std.specs.Fmt.{padded};
 ghost use Rattle.unix_path.specs.Names.{file_name_of};
 ghost use Rattle.unix_path.specs.Parts.{is_rooted, is_slash, values};
-ghost use Rattle.unix_path.specs.Prefixes.{Begins};
+ghost use Rattle.unix_path.specs.Prefixes.{IsPrefixOf};
 ghost use Rattle.path_runs.specs.Buffer.{buffer_after};
-ghost use Rattle.path_within.specs.Climbs.{Climbs};
-ghost use Rattle.path_within.specs.PlainPieces.{is_plain};
+ghost use Rattle.path_within.specs.Escapes.{Escapes};
+ghost use Rattle.path_within.specs.NamePieces.{is_names_only};
 ghost use Rattle.path_within.specs.Resolved.{resolved_of};
-ghost use Rattle.path_within.specs.Below.{names_below, has_nul, behind_slashes, ends_in_slash};
+ghost use Rattle.path_within.specs.Below.{names_below, has_nul, after_leading_slashes};
+ghost use Rattle.path_within.specs.Below.{ends_in_slash};
 ghost use Rattle.path_within.specs.Below.{below_of, IsBelow};
 
-use crate::backward::{Last, Pieces};
-use crate::check::{check_climb, has_nul};
-use crate::plain::is_plain;
+use crate::backward::{LastResolved, Pieces};
+use crate::check::{check_escape, has_nul};
+use crate::names_only::is_names_only;
 use crate::write::{Layout, Names};
 use std::error::Error;
 use std::fmt;
 use unix_bytes::bytes::UnixStr;
 use unix_path::Path;
 
-/// Why a path is no request.
+/// The reason why a path from outside is refused.
 ///
-/// When it is displayed, its text is padded as any text is. Not in Rust's std.
+/// Displaying it pads the text like any string.
 #[derive(Clone, Copy, Debug, PartialEq, Eq)]
 pub enum RequestError {
     /// The path has a root. It is printed as `path has a root`.
     Rooted,
-    /// The path has no root, and would go above where it starts. It is printed as `path leaves its
-    /// root`.
-    Climbs,
-    /// The path neither has a root nor climbs, and has a NUL byte. It is printed as `path has a NUL
-    /// byte`.
+    /// The path has no root, and a `..` leads above the directory that the path is joined to. It is
+    /// printed as `path leaves its root`.
+    Escapes,
+    /// The path has a NUL byte. `Request::beneath` tests for the other two errors first. It is
+    /// printed as `path has a NUL byte`.
     Nul,
 }
 
-/// The text of each variant, padded by width, precision, fill and alignment. Does not allocate.
+/// Writes the text of the variant, padded and truncated like a `str`.
 ///
 /// `RequestError::Rooted` is printed as `path has a root`.
 impl fmt::Display for RequestError {
@@ -50,7 +51,7 @@ impl fmt::Display for RequestError {
     fn fmt<W: fmt::Write>(&self, f: &mut fmt::Formatter<W>) -> fmt::Result {
         f.pad(match self {
             RequestError::Rooted => "path has a root",
-            RequestError::Climbs => "path leaves its root",
+            RequestError::Escapes => "path leaves its root",
             RequestError::Nul => "path has a NUL byte",
         })
     }
@@ -58,120 +59,124 @@ impl fmt::Display for RequestError {
 
 impl Error for RequestError {}
 
-// How many slashes stand in front.
+// Returns the number of leading slashes.
 #[inline]
-fn slashes_len(bytes: &[u8]) -> usize
+fn leading_slash_count(bytes: &[u8]) -> usize
     ensures value { result ≡ position_or_len (λ b. not (is_slash b)) bytes.now }
     ensures in_range { result ≤ length bytes.now }
 {
-    for (place, byte) in bytes.iter().enumerate() {
+    for (index, byte) in bytes.iter().enumerate() {
         if *byte != b'/' {
-            return place;
+            return index;
         }
     }
     bytes.len()
 }
 
-/// A path from outside that was checked: it stands for names, which go down from any root.
+/// A path from outside that was checked. It represents a list of names, which are safe to append to
+/// any root directory.
 ///
-/// The names are those of the path resolved behind `/`: each `..` takes away the name before it. It
-/// goes by names alone: links are not followed. The path has neither a root nor a NUL. Copying it
-/// copies a view. Not in Rust's std.
+/// The names are those of the path, resolved lexically: each `..` drops the name before it, if
+/// there is one. Symbolic links are not followed. A request borrows the path; copying a request
+/// copies no bytes.
 ///
-/// `a/../b` stands for the name `b`, and `a/..` for no name.
+/// `a/../b` represents the name `b`, and `a/..` no name.
 #[derive(Clone, Copy)]
 pub struct Request<'a> {
     path: Path<'a>,
-    // True only if the path is its names as it is spelled. A join then copies it as one, and looks
-    // at none of its bytes.
-    is_spelled: bool,
+    // If true, the bytes are names with one slash between two of them, so a join copies the path in
+    // one piece, without parsing it. If false, nothing is known.
+    is_verbatim: bool,
     ghost rootless: { is_rooted path.bytes.now ≡ false },
     ghost no_nul: { has_nul path.bytes.now ≡ false },
-    ghost spelled: { IsTrue is_spelled → is_plain path.bytes.now ≡ true },
+    ghost names_verbatim: { IsTrue is_verbatim → is_names_only path.bytes.now ≡ true },
 }
 
 impl<'a> Request<'a> {
     ghost use Rattle.path_within.specs.Layouts.{names_in};
     ghost use Rattle.path_within.specs.Requests.{request_bytes, request_names};
 
-    // The request of a path without a root and a NUL.
+    // Wraps a path that the caller has checked: it has no root and no NUL, and is one of names only
+    // if `is_verbatim`.
     #[inline]
-    pub(crate) fn of_rootless(path: Path<'a>, is_spelled: bool) -> Request<'a>
+    pub(crate) fn from_checked(path: Path<'a>, is_verbatim: bool) -> Request<'a>
         requires rootless { is_rooted path.bytes.now ≡ false }
         requires no_nul { has_nul path.bytes.now ≡ false }
-        requires spelled { IsTrue is_spelled → is_plain path.bytes.now ≡ true }
+        requires names_verbatim { IsTrue is_verbatim → is_names_only path.bytes.now ≡ true }
         ensures { request_bytes result ≡ path.entry.bytes.now }
     {
-        Request { path, is_spelled }
+        Request { path, is_verbatim }
     }
 
-    /// The request of a path that doesn't climb.
+    /// Checks a path from outside that must stay beneath the root to which it will be joined.
     ///
-    /// It stands for the names of the path, resolved. The error is `Rooted` if the path has a root,
-    /// else `Climbs` if it goes above where it starts, else `Nul` if it has a NUL byte; what tells
-    /// one is read before what tells the next. Does not allocate. Not in Rust's std; as Go's
-    /// `filepath.IsLocal`, which refuses the empty path and lets a NUL through.
+    /// The request represents the names of the path, resolved. The path is refused with the first
+    /// error that applies: `Rooted` if it has a root, `Escapes` if some prefix of its components
+    /// has more `..` than names, `Nul` if it has a NUL byte. Go's `filepath.IsLocal` is the same
+    /// test, except that it refuses the empty path and accepts a NUL.
     ///
-    /// For `a//../b` it stands for `b`; `/a`, `a/../..` and `a\0.png` are refused.
+    /// `a//../b` becomes a request that represents `b`. `/a`, `a/../..` and `a\0.png` are refused.
     #[inline]
-    pub fn new(path: Path<'a>) -> Result<Request<'a>, RequestError>
+    pub fn beneath(path: Path<'a>) -> Result<Request<'a>, RequestError>
         ensures rooted { IsErrOf result RequestError.Rooted
             ↔ (is_rooted path.entry.bytes.now ≡ true) }
-        ensures climbs { IsErrOf result RequestError.Climbs
+        ensures escapes { IsErrOf result RequestError.Escapes
             ↔ ((is_rooted path.entry.bytes.now ≡ false)
-            × Climbs (values path.entry.bytes.now)) }
+            × Escapes (values path.entry.bytes.now)) }
         ensures nul { IsErrOf result RequestError.Nul
-            ↔ ((Climbs (values path.entry.bytes.now) → ⊥)
+            ↔ ((Escapes (values path.entry.bytes.now) → ⊥)
             × (has_nul path.entry.bytes.now ≡ true)) }
         ensures bytes { IfOk result (λ r. request_bytes r ≡ path.entry.bytes.now) }
         ensures names { IfOk result (λ r.
             request_names r ≡ resolved_of (values path.entry.bytes.now)) }
     {
-        // The first byte tells a root, before any other is read.
+        // Only the first byte is read, so that a path with a root is refused at once.
         if path.has_root() {
             return Err(RequestError::Rooted);
         }
-        let check = check_climb(path);
+        let check = check_escape(path);
         if check.is_refused() {
-            return Err(RequestError::Climbs);
+            return Err(RequestError::Escapes);
         }
         if has_nul(path.bytes) {
             return Err(RequestError::Nul);
         }
         Ok(Request {
             path,
-            is_spelled: check.is_plain(),
+            is_verbatim: check.is_names_only(),
         })
     }
 
-    /// The request of a path as a root directory reads it: leading slashes are dropped, and a `..`
-    /// at the top stays at the top. It is for the paths of URLs and archives.
+    /// Checks a path from outside that is read as in a chroot: leading slashes are dropped, and a
+    /// `..` at the top stays at the top. It is for the paths of URLs and archives. Percent-encoding
+    /// is not decoded.
     ///
-    /// It stands for the names of the path resolved behind `/`. The error is `Nul` exactly if the
-    /// path has a NUL byte. Does not allocate. Not in Rust's std; as Go's `path.Clean` of the path
-    /// behind a `/`.
+    /// The error is `Nul` if and only if the path has a NUL byte; there is no other error. The
+    /// names are those of Go's `path.Clean` for `/` followed by the path.
     ///
-    /// For `//a/../../b` it stands for `b`, and for `/` for no name.
-    pub fn below(path: Path<'a>) -> Result<Request<'a>, RequestError>
+    /// `//a/../../b` becomes a request that represents `b`, and `/` becomes a request that
+    /// represents no name.
+    pub fn in_root(path: Path<'a>) -> Result<Request<'a>, RequestError>
         ensures rooted { IsErrOf result RequestError.Rooted → ⊥ }
-        ensures climbs { IsErrOf result RequestError.Climbs → ⊥ }
+        ensures escapes { IsErrOf result RequestError.Escapes → ⊥ }
         ensures nul { IsErrOf result RequestError.Nul ↔ (has_nul path.entry.bytes.now ≡ true) }
-        ensures bytes { IfOk result (λ r. request_bytes r ≡ behind_slashes path.entry.bytes.now) }
+        ensures bytes { IfOk result
+            (λ r. request_bytes r ≡ after_leading_slashes path.entry.bytes.now) }
         ensures names { IfOk result (λ r.
             request_names r ≡ names_below (values path.entry.bytes.now)) }
     {
         if has_nul(path.bytes) {
             return Err(RequestError::Nul);
         }
-        let left = Path::from_bytes(&path.bytes[slashes_len(path.bytes)..]);
+        let rest = Path::from_bytes(&path.bytes[leading_slash_count(path.bytes)..]);
         Ok(Request {
-            path: left,
-            is_spelled: is_plain(left),
+            path: rest,
+            is_verbatim: is_names_only(rest),
         })
     }
 
-    /// The path that the request was made of, as it is spelled; for `below` without its leading
-    /// slashes. Does not allocate. Not in Rust's std.
+    /// Returns the path of the request, not resolved. After `in_root` it is without its leading
+    /// slashes, and it may escape: join the request, never this path.
     ///
     /// For the request of `a/../b/` it is `a/../b/`.
     #[must_use]
@@ -184,31 +189,30 @@ impl<'a> Request<'a> {
         self.path
     }
 
-    // True only if the path is its names as it is spelled.
+    // Returns true only if the bytes are names with one slash between two of them.
     #[inline]
-    pub(crate) fn is_spelled(&self) -> bool
-        ensures { IsTrue result → is_plain (request_bytes self.now) ≡ true }
+    pub(crate) fn is_verbatim(&self) -> bool
+        ensures { IsTrue result → is_names_only (request_bytes self.now) ≡ true }
     {
-        self.is_spelled
+        self.is_verbatim
     }
 
-    // Returns the names.
+    // Returns the names that the request represents.
     #[inline]
     fn names(self) -> Names<'a>
         ensures { names_in result ≡ request_names self.entry }
     {
-        Layout::names_of(self.path, self.is_spelled)
+        Layout::names_of(self.path, self.is_verbatim)
     }
 
-    /// Writes the request joined to a root to the beginning of `out`, and returns the length of the
+    /// Writes the request joined to a root to the beginning of `out`. Returns the length of the
     /// join.
     ///
-    /// The join is what `Root::join` returns for `Root::verbatim` of this root: the root's bytes
-    /// verbatim, and after them the request's names, with a `/` between two of them and, where one
-    /// is needed, after the root. The bytes of `out` after it stay as they were. If `out` has no
-    /// room for all of it, nothing is written, and the length that is returned is greater than that
-    /// of `out`. To join to a resolved root, resolve it once before. Does not allocate. Not in
-    /// Rust's std.
+    /// The join is what `Root::join` returns for `Root::verbatim` of this root. The root's bytes
+    /// come first, unchanged; to join to a resolved root, resolve the root once beforehand. The
+    /// names follow, with a `/` between two names, and a `/` before the first name unless the root
+    /// is empty or ends in `/`. If the join fits, the rest of `out` is unchanged. If the join is
+    /// longer than `out`, nothing is written, and its length is still returned.
     ///
     /// Below `/srv/www` the request `a/../b/` is `/srv/www/b`, of 10 bytes.
     pub fn write_below(self, root: Path<'_>, out: &mut [u8]) -> usize
@@ -216,7 +220,7 @@ impl<'a> Request<'a> {
             ≡ buffer_after (below_of root.entry.bytes.now (request_names self.entry)) out.old }
         ensures length { result
             ≡ length (below_of root.entry.bytes.now (request_names self.entry)) }
-        ensures begins { Begins root.entry.bytes.now
+        ensures begins { IsPrefixOf root.entry.bytes.now
             (below_of root.entry.bytes.now (request_names self.entry)) }
         ensures below { IsBelow root.entry.bytes.now
             (below_of root.entry.bytes.now (request_names self.entry)) }
@@ -224,50 +228,76 @@ impl<'a> Request<'a> {
         self.names().write_join(root.bytes, out)
     }
 
-    /// The last of the names. `None` if there is no name. Does not allocate. Not in Rust's std.
+    /// Returns the last of the request's names, or `None` if it has none.
     ///
-    /// For the request of `a/b/..` it is `a`.
+    /// For the request of `a/b/..` it is `a`, while `Path::file_name`, which does not resolve,
+    /// returns `None`.
     #[must_use]
     pub fn file_name(&self) -> Option<UnixStr<'a>>
         ensures { option_map (λ name. name.bytes.now) result
             ≡ file_name_of (request_names self.now) }
     {
-        match Pieces::new(self.path).take_last() {
-            Last::Name(name) => Some(name),
-            Last::Ups(_) => None,
+        match Pieces::new(self.path).next_back_resolved() {
+            LastResolved::Name(name) => Some(name),
+            LastResolved::ParentDirs(_) => None,
         }
     }
 
-    /// Whether there is no name: a join with the request is the root itself. Does not allocate. Not
-    /// in Rust's std.
+    /// Returns true if the request has no names, so that a join with it is the root itself.
     ///
-    /// For the requests of `a/..` and the empty path it is true, and for that of `.foo` false.
+    /// It is true for the requests of `a/..` and the empty path, and false for the request of
+    /// `.foo`.
     #[must_use]
     pub fn is_root(&self) -> bool
         ensures { IsTrue result ↔ (request_names self.now ≡ []) }
     {
-        matches!(Pieces::new(self.path).take_last(), Last::Ups(_))
+        request_is_root(self.path)
     }
 
-    /// Whether a slash or a `/.` stands behind the path's last part, and that is a name. A system
-    /// call takes such a path for one of a directory; a join leaves out what stands behind names.
+    /// Returns true if the path's last component is a name, and a slash or a `/.` follows it. The
+    /// path is not resolved for this.
     ///
-    /// If the path's last part is a `..`, it is false. Does not allocate. Not in Rust's std.
+    /// A system call then requires the name to be a directory. A join drops what follows the names.
     ///
-    /// For the requests of `a/` and `a/.` it is true, and for that of `a` false.
+    /// It is true for the requests of `a/` and `a/.`, and false for the requests of `a` and `a/..`.
     #[must_use]
     pub fn ends_in_slash(&self) -> bool
         ensures { result ≡ ends_in_slash (request_bytes self.now) }
     {
-        let path = self.path;
-        let end = path.components().as_path().as_unix_str().len();
-        path.file_name().is_some() && end < path.as_unix_str().len()
+        ends_in_slash(self.path)
     }
 }
 
-/// The debug form of `as_path`: for the request of `a/b` it is `"a/b"`. Does not allocate.
+/// Writes the debug form of `as_path`. For the request of `a/b` it is `"a/b"`.
 impl fmt::Debug for Request<'_> {
     fn fmt<W: fmt::Write>(&self, f: &mut fmt::Formatter<W>) -> fmt::Result {
         fmt::Debug::fmt(&self.as_path(), f)
     }
+}
+
+/// Returns true if no name remains of the path after it is resolved as in a chroot. If
+/// `Request::in_root` accepts such a path, a join with the request is the root itself.
+/// `Request::beneath` may refuse it. NUL bytes are not looked for.
+///
+/// It is true for `a/..`, `/`, `..` and the empty path, and false for `.foo` and `a/../b`.
+#[must_use]
+pub fn request_is_root(path: Path<'_>) -> bool
+    ensures { IsTrue result ↔ (names_below (values path.entry.bytes.now) ≡ []) }
+{
+    matches!(
+        Pieces::new(path).next_back_resolved(),
+        LastResolved::ParentDirs(_)
+    )
+}
+
+/// Returns true if the path's last component is a name, and a slash or a `/.` follows it.
+///
+/// A system call then requires the name to be a directory. It is not a test for directories: it is
+/// true for `a/` and `a/.`, and false for `a`, `a/..`, `.` and `/`.
+#[must_use]
+pub fn ends_in_slash(path: Path<'_>) -> bool
+    ensures { result ≡ ends_in_slash path.entry.bytes.now }
+{
+    let end = path.components().as_path().as_unix_str().len();
+    path.file_name().is_some() && end < path.as_unix_str().len()
 }

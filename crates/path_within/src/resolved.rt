@@ -1,60 +1,60 @@
-//! Paths resolved lexically: each `..` takes away the name before it.
+//! Paths resolved lexically: each `..` drops the name before it.
 ghost use Rattle.std.specs.Prelude.{◌≡◌, [], length, IfOk, IsOk};
 ghost use Rattle.unix_path.specs.Buffers.{path_bytes};
 ghost use Rattle.unix_path.specs.Parts.{values};
 ghost use Rattle.path_runs.specs.Buffer.{buffer_after};
 ghost use Rattle.path_within.specs.Resolved.{resolved_bytes_of};
 
-use crate::normal::is_spelled_resolved;
+use crate::normal::is_known_resolved;
 use crate::write::Layout;
 use std::alloc::{AllocError, Global};
 use unix_bytes::buffers::write_at;
 use unix_path::{Path, PathBuf};
 
-// Returns the path resolved lexically. Not inlined, so that callers whose path mostly is resolved
-// as it is spelled stay small.
+// Returns the path resolved lexically. Not inlined, so that its callers, whose paths are mostly
+// resolved already, stay small.
 #[inline(never)]
-fn resolved_anew(alloc: Global, path: Path<'_>) -> Result<PathBuf, AllocError>
+fn resolve_to_path_buf(alloc: Global, path: Path<'_>) -> Result<PathBuf, AllocError>
     ensures bytes { IfOk result (λ p. path_bytes p ≡ resolved_bytes_of path.entry.bytes.now) }
     ensures succeeds { path.entry.bytes.now ≡ [] → IsOk result }
 {
     Layout::of(path).to_path_buf(alloc)
 }
 
-/// Returns the path resolved lexically, in canonical spelling: each `..` takes away the name before
-/// it.
+/// Returns the path resolved lexically, in canonical form: each `..` drops the name before it.
 ///
-/// Each `.` goes too, and so does a `..` after the root. Without a root, a `..` with no name before
-/// it stays at the beginning.
+/// Each `.` is dropped too, and so is each `..` after the root. Without a root, a `..` with no name
+/// before it stays at the beginning. The empty path is the current directory. Go's `path.Clean`
+/// returns the same, except that it returns `.` where this function returns the empty path.
 ///
-/// It is lexical: if a part before a `..` may be a link, only the system knows where that `..`
-/// leads. The empty path is the current directory. Allocates the result, once, or nothing if it is
-/// empty; fails if the allocation fails, and never for the empty path. Not in Rust's std; as Go's
-/// `path.Clean`, which returns `.` where this returns the empty path.
+/// Purely lexical: if a component before a `..` may be a symbolic link, only the system knows where
+/// that `..` leads. The result is allocated once; an empty one allocates nothing. Fails if the
+/// allocation fails, and never for the empty path.
 ///
-/// For `a/../..//b/.` it is `../b`, for `/../a` it is `/a`, and for `a/..` the empty path.
+/// `a/../..//b/.` resolves to `../b`, `/../a` to `/a`, and `a/..` to the empty path.
 pub fn resolved(alloc: Global, path: Path<'_>) -> Result<PathBuf, AllocError>
     ensures bytes { IfOk result (λ p. path_bytes p ≡ resolved_bytes_of path.entry.bytes.now) }
     ensures succeeds { path.entry.bytes.now ≡ [] → IsOk result }
 {
-    if is_spelled_resolved(path) {
+    if is_known_resolved(path) {
         return path.to_path_buf(alloc);
     }
-    resolved_anew(alloc, path)
+    resolve_to_path_buf(alloc, path)
 }
 
-/// Writes the path resolved lexically to the beginning of `out`, and returns its length.
+/// Writes the path resolved lexically to the beginning of `out`. Returns the length of the resolved
+/// path.
 ///
-/// It is what `resolved` returns, and never longer than the path. The bytes of `out` after it stay
-/// as they were. If `out` has no room for all of it, nothing is written, and the length that is
-/// returned is greater than that of `out`. Does not allocate. Not in Rust's std.
+/// The resolved path is what `resolved` returns, and is never longer than the path. If it fits, the
+/// rest of `out` is unchanged. If it is longer than `out`, nothing is written, and its length is
+/// still returned.
 ///
-/// For `a/../..//b/.` it is `../b`, of 4 bytes.
+/// `a/../..//b/.` resolves to `../b`, of 4 bytes.
 pub fn write_resolved(path: Path<'_>, out: &mut [u8]) -> usize
     ensures out { out.new ≡ buffer_after (resolved_bytes_of path.entry.bytes.now) out.old }
     ensures length { result ≡ length (resolved_bytes_of path.entry.bytes.now) }
 {
-    if !is_spelled_resolved(path) {
+    if !is_known_resolved(path) {
         return Layout::of(path).write(out);
     }
     let bytes = path.bytes;

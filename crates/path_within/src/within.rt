@@ -4,28 +4,28 @@ ghost use Rattle.std.specs.Fmt.{padded};
 ghost use Rattle.unix_path.specs.Buffers.{path_bytes};
 ghost use Rattle.unix_path.specs.Joins.{join_of};
 ghost use Rattle.unix_path.specs.Parts.{values};
-ghost use Rattle.unix_path.specs.Prefixes.{Begins};
+ghost use Rattle.unix_path.specs.Prefixes.{IsPrefixOf};
 ghost use Rattle.path_within.specs.Below.{has_nul};
-ghost use Rattle.path_within.specs.Climbs.{Climbs, has_root_or_up};
+ghost use Rattle.path_within.specs.Escapes.{Escapes, has_root_or_parent_dir};
 ghost use Rattle.path_within.specs.Resolved.{resolved_bytes_of};
 
-use crate::check::{check_climb, has_nul};
-pub use crate::check::{climbs, has_root_or_up};
+use crate::check::{check_escape, has_nul};
+pub use crate::check::{escapes, has_root_or_parent_dir};
 use crate::laws;
-use crate::plain::is_plain;
+use crate::names_only::is_names_only;
 use crate::write::Layout;
 use std::alloc::{AllocError, Global};
 use std::error::Error;
 use std::fmt;
 use unix_path::{Path, PathBuf};
 
-/// Why a request couldn't be joined to its root.
+/// The error of a join of a request to its root.
 ///
-/// When it is displayed, its text is padded as any text is. Not in Rust's std.
+/// Displaying it pads the text like any string.
 #[derive(Debug, Drop)]
 pub enum WithinError {
-    /// The request would leave the root or, for `join_verbatim`, has a root or a `..`. It is
-    /// printed as `path leaves its root`.
+    /// The request escapes or, for `join_verbatim`, has a root or a `..`. It is printed as
+    /// `path leaves its root`.
     Escapes,
     /// The request of `join_verbatim` has neither a root nor a `..`, and has a NUL byte. It is
     /// printed as `path has a NUL byte`.
@@ -34,7 +34,7 @@ pub enum WithinError {
     Memory(AllocError),
 }
 
-/// The text of each variant, padded by width, precision, fill and alignment. Does not allocate.
+/// Writes the text of the variant, padded and truncated like a `str`.
 ///
 /// `WithinError::Escapes` is printed as `path leaves its root`.
 impl fmt::Display for WithinError {
@@ -55,9 +55,9 @@ impl fmt::Display for WithinError {
 
 impl Error for WithinError {}
 
-/// `Memory`, with the error of the allocation. Does not allocate.
+/// Returns `Memory`, with the error of the allocation.
 ///
-/// With it `?` works on a `Path::join` in a function whose error is a `WithinError`.
+/// It makes `?` work on a `Path::join` in a function whose error is a `WithinError`.
 impl From<AllocError> for WithinError {
     ghost use Rattle.path_within.specs.declared.within.WithinError.TheVariants.{Memory};
 
@@ -68,78 +68,82 @@ impl From<AllocError> for WithinError {
     }
 }
 
-/// The request joined to the root and resolved: a path that stays under the resolved root.
+/// Returns the request joined to the root, resolved: a path that starts with the resolved root.
 ///
-/// The error is `Escapes` exactly if the request climbs, before anything is allocated, and `Memory`
-/// if the allocation fails. A trailing slash of the request is dropped, and the answer may be the
-/// root itself. A request with a leading slash is refused: for paths of URLs use `Request::below`.
-/// It is lexical: if a part of the root or of the request may be a link, use `join_verbatim` and
-/// let the system refuse links. Allocates the join, once, or nothing if it is empty. Not in Rust's
-/// std.
+/// The error is `Escapes` if and only if the request escapes; nothing has been allocated then. The
+/// error is `Memory` if the allocation fails. A trailing slash of the request is dropped, and the
+/// result may be the root itself. A request with a leading slash is refused; for paths of URLs use
+/// `Request::in_root`. The join is allocated once; an empty join allocates nothing.
 ///
-/// A request with a NUL byte isn't refused, and `..\0` is a name. A system call reads a path only
-/// up to its first NUL, so it may read the answer as the root's parent: it reads `/srv/..\0/a`, the
-/// answer for `/srv` and `..\0/a`, as `/srv/..`. `Request::new` and `Request::below` refuse a NUL,
-/// and `has_nul` finds one.
+/// Purely lexical: if a component of the root or of the request may be a symbolic link, use
+/// `join_verbatim` and let the system refuse links.
 ///
-/// `/srv/www` with `a/../b` is `/srv/www/b`, and with `a/../../x` it is refused.
+/// A request with a NUL byte is not refused, and `..\0` is a name. A system call reads a path only
+/// up to its first NUL, so it may read the result as the root's parent. For `/srv` and `..\0/a` the
+/// result is `/srv/..\0/a`, which a system call reads as `/srv/..`. `Request::beneath` and
+/// `Request::in_root` refuse a NUL, and `has_nul` finds one.
+///
+/// `/srv/www` with `a/../b` is `/srv/www/b`. With `a/../../x` it is refused.
 pub fn join_within(alloc: Global, root: Path<'_>, request: Path<'_>) -> Result<PathBuf, WithinError>
     ensures escapes { IsErrOf result WithinError.Escapes
-        ↔ Climbs (values request.entry.bytes.now) }
+        ↔ Escapes (values request.entry.bytes.now) }
     ensures nul { IsErrOf result WithinError.Nul → ⊥ }
     ensures bytes { IfOk result (λ p. path_bytes p
         ≡ resolved_bytes_of (join_of root.entry.bytes.now request.entry.bytes.now)) }
-    ensures within { IfOk result (λ p. Begins (values (resolved_bytes_of root.entry.bytes.now))
+    ensures within { IfOk result (λ p. IsPrefixOf (values (resolved_bytes_of root.entry.bytes.now))
         (values (path_bytes p))) }
 {
-    let check = check_climb(request);
+    let check = check_escape(request);
     if check.is_refused() {
         return Err(WithinError::Escapes);
     }
-    let is_request_plain = check.is_plain();
-    if is_request_plain && is_plain(root) {
-        // The join is resolved as it is spelled.
+    let is_request_names_only = check.is_names_only();
+    if is_request_names_only && is_names_only(root) {
+        // The join is resolved already.
         return Ok(root.join(alloc, request)?);
     }
-    let names = Layout::names_of(request, is_request_plain);
+    let names = Layout::names_of(request, is_request_names_only);
     let layout = Layout::of(root).with(names);
     Ok(layout.to_path_buf(alloc)?)
 }
 
-/// The request joined to the root, both verbatim, if the request has no root, no `..` and no NUL.
+/// Returns the request joined to the root, both verbatim, if the request has no root, no `..` and
+/// no NUL.
 ///
-/// It is for roots that may be or contain links: the request only goes down by its names, and each
-/// `..` of the root stays. The error is `Escapes` if and only if the request has a root or any
-/// `..`; otherwise it is `Nul` if and only if the request has a NUL byte, at which a system call
-/// would cut the join. Both come before anything is allocated. The error is `Memory` if the
-/// allocation fails. A trailing slash of the request stays, the root may have a NUL, and the answer
-/// may be the root itself, with a trailing slash. A request with a leading slash is refused: for
-/// paths of URLs use `Request::below`. Allocates once, as many bytes as the join has, or not at all
-/// if both are empty; then it succeeds. Not in Rust's std.
+/// It is for a root that is a symbolic link or may contain some: each `..` of the root stays.
+/// Lexically, the request only goes down from the root. A link below the root is followed wherever
+/// it leads. The root may contain a NUL. A trailing slash of the request stays, and the result may
+/// be the root itself, with a trailing slash. A request with a leading slash is refused; for paths
+/// of URLs use `Request::in_root`.
 ///
-/// `/srv/../www` with `./a` is `/srv/../www/./a`, and with `a/../b` or `..\0/a` it is refused.
+/// The error is `Escapes` if and only if the request has a root or any `..`. Otherwise it is `Nul`
+/// if and only if the request has a NUL byte, at which a system call would cut the join. Nothing
+/// has been allocated in either case. The error is `Memory` if the allocation fails. Allocates
+/// once, as many bytes as the join has. If both paths are empty, it allocates nothing and succeeds.
+///
+/// `/srv/../www` with `./a` is `/srv/../www/./a`. With `a/../b` or `..\0/a` it is refused.
 pub fn join_verbatim(
     alloc: Global,
     root: Path<'_>,
     request: Path<'_>,
 ) -> Result<PathBuf, WithinError>
     ensures escapes { IsErrOf result WithinError.Escapes
-        ↔ (has_root_or_up (values request.entry.bytes.now) ≡ true) }
+        ↔ (has_root_or_parent_dir (values request.entry.bytes.now) ≡ true) }
     ensures nul { IsErrOf result WithinError.Nul
-        ↔ ((has_root_or_up (values request.entry.bytes.now) ≡ false)
+        ↔ ((has_root_or_parent_dir (values request.entry.bytes.now) ≡ false)
         × (has_nul request.entry.bytes.now ≡ true)) }
     ensures bytes { IfOk result (λ p. path_bytes p
         ≡ join_of root.entry.bytes.now request.entry.bytes.now) }
-    ensures within { IfOk result (λ p. Begins (values root.entry.bytes.now)
+    ensures within { IfOk result (λ p. IsPrefixOf (values root.entry.bytes.now)
         (values (path_bytes p))) }
     ensures succeeds { root.entry.bytes.now ≡ [] → request.entry.bytes.now ≡ [] → IsOk result }
 {
-    if has_root_or_up(request) {
+    if has_root_or_parent_dir(request) {
         return Err(WithinError::Escapes);
     }
     if has_nul(request.bytes) {
         return Err(WithinError::Nul);
     }
-    laws::plain_stays_within();
+    laws::verbatim_stays_within();
     Ok(root.join(alloc, request)?)
 }

@@ -1,4 +1,4 @@
-//! Resolved paths and joins, written from the last byte to the first into memory of their size.
+//! Resolved paths and joins, written from the last byte to the first into memory of their length.
 ghost use Rattle.std.specs.Prelude.{◌≡◌, ◌≤◌, ◌+◌, ◌-◌, ◌^◌, ◌++◌, ℕ, true, false};
 ghost use Rattle.std.specs.Prelude.{[], length, min, replicate, IfOk, IsOk, IsTrue};
 ghost use Rattle.unix_path.specs.Buffers.{path_bytes};
@@ -8,47 +8,49 @@ ghost use Rattle.path_runs.specs.Spelling.{slashed_bytes, spelling_of};
 ghost use Rattle.path_within.specs.Backward.{last_names, Puts};
 ghost use Rattle.path_within.specs.Below.{below_of, names_below};
 ghost use Rattle.path_within.specs.Resolved.{resolved_of};
-ghost use Rattle.path_within.specs.Written.{slashed_len, AreSpelled, StandsFor};
+ghost use Rattle.path_within.specs.WrittenBytes.{slashed_len, AreVerbatim, RepresentsNames};
 
-use crate::backward::{counted, put_before, put_names_before, put_ups_before, without_filler};
-use crate::plain::is_plain;
+use crate::backward::{
+    count_resolved, put_before, put_names_before, put_parent_dirs_before, without_filler,
+};
+use crate::names_only::is_names_only;
 use std::alloc::{AllocError, Global};
 use unix_bytes::buffers::write_at;
 use unix_bytes::bytes::UnixString;
-use unix_path::filler::past_filler;
-use unix_path::lasts::is_open;
+use unix_path::filler::after_filler;
+use unix_path::path_end::needs_no_separator;
 use unix_path::{Path, PathBuf};
 
-// The last names of a path, as it is resolved.
+// The last names of a path, after it is resolved.
 #[derive(Clone, Copy)]
 pub(crate) struct Names<'a> {
     path: Path<'a>,
-    // At most how many names.
+    // An upper bound on the number of names.
     count: usize,
-    // How many bytes they have, with a slash for each.
+    // The length of the names, with a slash for each.
     pub(crate) len: usize,
-    // True only if the path's bytes are these names. A join then copies them at once.
-    is_spelled: bool,
+    // True only if the path's bytes are these names. A join then copies them in one piece.
+    is_verbatim: bool,
     ghost len_is: { len ≡ slashed_len (last_names count (values path.bytes.now)) },
     ghost fits: { len ≤ 2 ^ 63 },
-    ghost spelled: { IsTrue is_spelled
-        → AreSpelled path.bytes.now (last_names count (values path.bytes.now)) },
+    ghost verbatim: { IsTrue is_verbatim
+        → AreVerbatim path.bytes.now (last_names count (values path.bytes.now)) },
 }
 
-// Returns the path without a root, and without the filler before and after its parts.
+// Returns the path without its root or leading `.`, and without filler at both ends.
 #[inline]
 fn trimmed(path: Path<'_>) -> Path<'_>
-    ensures stands { StandsFor result.bytes.now path.entry.bytes.now }
+    ensures represents_names { RepresentsNames result.bytes.now path.entry.bytes.now }
     ensures resolved { is_rooted path.entry.bytes.now ≡ false
         → resolved_of (values result.bytes.now) ≡ resolved_of (values path.entry.bytes.now) }
 {
-    Path::from_bytes(past_filler(without_filler(path).bytes))
+    Path::from_bytes(after_filler(without_filler(path).bytes))
 }
 
 impl<'a> Names<'a> {
     ghost use Rattle.path_within.specs.Layouts.{names_in};
 
-    // Returns no name.
+    // Returns an empty list of names.
     #[inline]
     pub(crate) fn none() -> Names<'a>
         ensures { names_in result ≡ [] }
@@ -57,25 +59,25 @@ impl<'a> Names<'a> {
             path: Path::from_bytes(b""),
             count: 0,
             len: 0,
-            is_spelled: false,
+            is_verbatim: false,
         }
     }
 
     // Returns the names of a path whose bytes are its names.
     #[inline]
-    fn spelled(path: Path<'a>) -> Names<'a>
-        requires { AreSpelled path.bytes.now (names_below (values path.bytes.now)) }
+    fn verbatim(path: Path<'a>) -> Names<'a>
+        requires { AreVerbatim path.bytes.now (names_below (values path.bytes.now)) }
         ensures { names_in result ≡ names_below (values path.entry.bytes.now) }
     {
         Names {
             path,
             count: usize::MAX,
             len: 1 + path.bytes.len(),
-            is_spelled: true,
+            is_verbatim: true,
         }
     }
 
-    // Returns the last names of a path, at most `count` of them, which have `len` bytes, with a
+    // Returns the last names of a path, at most `count` of them. `len` is their length, with a
     // slash for each.
     #[inline]
     pub(crate) fn last(path: Path<'a>, count: usize, len: usize) -> Names<'a>
@@ -86,19 +88,20 @@ impl<'a> Names<'a> {
             path,
             count,
             len,
-            is_spelled: false,
+            is_verbatim: false,
         }
     }
 
-    // Overwrites the bytes before `end`, counted as in `put_before`, with the names and a slash
-    // before each. Returns where the first of these slashes is.
+    // Overwrites the bytes before `end` with the names and a slash before each. Returns the index
+    // of the first of these slashes. Both indices are counted as if there were a slash before
+    // `out`, at index 0.
     #[inline(always)]
     pub(crate) fn put_before(&self, out: &mut [u8], end: usize) -> usize
         requires in_range { end ≤ 1 + length out.old }
-        requires room { self.now.len ≤ end }
+        requires space { self.now.len ≤ end }
         ensures { Puts (names_in self.now) end out.old result out.new }
     {
-        if self.is_spelled {
+        if self.is_verbatim {
             return put_before(out, end, self.path.bytes);
         }
         if self.len == 0 {
@@ -107,7 +110,7 @@ impl<'a> Names<'a> {
         put_names_before(out, end, self.path, self.count)
     }
 
-    // Returns the length of a join: the root, and these names after it.
+    // Returns the length of a join: the root, and then these names.
     #[inline]
     fn joined_len(&self, root: &[u8]) -> usize
         ensures { result ≡ length (below_of root.now (names_in self.now)) }
@@ -115,22 +118,22 @@ impl<'a> Names<'a> {
         if self.len == 0 {
             return root.len();
         }
-        root.len() + self.len - usize::from(is_open(root))
+        root.len() + self.len - usize::from(needs_no_separator(root))
     }
 
-    // Writes a join over all of `out`, which has just the room.
+    // Writes a join over all of `out`, which has the join's length.
     #[inline]
     fn fill_join(&self, root: &[u8], out: &mut [u8])
         requires { length out.old ≡ length (below_of root.now (names_in self.now)) }
         ensures { out.new ≡ below_of root.now (names_in self.now) }
     {
-        // The slash before the first name is written too, or is the root's last byte.
+        // The slash before the first name is written too; it may be the root's last byte.
         self.put_before(out, 1 + out.len());
         write_at(out, 0, root);
     }
 
-    // Writes a join to the beginning of `out` if it has room for all of it: the root, and these
-    // names after it. Returns its length.
+    // Writes a join, the root and then these names, to the beginning of `out` if all of it fits.
+    // Returns its length either way.
     #[inline(always)]
     pub(crate) fn write_join(&self, root: &[u8], out: &mut [u8]) -> usize
         ensures out { out.new ≡ buffer_after (below_of root.now (names_in self.now)) out.old }
@@ -148,30 +151,30 @@ impl<'a> Names<'a> {
 #[derive(Clone, Copy)]
 pub(crate) struct Layout<'a> {
     has_root: bool,
-    // How many `..`, unless it has a root.
-    ups: usize,
+    // The number of `..`. Ignored if there is a root.
+    parent_dirs: usize,
     names: Names<'a>,
-    // The names after these.
+    // More names, after `names`.
     more: Names<'a>,
 }
 
 impl<'a> Layout<'a> {
     ghost use Rattle.path_within.specs.Layouts.{layout_names, layout_values, names_in};
 
-    // Returns the layout of `..`, this many times, and then these names.
+    // Returns the layout of `..`, `parent_dirs` times, and then these names.
     #[inline]
-    pub(crate) fn after_ups(ups: usize, names: Names<'a>) -> Layout<'a>
-        ensures { layout_values result ≡ replicate ups ParentDir ++ names_in names.entry }
+    pub(crate) fn after_parent_dirs(parent_dirs: usize, names: Names<'a>) -> Layout<'a>
+        ensures { layout_values result ≡ replicate parent_dirs ParentDir ++ names_in names.entry }
     {
         Layout {
             has_root: false,
-            ups,
+            parent_dirs,
             names,
             more: Names::none(),
         }
     }
 
-    // Returns the layout of a path once it is resolved.
+    // Returns the layout of a path after it is resolved.
     #[inline(always)]
     pub(crate) fn of(path: Path<'a>) -> Layout<'a>
         ensures values { layout_values result ≡ resolved_of (values path.entry.bytes.now) }
@@ -179,47 +182,47 @@ impl<'a> Layout<'a> {
         ensures more { names_in result.more ≡ [] }
     {
         let has_root = path.has_root();
-        let left = trimmed(path);
-        if is_plain(left) {
+        let trimmed_path = trimmed(path);
+        if is_names_only(trimmed_path) {
             return Layout {
                 has_root,
-                ups: 0,
-                names: Names::spelled(left),
+                parent_dirs: 0,
+                names: Names::verbatim(trimmed_path),
                 more: Names::none(),
             };
         }
-        let counts = counted(path);
+        let counts = count_resolved(path);
         Layout {
             has_root,
-            ups: counts.ups,
+            parent_dirs: counts.parent_dirs,
             names: Names::last(path, counts.names, counts.len),
             more: Names::none(),
         }
     }
 
-    // Returns the names of a path. Not inlined, so that callers whose path mostly is its names stay
-    // small.
+    // Returns the names of a path. Not inlined, so that its callers stay small. Few of their paths
+    // need it: the bytes of most are their names.
     #[inline(never)]
-    pub(crate) fn names_found(path: Path<'a>) -> Names<'a>
+    pub(crate) fn resolve_names(path: Path<'a>) -> Names<'a>
         ensures { names_in result ≡ names_below (values path.entry.bytes.now) }
     {
         Layout::of(path).names
     }
 
-    // Returns the names of a path, whose bytes may be known to be these.
+    // Returns the names of a path. If `are_verbatim`, the path's bytes are these names.
     #[inline]
-    pub(crate) fn names_of(path: Path<'a>, are_spelled: bool) -> Names<'a>
-        requires { IsTrue are_spelled
-            → AreSpelled path.bytes.now (names_below (values path.bytes.now)) }
+    pub(crate) fn names_of(path: Path<'a>, are_verbatim: bool) -> Names<'a>
+        requires { IsTrue are_verbatim
+            → AreVerbatim path.bytes.now (names_below (values path.bytes.now)) }
         ensures { names_in result ≡ names_below (values path.entry.bytes.now) }
     {
-        if are_spelled {
-            return Names::spelled(path);
+        if are_verbatim {
+            return Names::verbatim(path);
         }
-        Layout::names_found(path)
+        Layout::resolve_names(path)
     }
 
-    // Returns the layout with these names in the place of none after its own.
+    // Returns this layout with more names after its own. Its own `more` has to be empty.
     #[inline]
     pub(crate) fn with(self, more: Names<'a>) -> Layout<'a>
         requires { names_in self.more ≡ [] }
@@ -228,7 +231,7 @@ impl<'a> Layout<'a> {
         Layout { more, ..self }
     }
 
-    // Returns the length of the path, or `usize::MAX` if it is longer.
+    // Returns the length of the path, or `usize::MAX` if it is greater.
     #[inline(always)]
     pub(crate) fn len(&self) -> usize
         ensures { result ≡ min (2 ^ 64 - 1) (length (spelling_of (layout_values self.now))) }
@@ -237,9 +240,11 @@ impl<'a> Layout<'a> {
         if self.has_root {
             return names_len.saturating_add(more_len).max(1);
         }
-        if self.ups > 0 {
-            let ups_len = (self.ups - 1).saturating_mul(3).saturating_add(2);
-            return ups_len.saturating_add(names_len).saturating_add(more_len);
+        if self.parent_dirs > 0 {
+            let parent_dirs_len = (self.parent_dirs - 1).saturating_mul(3).saturating_add(2);
+            return parent_dirs_len
+                .saturating_add(names_len)
+                .saturating_add(more_len);
         }
         if names_len > 0 {
             return (names_len - 1).saturating_add(more_len);
@@ -247,8 +252,7 @@ impl<'a> Layout<'a> {
         more_len.saturating_sub(1)
     }
 
-    // Writes what follows the root over all of `out`: the names, and `..` before them for which
-    // there is room.
+    // Fills `out` with what follows the root: the names, and before them as many `..` as fit.
     #[inline(always)]
     fn fill_after_root(&self, out: &mut [u8])
         requires { self.now.names.len + self.now.more.len ≤ 1 + length out.old }
@@ -258,10 +262,10 @@ impl<'a> Layout<'a> {
     {
         let end = self.more.put_before(out, 1 + out.len());
         let end = self.names.put_before(out, end);
-        put_ups_before(out, end);
+        put_parent_dirs_before(out, end);
     }
 
-    // Writes the path over all of `out`, which has just the room.
+    // Writes the path over all of `out`, which has the path's length.
     #[inline(always)]
     pub(crate) fn fill(&self, out: &mut [u8])
         requires { length out.old ≡ length (spelling_of (layout_values self.now)) }
@@ -275,7 +279,8 @@ impl<'a> Layout<'a> {
         }
     }
 
-    // Writes the path to the beginning of `out` if it has room for all of it. Returns its length.
+    // Writes the path to the beginning of `out` if all of it fits. Returns its length either way,
+    // or `usize::MAX` if it is greater.
     #[inline(always)]
     pub(crate) fn write(&self, out: &mut [u8]) -> usize
         ensures out { out.new ≡ buffer_after (spelling_of (layout_values self.now)) out.old }
@@ -289,7 +294,7 @@ impl<'a> Layout<'a> {
         len
     }
 
-    // Returns the path in memory of its length. Doesn't allocate for the empty path.
+    // Returns the path in memory of its length. The empty path allocates nothing.
     pub(crate) fn to_path_buf(&self, alloc: Global) -> Result<PathBuf, AllocError>
         ensures bytes { IfOk result (λ p.
             path_bytes p ≡ spelling_of (layout_values self.now)) }

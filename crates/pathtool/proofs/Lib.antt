@@ -1,4 +1,4 @@
 -- Attributes name their lemmas by whole paths.
 pub mod LineLemmas
-pub mod SayLemmas
+pub mod AddLemmas
 mod lemmas

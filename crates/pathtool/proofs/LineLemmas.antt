@@ -11,7 +11,8 @@ without_empty_last-cons : (line x : List ℕ) (xs : List (List ℕ))
 without_empty_last-cons [] x xs = refl
 without_empty_last-cons (b ∷ line) x xs = refl
 
--- the lines of an input whose first line ends at a newline
+-- if an input's first line ends at a newline, its lines are that line and the lines after the
+-- newline
 pub cut_lines : (s line rest : List ℕ)
     → slice_split is_newline s ≡ line ∷ slice_split is_newline rest
     → lines_of s ≡ line ∷ lines_of rest
@@ -21,32 +22,32 @@ cut_lines s line rest e =
     ∙ without_empty_last-cons line x xs
     ∙ ap (λ parts. line ∷ without_empty_last parts) (sym more)
 
--- the lines of an input that has bytes and no newline
+-- an input that has bytes and no newline has one line
 one_line : (s line : List ℕ) → 0 < length s → slice_split is_newline s ≡ line ∷ []
     → lines_of s ≡ line ∷ []
 one_line s [] l e = absurd (omega (arith, ap length (slice_split-one newline s [] e)))
 one_line s (b ∷ line) l e = ap without_empty_last e
 
--- an input without a newline is its one line, and nothing is left behind it
+-- an input without a newline is its only line, and nothing follows it
 pub only_line : (s line rest : List ℕ) → 0 < length s → slice_split is_newline s ≡ line ∷ []
     → rest ≡ [] → lines_of s ≡ line ∷ lines_of rest
 only_line s line rest l e none =
     one_line s line l e ∙ ap (λ rest. line ∷ lines_of rest) (sym none)
 
--- what is written for an input begins with the answer to its first line
+-- the output for an input begins with the answer to its first line
 pub output_of-cons : (s line rest : List ℕ) → lines_of s ≡ line ∷ lines_of rest
     → output_of s ≡ (answer_of line ++ newline ∷ []) ++ output_of rest
 unfolding output_of
 output_of-cons s line rest e = ap (flat_map (λ line. answer_of line ++ newline ∷ [])) e
 
--- what is written for the whole input goes on with the answer to the first line that is left
+-- the output for the whole input continues with the answer to the first remaining line
 pub output_of-next : (s line rest done all : List ℕ) → lines_of s ≡ line ∷ lines_of rest
     → done ++ output_of s ≡ all
     → done ++ ((answer_of line ++ newline ∷ []) ++ output_of rest) ≡ all
 output_of-next s line rest done all e h =
     ap (λ more. done ++ more) (sym (output_of-cons s line rest e)) ∙ h
 
--- an answer that was added to a cleared buffer is what is written for the line
+-- an answer that was appended to a cleared buffer is what is written for the line
 pub writes_answer : {said answer cleared : List ℕ} (line : List ℕ) → said ≡ answer
     → answer ≡ cleared ++ (answer_of line ++ newline ∷ []) → cleared ≡ []
     → said ≡ answer_of line ++ newline ∷ []
@@ -56,8 +57,9 @@ pub output_of-nil : output_of [] ≡ []
 unfolding output_of
 output_of-nil = refl
 
--- if no input is left, what was written is all
-pub output_of-done : (done left all : List ℕ) → left ≡ [] → done ++ output_of left ≡ all
+-- if no input remains, everything has been written
+pub output_of-done : (done remaining all : List ℕ) → remaining ≡ [] → done ++ output_of remaining
+    ≡ all
     → done ≡ all
-output_of-done done left all none e =
+output_of-done done remaining all none e =
     sym (append-nil done) ∙ ap (λ more. done ++ more) (sym (ap output_of none ∙ output_of-nil)) ∙ e

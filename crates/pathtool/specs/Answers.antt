@@ -1,4 +1,5 @@
--- What the program answers: lines of fields between tabs, of which the first names a command.
+-- The answers of the program. A line has fields with tabs between them, and the first field names a
+-- command.
 use Rattle.std.specs.Prelude.{ℕ, ◌==◌, List, [], ◌∷◌, ◌++◌, reverse, codes, Option}
 use Rattle.std.specs.Prelude.{Some, None, unwrap_or, if◌then◌else◌}
 use Rattle.std.specs.Option.{option_map_or, option_and_then}
@@ -19,9 +20,9 @@ use Rattle.pathtool.specs.EditFields.{edit_answer}
 use Rattle.pathtool.specs.Quoted.{json_of}
 use Rattle.pathtool.specs.Tables.{under_answer}
 use Rattle.pathtool.specs.Walks.{part_bytes, walk_answer}
-use Rattle.pathtool.specs.Fields.{fields_of, tabs, bad_command, truth}
+use Rattle.pathtool.specs.Fields.{fields_of, tabs, bad_command, bool_text}
 
--- `+` and the bytes for some, and `-` for none
+-- `+` and the bytes for `Some`, and `-` for `None`
 abbrev pub optional : Option (List ℕ) → List ℕ
 optional found = option_map_or (λ bytes. codes "+" ++ bytes) found (codes "-")
 
@@ -31,24 +32,26 @@ order_text Less = codes "less"
 order_text Equal = codes "equal"
 order_text Greater = codes "greater"
 
--- what is left of a path after the parts of `base`, if these are its first
+-- the rest of a path after the components of `base`, or a message if the path doesn't start with
+-- them
 abbrev pub strip_answer : List ℕ → List ℕ → List ℕ
 strip_answer path base =
     if starts_with same_value (values path) (values base)
     then optional (Some (stripped_of path base))
     else codes "prefix not found"
 
--- the answer of a command that takes one path, or `None` if a field follows the path
+-- the answer of a command with one path, or `None` if a field follows the path
 abbrev pub path_answer : (List ℕ → List ℕ) → List ℕ → List (List ℕ) → Option (List ℕ)
 path_answer answer p [] = Some (answer p)
 path_answer answer p _ = None
 
--- the answer of a command that takes a path and one more field, or `None` if not just one follows
+-- the answer of a command with a path and one more field, or `None` if no field or more than one
+-- follows the path
 abbrev pub pair_answer : (List ℕ → List ℕ → List ℕ) → List ℕ → List (List ℕ) → Option (List ℕ)
 pair_answer answer p (q ∷ []) = Some (answer p q)
 pair_answer answer p _ = None
 
--- the commands, and what each answers to a path and the fields that follow it
+-- the commands, and the answer of each to a path and the fields that follow it
 abbrev pub commands : List (List ℕ × (List ℕ → List (List ℕ) → Option (List ℕ)))
 commands =
     (codes "parts", path_answer (λ p. tabs (part_bytes p)))
@@ -63,8 +66,12 @@ commands =
     ∷ (codes "json", path_answer json_of)
     ∷ (codes "join", pair_answer join_of)
     ∷ (codes "strip", pair_answer strip_answer)
-    ∷ (codes "starts", pair_answer (λ p q. truth (starts_with same_value (values p) (values q))))
-    ∷ (codes "ends", pair_answer (λ p q. truth (ends_with same_value (values p) (values q))))
+    ∷ (
+      codes "starts",
+      pair_answer
+          (λ p q. bool_text (starts_with same_value (values p) (values q))),
+    )
+    ∷ (codes "ends", pair_answer (λ p q. bool_text (ends_with same_value (values p) (values q))))
     ∷ (codes "cmp", pair_answer (λ p q. order_text (values_cmp (values p) (values q))))
     ∷ (codes "walk", pair_answer walk_answer)
     ∷ (codes "edit", λ p fields. Some (edit_answer p fields))
@@ -81,16 +88,16 @@ answer_to _ = bad_command
 unfoldable pub answer_of : List ℕ → List ℕ
 answer_of line = answer_to (fields_of line)
 
--- these stretches, but without the last one if that is empty
+-- these pieces, without the last one if it is empty
 abbrev pub without_empty_last : List (List ℕ) → List (List ℕ)
 without_empty_last [] = []
 without_empty_last ([] ∷ []) = []
 without_empty_last (line ∷ lines) = line ∷ without_empty_last lines
 
--- the lines of an input: each ends at a newline, and the last may lack it unless it is empty
+-- the lines of an input: each ends at a newline, which the last line may lack if it isn't empty
 abbrev pub lines_of : List ℕ → List (List ℕ)
 lines_of input = without_empty_last (slice_split (λ b. b == byte "\n") input)
 
--- what is written for an input: the answer to each of its lines, and a newline
+-- the output for an input: the answer to each of its lines, each followed by a newline
 unfoldable pub output_of : List ℕ → List ℕ
 output_of input = flat_map (λ line. answer_of line ++ byte "\n" ∷ []) (lines_of input)

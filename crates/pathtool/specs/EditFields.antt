@@ -8,9 +8,10 @@ use Rattle.path_runs.specs.EditLists.{EditValue, Push, Pop, SetFileName, SetExte
 use Rattle.path_runs.specs.EditLists.{AddExtension, Clear, edits_of}
 use Rattle.path_runs.specs.declared.edits.Answer.{Answer}
 use Rattle.path_runs.specs.declared.edits.Answer.TheVariants.{Plain, Flag, Separator}
-use Rattle.pathtool.specs.Fields.{tabs, bad_command, truth}
+use Rattle.pathtool.specs.Fields.{tabs, bad_command, bool_text}
 
--- the edits by the names that their fields begin with, each as a function of the bytes behind it
+-- for each edit, the name that its fields begin with, and the edit as a function of the bytes after
+-- that name
 abbrev pub edits_by_name : List (List ℕ × (List ℕ → EditValue))
 edits_by_name =
     (codes "push:", Push)
@@ -20,23 +21,24 @@ edits_by_name =
     ∷ (codes "add:", AddExtension)
     ∷ (codes "clear", λ _. Clear) ∷ []
 
--- the edit that a field names up to its first colon, or `None` if it names none
+-- the edit that a field names by its bytes up to and including the first colon, or `None` if it
+-- names no edit
 abbrev pub edit_of_field : List ℕ → Option EditValue
 edit_of_field field =
     let n = position_or_len (λ b. b == byte ":") field + 1 in
     option_map (λ edit. edit (drop n field)) (lookup (bytes_eq (take n field)) edits_by_name)
 
--- what an edit's answer is printed as
+-- the word for the answer of an edit
 abbrev pub answer_word : Answer → List ℕ
 answer_word Plain = codes "ok"
-answer_word (Flag is_so) = truth is_so
+answer_word (Flag is_so) = bool_text is_so
 answer_word Separator = codes "separator"
 
--- the path's bytes after these edits, and then the word that each edit answers
+-- the bytes of the edited path, and then the word for the answer of each edit
 abbrev pub edit_items : List ℕ → List EditValue → List (List ℕ)
 edit_items path edits = let done = edits_of path edits in done.0 ∷ map answer_word done.1
 
--- the answer to edits by fields: their items, or `bad command` if a field names no edit
+-- the answer to edits named by fields: their items, or `bad command` if a field names no edit
 abbrev pub edit_answer : List ℕ → List (List ℕ) → List ℕ
 edit_answer path fields =
     if list_all (λ field. is_some (edit_of_field field)) fields

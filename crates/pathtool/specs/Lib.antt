@@ -8,4 +8,4 @@ pub mod Answers
 pub mod Steps
 pub mod Quoted
 pub mod RunError
-pub mod Others
+pub mod ExtraFields

@@ -1,4 +1,4 @@
--- Words of the steps towards an answer. The clauses of `run` and `Watched` need none of them.
+-- Definitions for the steps of an answer. The clauses of `run` and `Watched` use none of them.
 use Rattle.std.specs.Prelude.{ℕ, Option, Some, None, List, [], ◌∷◌, ◌++◌, map, length}
 use Rattle.std.specs.Borrow.{Bor}
 use Rattle.std.specs.Fmt.{decimal}
@@ -28,39 +28,40 @@ newline = byte "\n"
 abbrev pub names_bytes : List UnixStr → List (List ℕ)
 names_bytes names = map (λ name. name.bytes.now) names
 
--- the bytes of these parts
+-- the bytes of these components
 abbrev pub components_bytes : List Component → List (List ℕ)
 components_bytes parts = map (λ part. value_bytes (value_of part)) parts
 
--- how many parts a walk took at each end, with a tab behind each count
+-- how many components a walk took from each end, with a tab after each count
 abbrev pub counts_text : Walked → List ℕ
 counts_text walked =
     ((decimal (length walked.front.items) ++ tab ∷ []) ++ decimal (length walked.behind.items))
     ++ tab ∷ []
 
--- what a walk took, as items: two counts, the parts in front, the rest, and the parts behind
+-- what a walk took, as items: two counts, the components from the front, the rest, and the
+-- components from the back
 abbrev pub walked_items : Walked → List (List ℕ)
 walked_items walked =
     decimal (length walked.front.items) ∷ decimal (length walked.behind.items)
     ∷ (components_bytes walked.front.items
     ++ walked.rest.bytes.now ∷ components_bytes walked.behind.items)
 
--- the canonical spelling of a path that a table answered
+-- the canonical form of the path in an item that a table's `under` returns
 abbrev pub row_spelling : Path × Bor (Unit {0}) → List ℕ
 row_spelling found = spelling_of (values found.0.bytes.now)
 
--- an edit before others, if both are known
-abbrev pub edit_before : Option EditValue → Option (List EditValue) → Option (List EditValue)
-edit_before (Some edit) (Some edits) = Some (edit ∷ edits)
-edit_before (Some edit) None = None
-edit_before None edits = None
+-- this edit, followed by these edits, or `None` if either is `None`
+abbrev pub prepend_edit : Option EditValue → Option (List EditValue) → Option (List EditValue)
+prepend_edit (Some edit) (Some edits) = Some (edit ∷ edits)
+prepend_edit (Some edit) None = None
+prepend_edit None edits = None
 
--- the edits that these fields name, or `None` if one of them names none
+-- the edits that these fields name, or `None` if one of the fields names no edit
 abbrev pub edits_of_fields : List (List ℕ) → Option (List EditValue)
 edits_of_fields [] = Some []
-edits_of_fields (field ∷ fields) = edit_before (edit_of_field field) (edits_of_fields fields)
+edits_of_fields (field ∷ fields) = prepend_edit (edit_of_field field) (edits_of_fields fields)
 
--- the answer to these edits; `None` stands for fields of which one names no edit
+-- the answer to these edits; `None` represents fields of which one names no edit
 abbrev pub edited_answer : List ℕ → Option (List EditValue) → List ℕ
 edited_answer path None = bad_command
 edited_answer path (Some edits) = tabs (edit_items path edits)

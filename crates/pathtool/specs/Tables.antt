@@ -1,4 +1,4 @@
--- The answer to what stands under a base among some paths. Not in Rust's std.
+-- The answer of `under`: what follows a base in the paths that start with it. Not in Rust's std.
 use Rattle.std.specs.Prelude.{ℕ, List, [], map}
 use Rattle.std.specs.BTreeMap.{insert_entry}
 use Rattle.std.specs.List.{fold}
@@ -8,14 +8,14 @@ use Rattle.path_runs.specs.Spelling.{spelling_of}
 use Rattle.path_table.specs.Table.{entries_under}
 use Rattle.pathtool.specs.Fields.{tabs}
 
--- these entries, and a new one for each path whose values have none yet
+-- these entries, and a new entry for each path whose components have no entry yet
 abbrev pub entries_with : List (List Value × Unit {0}) → List (List ℕ)
     → List (List Value × Unit {0})
 entries_with entries paths =
     fold (λ entries path. insert_entry values_cmp entries (values path) tt) entries paths
 
--- for each path that starts with the base, what follows it: in order, equal ones once, each in its
--- shortest spelling
+-- for each path that starts with the base, the rest after the base in canonical form; the paths are
+-- in path order, and equal paths occur once
 abbrev pub under_answer : List ℕ → List (List ℕ) → List ℕ
 under_answer base paths =
     tabs (map (λ entry. spelling_of entry.0) (entries_under (values base) (entries_with [] paths)))

@@ -1,67 +1,79 @@
-//! Answers to lines, each of which is a command and its arguments.
+//! Answers to lines. A line is a command and its arguments.
 ghost use Rattle.std.specs.Prelude.{◌≡◌, ◌++◌, ◌∷◌, [], OnOk};
 ghost use Rattle.pathtool.specs.Answers.{answer_to, answer_of};
-ghost use Rattle.pathtool.specs.Others.{other_fields};
+ghost use Rattle.pathtool.specs.ExtraFields.{extra_fields};
 ghost use Rattle.pathtool.specs.Steps.{newline};
 
+use crate::comparisons::{push_ends, push_order, push_starts};
 use crate::edits::push_edit;
-use crate::fields::{Line, Others, is_named, line_from};
-use crate::lists::{push_ancestors, push_back, push_parts};
+use crate::fields::{ExtraFields, Line, is_named, line_from};
+use crate::lists::{push_ancestors, push_parts, push_parts_reversed};
 use crate::names::{push_extension, push_name, push_stem};
 use crate::paths::{push_canon, push_join, push_parent, push_stripped};
 use crate::tables::push_under;
 use crate::texts::{push_bad_command, push_json, push_show};
-use crate::truths::{push_ends, push_order, push_starts};
 use crate::walks::push_walk;
 use std::alloc::AllocError;
 use unix_path::Path;
 
-// Adds the answer to a line that has a path.
+// Appends the answer to a line that has a path.
 fn push_answer_to(line: Line<'_>, answer: &mut Vec<u8>) -> Result<(), AllocError>
     ensures { OnOk result (answer.new.items ≡ answer.old.items ++ answer_to
-        (line.entry.command.now ∷ line.entry.path.bytes.now ∷ other_fields line.entry.others)) }
+        (line.entry.command.now ∷ line.entry.path.bytes.now ∷ extra_fields line.entry.extra)) }
 {
     let Line {
         command,
         path,
-        others,
+        extra,
         ..
     } = line;
-    match others {
-        _ if is_named(command, b"edit") => push_edit(path, others, answer),
-        _ if is_named(command, b"under") => push_under(path, others, answer),
+    match extra {
+        _ if is_named(command, b"edit") => push_edit(path, extra, answer),
+        _ if is_named(command, b"under") => push_under(path, extra, answer),
 
-        Others::None if is_named(command, b"parts") => push_parts(path, answer),
-        Others::None if is_named(command, b"back") => push_back(path, answer),
-        Others::None if is_named(command, b"parent") => push_parent(path, answer),
-        Others::None if is_named(command, b"name") => push_name(path, answer),
-        Others::None if is_named(command, b"stem") => push_stem(path, answer),
-        Others::None if is_named(command, b"ext") => push_extension(path, answer),
-        Others::None if is_named(command, b"ancestors") => push_ancestors(path, answer),
-        Others::None if is_named(command, b"canon") => push_canon(path, answer),
-        Others::None if is_named(command, b"show") => push_show(path, answer),
-        Others::None if is_named(command, b"json") => push_json(path, answer),
+        ExtraFields::None if is_named(command, b"parts") => push_parts(path, answer),
+        ExtraFields::None if is_named(command, b"back") => push_parts_reversed(path, answer),
+        ExtraFields::None if is_named(command, b"parent") => push_parent(path, answer),
+        ExtraFields::None if is_named(command, b"name") => push_name(path, answer),
+        ExtraFields::None if is_named(command, b"stem") => push_stem(path, answer),
+        ExtraFields::None if is_named(command, b"ext") => push_extension(path, answer),
+        ExtraFields::None if is_named(command, b"ancestors") => push_ancestors(path, answer),
+        ExtraFields::None if is_named(command, b"canon") => push_canon(path, answer),
+        ExtraFields::None if is_named(command, b"show") => push_show(path, answer),
+        ExtraFields::None if is_named(command, b"json") => push_json(path, answer),
 
-        Others::One(bytes) if is_named(command, b"join") => push_join(path, Path { bytes }, answer),
-        Others::One(bytes) if is_named(command, b"strip") => push_stripped(
+        ExtraFields::One(bytes) if is_named(command, b"join") => push_join(
             path,
             Path { bytes },
             answer,
         ),
-        Others::One(bytes) if is_named(command, b"starts") => push_starts(
+        ExtraFields::One(bytes) if is_named(command, b"strip") => push_stripped(
             path,
             Path { bytes },
             answer,
         ),
-        Others::One(bytes) if is_named(command, b"ends") => push_ends(path, Path { bytes }, answer),
-        Others::One(bytes) if is_named(command, b"cmp") => push_order(path, Path { bytes }, answer),
-        Others::One(letters) if is_named(command, b"walk") => push_walk(path, letters, answer),
+        ExtraFields::One(bytes) if is_named(command, b"starts") => push_starts(
+            path,
+            Path { bytes },
+            answer,
+        ),
+        ExtraFields::One(bytes) if is_named(command, b"ends") => push_ends(
+            path,
+            Path { bytes },
+            answer,
+        ),
+        ExtraFields::One(bytes) if is_named(command, b"cmp") => push_order(
+            path,
+            Path { bytes },
+            answer,
+        ),
+        ExtraFields::One(letters) if is_named(command, b"walk") => push_walk(path, letters, answer),
 
         _ => push_bad_command(answer),
     }
 }
 
-// Adds the answer to a line.
+// Appends the answer to a line.
 fn push_answer(line: &[u8], answer: &mut Vec<u8>) -> Result<(), AllocError>
     ensures { OnOk result (answer.new.items ≡ answer.old.items ++ answer_of line.now) }
 {
@@ -71,13 +83,12 @@ fn push_answer(line: &[u8], answer: &mut Vec<u8>) -> Result<(), AllocError>
     }
 }
 
-/// Adds the answer to `line`, and a newline, to `answer`.
+/// Appends the answer to `line`, and a newline, to `answer`.
 ///
-/// An unknown command, one with too few or too many fields, or an unknown edit or turn is answered
-/// `bad command`. Allocates as the command's function does; if an allocation fails, what `answer`
-/// holds is unspecified.
+/// The answer is `bad command` if the command, an edit or a turn is unknown, or if the number of
+/// fields is wrong. Allocates as the command's function does.
 ///
-/// `parts`, a tab and `a//b` is answered `a`, a tab and `b`.
+/// The answer to `parts`, a tab and `a//b` is `a`, a tab and `b`.
 pub fn push_answer_line(line: &[u8], answer: &mut Vec<u8>) -> Result<(), AllocError>
     ensures { OnOk result (answer.new.items
         ≡ answer.old.items ++ (answer_of line.now ++ newline ∷ [])) }

@@ -4,37 +4,37 @@ ghost use Rattle.std.specs.Map.{lookup};
 ghost use Rattle.std.specs.Str.{bytes_eq};
 ghost use Rattle.path_runs.specs.EditViews.{edit_value};
 ghost use Rattle.pathtool.specs.Fields.{fields_of};
-ghost use Rattle.pathtool.specs.Others.{other_fields};
+ghost use Rattle.pathtool.specs.ExtraFields.{extra_fields};
 ghost use Rattle.pathtool.specs.EditFields.{edits_by_name, edit_of_field, answer_word};
 ghost use Rattle.pathtool.specs.EditFields.{edit_answer};
 ghost use Rattle.pathtool.specs.Steps.{edits_of_fields, edited_answer, words_of};
 
-use crate::fields::{Others, is_named};
+use crate::fields::{ExtraFields, is_named};
 use crate::texts::push_bad_command;
 use path_runs::edits::apply;
 use path_runs::{Answer, Edit};
 use std::alloc::{AllocError, Global};
 use unix_bytes::bytes::UnixStr;
-use unix_bytes::search::first_place;
+use unix_bytes::search::find_byte;
 use unix_path::Path;
 
-// The edit with this name, such as `push:` or `pop`, and with these bytes if it takes any; `None`
-// if no edit has the name.
-fn edit_by_name<'a>(name: &[u8], held: &'a [u8]) -> Option<Edit<'a>>
+// Returns the edit with this name, such as `push:` or `pop`, and with the bytes `argument` if it
+// needs any. Returns `None` if no edit has the name.
+fn edit_by_name<'a>(name: &[u8], argument: &'a [u8]) -> Option<Edit<'a>>
     ensures { option_map edit_value result
-        ≡ option_map (λ edit. edit held.now) (lookup (bytes_eq name.now) edits_by_name) }
+        ≡ option_map (λ edit. edit argument.now) (lookup (bytes_eq name.now) edits_by_name) }
 {
-    let held = UnixStr::from_bytes(held);
+    let argument = UnixStr::from_bytes(argument);
     if is_named(name, b"push:") {
-        Some(Edit::Push(Path::new(held)))
+        Some(Edit::Push(Path::new(argument)))
     } else if is_named(name, b"pop") {
         Some(Edit::Pop)
     } else if is_named(name, b"name:") {
-        Some(Edit::SetFileName(held))
+        Some(Edit::SetFileName(argument))
     } else if is_named(name, b"ext:") {
-        Some(Edit::SetExtension(held))
+        Some(Edit::SetExtension(argument))
     } else if is_named(name, b"add:") {
-        Some(Edit::AddExtension(held))
+        Some(Edit::AddExtension(argument))
     } else if is_named(name, b"clear") {
         Some(Edit::Clear)
     } else {
@@ -42,19 +42,19 @@ fn edit_by_name<'a>(name: &[u8], held: &'a [u8]) -> Option<Edit<'a>>
     }
 }
 
-// The edit that a field names, or `None` if it names none.
+// Returns the edit that a field names, or `None` if it names no edit.
 fn edit_from(field: &[u8]) -> Option<Edit<'_>>
     ensures { option_map edit_value result ≡ edit_of_field field.now }
 {
-    let place = first_place(field, b':');
-    if place == field.len() {
+    let index = find_byte(field, b':');
+    if index == field.len() {
         edit_by_name(field, &[])
     } else {
-        edit_by_name(&field[..place + 1], &field[place + 1..])
+        edit_by_name(&field[..index + 1], &field[index + 1..])
     }
 }
 
-// The edits that these fields name, or `None` if one of them names none.
+// Returns the edits that these fields name, or `None` if one of the fields names no edit.
 fn edits_from(alloc: Global, fields: &[u8]) -> Result<Option<Vec<Edit<'_>>>, AllocError>
     ensures { IfOk result (λ edits. option_map (λ es. map edit_value es.items) edits
         ≡ edits_of_fields (fields_of fields.now)) }
@@ -69,7 +69,7 @@ fn edits_from(alloc: Global, fields: &[u8]) -> Result<Option<Vec<Edit<'_>>>, All
     Ok(Some(edits))
 }
 
-// What an edit's answer is printed as.
+// Returns the word for the answer of an edit.
 fn answer_word(answer: Answer) -> &'static str
     ensures { result.now ≡ answer_word answer }
 {
@@ -81,7 +81,7 @@ fn answer_word(answer: Answer) -> &'static str
     }
 }
 
-// Adds the word of each answer, with a tab before it.
+// Appends the word for each answer, with a tab before it.
 fn push_words(answers: &[Answer], answer: &mut Vec<u8>) -> Result<(), AllocError>
     ensures { OnOk result (answer.new.items ≡ answer.old.items ++ words_of answers.now) }
 {
@@ -92,7 +92,7 @@ fn push_words(answers: &[Answer], answer: &mut Vec<u8>) -> Result<(), AllocError
     Ok(())
 }
 
-// Adds the path's bytes after these edits, and then what each edit answers.
+// Appends the bytes of the edited path, and then the answer of each edit.
 fn push_edited(path: Path<'_>, edits: &[Edit<'_>], answer: &mut Vec<u8>) -> Result<(), AllocError>
     ensures { OnOk result (answer.new.items ≡ answer.old.items
         ++ edited_answer path.entry.bytes.now (Some (map edit_value edits.now))) }
@@ -106,7 +106,7 @@ fn push_edited(path: Path<'_>, edits: &[Edit<'_>], answer: &mut Vec<u8>) -> Resu
     push_words(answers.as_slice(), answer)
 }
 
-// Adds the answer to the edits that these fields name.
+// Appends the answer to the edits that these fields name.
 fn push_edits(path: Path<'_>, fields: &[u8], answer: &mut Vec<u8>) -> Result<(), AllocError>
     ensures { OnOk result (answer.new.items
         ≡ answer.old.items ++ edit_answer path.entry.bytes.now (fields_of fields.now)) }
@@ -117,23 +117,28 @@ fn push_edits(path: Path<'_>, fields: &[u8], answer: &mut Vec<u8>) -> Result<(),
     }
 }
 
-/// Adds the path after the edits that the fields name to `answer`, and then what each edit answers.
+/// Applies the edits that the fields name to the path. Appends the edited path to `answer`, and
+/// then the answer of each edit.
 ///
-/// Without fields it adds the path as it is; for a field that names no edit it adds `bad command`
-/// alone. Allocates for the edits, their answers, the path and for what it adds; if an allocation
-/// fails, what `answer` holds is unspecified.
+/// Without fields, appends the path unchanged. Appends only `bad command` if a field names no edit.
+/// Also allocates for the edits, for their answers and for the path.
 ///
-/// `foo/.` and the fields `ext:bar` and `pop` add the empty path, a tab, `true`, a tab and `true`.
-pub fn push_edit(path: Path<'_>, others: Others<'_>, answer: &mut Vec<u8>) -> Result<(), AllocError>
+/// For `foo/.` and the fields `ext:bar` and `pop`, appends the empty path, a tab, `true`, a tab and
+/// `true`.
+pub fn push_edit(
+    path: Path<'_>,
+    extra: ExtraFields<'_>,
+    answer: &mut Vec<u8>,
+) -> Result<(), AllocError>
     ensures { OnOk result (answer.new.items
-        ≡ answer.old.items ++ edit_answer path.entry.bytes.now (other_fields others.entry)) }
+        ≡ answer.old.items ++ edit_answer path.entry.bytes.now (extra_fields extra.entry)) }
 {
-    match others {
-        Others::None => push_edited(path, &[], answer),
-        Others::One(field) => match edit_from(field) {
+    match extra {
+        ExtraFields::None => push_edited(path, &[], answer),
+        ExtraFields::One(field) => match edit_from(field) {
             Some(edit) => push_edited(path, &[edit], answer),
             None => push_bad_command(answer),
         },
-        Others::Several(fields) => push_edits(path, fields, answer),
+        ExtraFields::Several(fields) => push_edits(path, fields, answer),
     }
 }

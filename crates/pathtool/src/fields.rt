@@ -1,32 +1,33 @@
-//! Cuts an input into lines, and a line into fields.
+//! Splits an input into lines, and a line into fields.
 ghost use Rattle.std.specs.Prelude.{◌≡◌, ◌+◌, ◌<◌, ◌≤◌, ◌==◌, [], ◌∷◌, length};
 ghost use Rattle.std.specs.Prelude.{MatchOption, IfSome};
 ghost use Rattle.std.specs.List.{slice_split};
 ghost use Rattle.std.specs.Str.{bytes_eq};
 ghost use Rattle.pathtool.specs.Answers.{lines_of};
 ghost use Rattle.pathtool.specs.Fields.{fields_of};
-ghost use Rattle.pathtool.specs.Others.{other_fields, least_count};
+ghost use Rattle.pathtool.specs.ExtraFields.{extra_fields, min_count};
 
-use unix_bytes::search::first_place;
+use unix_bytes::search::find_byte;
 use unix_path::Path;
 
-/// The bytes before the first `end`, and those after it if there is one.
+/// Splits bytes at the first `end`. Returns the bytes before it, and `Some` of the bytes after it,
+/// or all bytes and `None` if there is no `end`.
 ///
-/// `cut(b"a:b:c", b':')` is `a` and `b:c`.
-pub fn cut(bytes: &[u8], end: u8) -> (&[u8], Option<&[u8]>)
+/// `split_at_byte(b"a:b:c", b':')` is `a` and `b:c`.
+pub fn split_at_byte(bytes: &[u8], end: u8) -> (&[u8], Option<&[u8]>)
     ensures value { MatchOption result.1 (slice_split (λ b. b == end) bytes.now ≡ result.0.now ∷ [])
         (λ rest. slice_split (λ b. b == end) bytes.now
         ≡ result.0.now ∷ slice_split (λ b. b == end) rest.now) }
     ensures shorter { IfSome result.1 (λ rest. length rest.now < length bytes.now) }
 {
-    let place = first_place(bytes, end);
-    if place == bytes.len() {
+    let index = find_byte(bytes, end);
+    if index == bytes.len() {
         return (bytes, None);
     }
-    (&bytes[..place], Some(&bytes[place + 1..]))
+    (&bytes[..index], Some(&bytes[index + 1..]))
 }
 
-/// The first line of an input that isn't empty, and what follows it.
+/// Returns the first line of an input that isn't empty, and what follows the line.
 ///
 /// `first_line(b"a\nb")` is `a` and `b`.
 #[tactic(auto, using(crate::proofs::LineLemmas::cut_lines, crate::proofs::LineLemmas::only_line))]
@@ -35,14 +36,14 @@ pub fn first_line(input: &[u8]) -> (&[u8], &[u8])
     ensures value { lines_of input.now ≡ result.0.now ∷ lines_of result.1.now }
     ensures shorter { length result.1.now < length input.now }
 {
-    let (line, rest) = cut(input, b'\n');
+    let (line, rest) = split_at_byte(input, b'\n');
     match rest {
         Some(rest) => (line, rest),
         None => (line, b"".as_slice()),
     }
 }
 
-/// Whether a field is this name.
+/// Returns true if and only if the field is this name.
 ///
 /// `is_named(b"pop", b"pop")` is true.
 pub fn is_named(field: &[u8], name: &[u8]) -> bool
@@ -51,11 +52,11 @@ pub fn is_named(field: &[u8], name: &[u8]) -> bool
     field == name
 }
 
-/// The fields of a line that follow its path.
+/// The extra fields of a line: those that follow its path.
 ///
-/// For `pop` alone it is `One`, and for `pop`, a tab and `pop` it is `Several`.
+/// If they are only `pop`, it is `One`. If they are `pop`, a tab and `pop`, it is `Several`.
 #[derive(Clone, Copy)]
-pub enum Others<'a> {
+pub enum ExtraFields<'a> {
     /// No field follows.
     None,
     /// One field.
@@ -64,53 +65,54 @@ pub enum Others<'a> {
     Several(&'a [u8]),
 }
 
-/// A line as its command, its path and the fields that follow.
+/// A line, split into its command, its path and its extra fields.
 ///
-/// For `parts`, a tab and `a` they are `parts`, `a` and no other field.
+/// For `parts`, a tab and `a` these are `parts`, `a` and no extra field.
 #[derive(Clone, Copy)]
 pub struct Line<'a> {
     /// The first field.
     pub command: &'a [u8],
     /// The second field.
     pub path: Path<'a>,
-    /// The other fields.
-    pub others: Others<'a>,
-    ghost count: { least_count others ≤ length (other_fields others) },
+    /// The fields after the path.
+    pub extra: ExtraFields<'a>,
+    ghost count: { min_count extra ≤ length (extra_fields extra) },
 }
 
-// The fields that follow a path, which these bytes hold.
-fn others_from(fields: &[u8]) -> Others<'_>
-    ensures value { other_fields result ≡ fields_of fields.now }
-    ensures count { least_count result ≤ length (other_fields result) }
+// Returns the extra fields in these bytes, which follow a path.
+fn extra_fields_from(fields: &[u8]) -> ExtraFields<'_>
+    ensures value { extra_fields result ≡ fields_of fields.now }
+    ensures count { min_count result ≤ length (extra_fields result) }
 {
-    let (field, others) = cut(fields, b'\t');
-    match others {
-        None => Others::One(field),
-        Some(_) => Others::Several(fields),
+    let (field, extra) = split_at_byte(fields, b'\t');
+    match extra {
+        None => ExtraFields::One(field),
+        Some(_) => ExtraFields::Several(fields),
     }
 }
 
-/// The command, the path and the other fields of a line, or `None` for a line without a tab.
+/// Returns the command, the path and the extra fields of a line, or `None` for a line without a
+/// tab.
 ///
-/// For `join`, a tab, `a`, a tab and `b` they are `join`, `a` and the one field `b`.
+/// For `join`, a tab, `a`, a tab and `b` these are `join`, `a` and the one extra field `b`.
 pub fn line_from(line: &[u8]) -> Option<Line<'_>>
     ensures { MatchOption result (fields_of line.now ≡ line.now ∷ [])
         (λ parsed. fields_of line.now
-        ≡ parsed.command.now ∷ parsed.path.bytes.now ∷ other_fields parsed.others) }
+        ≡ parsed.command.now ∷ parsed.path.bytes.now ∷ extra_fields parsed.extra) }
 {
-    let (command, fields) = cut(line, b'\t');
+    let (command, fields) = split_at_byte(line, b'\t');
     let Some(fields) = fields else {
         return None;
     };
-    let (path, others) = cut(fields, b'\t');
+    let (path, extra) = split_at_byte(fields, b'\t');
     let path = Path { bytes: path };
-    let others = match others {
-        None => Others::None,
-        Some(fields) => others_from(fields),
+    let extra = match extra {
+        None => ExtraFields::None,
+        Some(fields) => extra_fields_from(fields),
     };
     Some(Line {
         command,
         path,
-        others,
+        extra,
     })
 }

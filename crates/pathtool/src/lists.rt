@@ -11,7 +11,7 @@ use std::alloc::AllocError;
 use unix_bytes::bytes::UnixStr;
 use unix_path::{Component, Path};
 
-// Adds an item of a list to the answer, and a tab before the item unless it is the first.
+// Appends an item of a list, with a tab before it unless it is the first.
 fn push_item(item: &[u8], is_first: bool, answer: &mut Vec<u8>) -> Result<(), AllocError>
     ensures { OnOk result (answer.new.items
         ≡ answer.old.items ++ (if is_first then item.now else tab ∷ item.now)) }
@@ -22,7 +22,7 @@ fn push_item(item: &[u8], is_first: bool, answer: &mut Vec<u8>) -> Result<(), Al
     answer.extend_from_slice(item)
 }
 
-// Adds the items to the answer, with a tab between two of them.
+// Appends the items, with a tab between two of them.
 pub(crate) fn push_list<'a, I: Iterator<Item = UnixStr<'a>>>(
     items: I,
     answer: &mut Vec<u8>,
@@ -40,11 +40,9 @@ pub(crate) fn push_list<'a, I: Iterator<Item = UnixStr<'a>>>(
     Ok(())
 }
 
-/// Adds the bytes of the path's parts to `answer`, as a list.
+/// Appends the path's components to `answer`, as a list.
 ///
-/// Allocates only for what it adds; if the allocation fails, what `answer` holds is unspecified.
-///
-/// `a//b` adds `a`, a tab and `b`.
+/// For `a//b` appends `a`, a tab and `b`.
 pub fn push_parts(path: Path<'_>, answer: &mut Vec<u8>) -> Result<(), AllocError>
     ensures { OnOk result (answer.new.items
         ≡ answer.old.items ++ tabs (part_bytes path.entry.bytes.now)) }
@@ -52,24 +50,19 @@ pub fn push_parts(path: Path<'_>, answer: &mut Vec<u8>) -> Result<(), AllocError
     push_list(path.components().map(Component::as_unix_str), answer)
 }
 
-/// Adds the bytes of the path's parts to `answer`, as a list with the last part first.
+/// Appends the path's components to `answer`, as a list with the last component first.
 ///
-/// Allocates only for what it adds; if the allocation fails, what `answer` holds is unspecified.
-///
-/// `a//b` adds `b`, a tab and `a`.
-pub fn push_back(path: Path<'_>, answer: &mut Vec<u8>) -> Result<(), AllocError>
+/// For `a//b` appends `b`, a tab and `a`.
+pub fn push_parts_reversed(path: Path<'_>, answer: &mut Vec<u8>) -> Result<(), AllocError>
     ensures { OnOk result (answer.new.items
         ≡ answer.old.items ++ tabs (reverse (part_bytes path.entry.bytes.now))) }
 {
     push_list(path.iter().rev(), answer)
 }
 
-/// Adds the path and each path above it to `answer`, as a list.
+/// Appends the path's ancestors to `answer`, as a list: the path itself, its parent, and so on.
 ///
-/// Allocates only for what it adds; if the allocation fails, what `answer` holds is unspecified. By
-/// Rust's `Path::ancestors`.
-///
-/// `/a` adds `/a`, a tab and `/`.
+/// For `/a` appends `/a`, a tab and `/`.
 pub fn push_ancestors(path: Path<'_>, answer: &mut Vec<u8>) -> Result<(), AllocError>
     ensures { OnOk result (answer.new.items
         ≡ answer.old.items ++ tabs (ancestors_of path.entry.bytes.now)) }

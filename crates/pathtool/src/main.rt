@@ -1,36 +1,42 @@
-//! Answers questions about paths, one a line, from standard input to standard output.
+//! Answers questions about paths, one per line, from standard input to standard output.
+//!
+//! Functions do not allocate unless they take an allocator or say so. A function that appends to
+//! `answer` allocates when that buffer grows, and fails if the allocation fails. After a failed
+//! allocation the contents of `answer` are unspecified. Where a command does what a method of
+//! `std::path::Path` does, its answer is the result of that method on Unix. Indices and lengths
+//! count bytes.
 #![tactic(auto)]
 
-mod calls;
 mod commands;
+mod comparisons;
 mod edits;
-mod ends;
 mod fields;
+mod io_traits;
 mod lists;
 mod names;
 mod paths;
-mod patient;
+mod retry;
 mod run;
+mod std_io;
 mod tables;
 mod texts;
-mod truths;
 mod walks;
 mod watched;
 
-use ends::End;
-use patient::Patient;
+use retry::RetryInterrupted;
 use run::{RunError, run};
 use std::io::BufWriter;
 use std::process::ExitCode;
+use std_io::StdIo;
 use watched::Watched;
 
-// Runs over standard input and output.
+// Answers the lines of standard input on standard output.
 fn answer(rt: &HostRuntime) -> Result<(), RunError> {
     let Ok(output) = BufWriter::new(rt.alloc(), std::io::writer(rt)) else {
         return Err(RunError::Memory);
     };
-    let mut reader = Watched::new(Patient::new(End::new(rt.reader())));
-    let mut writer = Watched::new(Patient::new(End::new(output)));
+    let mut reader = Watched::new(RetryInterrupted::new(StdIo::new(rt.reader())));
+    let mut writer = Watched::new(RetryInterrupted::new(StdIo::new(output)));
     run(rt.alloc(), &mut reader, &mut writer)
 }
 

@@ -1,4 +1,4 @@
-//! Answers that are a name or another slice of a path, or that there is none.
+//! Answers that are a name or another slice of a path, or that say there is none.
 ghost use Rattle.std.specs.Prelude.{◌≡◌, ◌++◌, OnOk, option_map};
 ghost use Rattle.unix_path.specs.Parts.{values};
 ghost use Rattle.unix_path.specs.Names.{file_name_of, stem_of, extension_of};
@@ -8,11 +8,9 @@ use std::alloc::AllocError;
 use unix_bytes::bytes::UnixStr;
 use unix_path::Path;
 
-/// Adds `+` and the bytes to `answer`, or `-` for `None`.
+/// Appends `+` and the bytes to `answer`, or `-` for `None`.
 ///
-/// Allocates only for what it adds; if the allocation fails, what `answer` holds is unspecified.
-///
-/// `Some` of `a` adds `+a`.
+/// For `Some` of `a` appends `+a`.
 pub fn push_optional(found: Option<UnixStr<'_>>, answer: &mut Vec<u8>) -> Result<(), AllocError>
     ensures { OnOk result (answer.new.items ≡ answer.old.items
         ++ optional (option_map (λ name. name.bytes.now) found.entry)) }
@@ -26,13 +24,10 @@ pub fn push_optional(found: Option<UnixStr<'_>>, answer: &mut Vec<u8>) -> Result
     }
 }
 
-/// Adds `+` and the path's file name to `answer`, or `-` if it has none.
+/// Appends `+` and the path's file name to `answer`, or `-` if it has none.
 ///
-/// Allocates only for what it adds; if the allocation fails, what `answer` holds is unspecified. By
-/// Rust's `Path::file_name`.
-///
-/// `a/b.c` adds `+b.c`, and `..` adds `-`.
-#[tactic(auto, using(crate::proofs::SayLemmas::adds_found))]
+/// For `a/b.c` appends `+b.c`, and for `..` appends `-`.
+#[tactic(auto, using(crate::proofs::AddLemmas::adds_found))]
 pub fn push_name(path: Path<'_>, answer: &mut Vec<u8>) -> Result<(), AllocError>
     ensures { OnOk result (answer.new.items
         ≡ answer.old.items ++ optional (file_name_of (values path.entry.bytes.now))) }
@@ -40,13 +35,10 @@ pub fn push_name(path: Path<'_>, answer: &mut Vec<u8>) -> Result<(), AllocError>
     push_optional(path.file_name(), answer)
 }
 
-/// Adds `+` and the stem of the path's file name to `answer`, or `-` if it has none.
+/// Appends `+` and the stem of the path's file name to `answer`, or `-` if there is no file name.
 ///
-/// Allocates only for what it adds; if the allocation fails, what `answer` holds is unspecified. By
-/// Rust's `Path::file_stem`.
-///
-/// `a/b.c` adds `+b`, and `..` adds `-`.
-#[tactic(auto, using(crate::proofs::SayLemmas::adds_found))]
+/// For `a/b.c` appends `+b`, and for `..` appends `-`.
+#[tactic(auto, using(crate::proofs::AddLemmas::adds_found))]
 pub fn push_stem(path: Path<'_>, answer: &mut Vec<u8>) -> Result<(), AllocError>
     ensures { OnOk result (answer.new.items
         ≡ answer.old.items ++ optional (stem_of (values path.entry.bytes.now))) }
@@ -54,13 +46,11 @@ pub fn push_stem(path: Path<'_>, answer: &mut Vec<u8>) -> Result<(), AllocError>
     push_optional(path.file_stem(), answer)
 }
 
-/// Adds `+` and the extension of the path's file name to `answer`, or `-` if it has none.
+/// Appends `+` and the extension of the path's file name to `answer`, or `-` if there is no
+/// extension.
 ///
-/// Allocates only for what it adds; if the allocation fails, what `answer` holds is unspecified. By
-/// Rust's `Path::extension`.
-///
-/// `a/b.c` adds `+c`, and `b` adds `-`.
-#[tactic(auto, using(crate::proofs::SayLemmas::adds_found))]
+/// For `a/b.c` appends `+c`, and for `b` appends `-`.
+#[tactic(auto, using(crate::proofs::AddLemmas::adds_found))]
 pub fn push_extension(path: Path<'_>, answer: &mut Vec<u8>) -> Result<(), AllocError>
     ensures { OnOk result (answer.new.items
         ≡ answer.old.items ++ optional (extension_of (values path.entry.bytes.now))) }

@@ -11,12 +11,11 @@ use path_runs::canonical::canonical;
 use std::alloc::AllocError;
 use unix_path::Path;
 
-/// Adds the bytes of `base`, joined with `path`, to `answer`.
+/// Appends `base` joined with `path` to `answer`.
 ///
-/// Allocates for the join and for what it adds; if an allocation fails, what `answer` holds is
-/// unspecified. By Rust's `Path::join`.
+/// Also allocates for the join.
 ///
-/// `a` with the empty path adds `a/`.
+/// For `a` and the empty path appends `a/`.
 pub fn push_join(base: Path<'_>, path: Path<'_>, answer: &mut Vec<u8>) -> Result<(), AllocError>
     ensures { OnOk result (answer.new.items
         ≡ answer.old.items ++ join_of base.entry.bytes.now path.entry.bytes.now) }
@@ -25,12 +24,11 @@ pub fn push_join(base: Path<'_>, path: Path<'_>, answer: &mut Vec<u8>) -> Result
     answer.extend_from_slice(joined.as_path().as_unix_str().as_bytes())
 }
 
-/// Adds the canonical spelling of the path to `answer`.
+/// Appends the canonical form of the path to `answer`.
 ///
-/// The empty path adds nothing. Allocates for the spelling and for what it adds; if an allocation
-/// fails, what `answer` holds is unspecified.
+/// For the empty path nothing is appended. Also allocates for the canonical form.
 ///
-/// `.//a/./b/` adds `./a/b`.
+/// For `.//a/./b/` appends `./a/b`.
 pub fn push_canon(path: Path<'_>, answer: &mut Vec<u8>) -> Result<(), AllocError>
     ensures { OnOk result (answer.new.items
         ≡ answer.old.items ++ spelling_of (values path.entry.bytes.now)) }
@@ -39,13 +37,10 @@ pub fn push_canon(path: Path<'_>, answer: &mut Vec<u8>) -> Result<(), AllocError
     answer.extend_from_slice(spelling.as_path().as_unix_str().as_bytes())
 }
 
-/// Adds `+` and the path's parent to `answer`, or `-` if it has none.
+/// Appends `+` and the path's parent to `answer`, or `-` if it has none.
 ///
-/// Allocates only for what it adds; if the allocation fails, what `answer` holds is unspecified. By
-/// Rust's `Path::parent`.
-///
-/// `a/b` adds `+a`, and `/` adds `-`.
-#[tactic(auto, using(crate::proofs::SayLemmas::adds_some, crate::proofs::SayLemmas::adds_none))]
+/// For `a/b` appends `+a`, and for `/` appends `-`.
+#[tactic(auto, using(crate::proofs::AddLemmas::adds_some, crate::proofs::AddLemmas::adds_none))]
 pub fn push_parent(path: Path<'_>, answer: &mut Vec<u8>) -> Result<(), AllocError>
     ensures { OnOk result (answer.new.items
         ≡ answer.old.items ++ optional (parent_of path.entry.bytes.now)) }
@@ -56,20 +51,17 @@ pub fn push_parent(path: Path<'_>, answer: &mut Vec<u8>) -> Result<(), AllocErro
     }
 }
 
-/// Adds `+` and what is left of the path after the parts of `base` to `answer`, or `prefix not
-/// found` if the path's first parts aren't those of `base`.
+/// Appends `+` and the rest of the path after `base` to `answer`, or `prefix not found` if the path
+/// doesn't start with the components of `base`.
 ///
-/// Allocates only for what it adds; if the allocation fails, what `answer` holds is unspecified. By
-/// Rust's `Path::strip_prefix`.
-///
-/// `a/b` with `a` adds `+b`.
-#[tactic(auto, using(crate::proofs::SayLemmas::adds_rest, crate::proofs::SayLemmas::adds_other))]
+/// For `a/b` and `a` appends `+b`.
+#[tactic(auto, using(crate::proofs::AddLemmas::adds_rest, crate::proofs::AddLemmas::adds_error))]
 pub fn push_stripped(path: Path<'_>, base: Path<'_>, answer: &mut Vec<u8>) -> Result<(), AllocError>
     ensures { OnOk result (answer.new.items ≡ answer.old.items
         ++ strip_answer path.entry.bytes.now base.entry.bytes.now) }
 {
     match path.strip_prefix(base) {
-        Ok(left) => push_optional(Some(left.as_unix_str()), answer),
+        Ok(rest) => push_optional(Some(rest.as_unix_str()), answer),
         Err(_) => answer.extend_from_slice(b"prefix not found"),
     }
 }

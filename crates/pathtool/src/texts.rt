@@ -1,4 +1,4 @@
-//! Answers that are texts.
+//! Answers that are valid UTF-8.
 ghost use Rattle.std.specs.Prelude.{◌≡◌, ◌↔◌, ◌++◌, IfOk, IsErrOf, OnOk, codes};
 ghost use Rattle.unix_bytes.specs.Lossy.{lossy_of};
 ghost use Rattle.unix_bytes.specs.Chunks.{chunk_of, shown_chunk};
@@ -13,14 +13,14 @@ use unix_bytes::lossy::{Utf8Lossy, Utf8LossyChunk};
 use unix_path::Path;
 use unix_path::json::{JsonError, to_json};
 
-// Adds the answer to an unknown command, edit or turn, and to the wrong number of fields.
+// Appends the answer for an unknown command, edit or turn, or for the wrong number of fields.
 pub(crate) fn push_bad_command(answer: &mut Vec<u8>) -> Result<(), AllocError>
     ensures { OnOk result (answer.new.items ≡ answer.old.items ++ bad_command) }
 {
     answer.extend_from_slice(b"bad command")
 }
 
-// Adds the chunk's text, and U+FFFD for its broken front.
+// Appends the chunk's valid UTF-8, and U+FFFD if invalid bytes follow it.
 fn push_chunk(chunk: Utf8LossyChunk<'_>, answer: &mut Vec<u8>) -> Result<(), AllocError>
     ensures { OnOk result (answer.new.items
         ≡ answer.old.items ++ shown_chunk (chunk_of chunk.entry)) }
@@ -32,12 +32,12 @@ fn push_chunk(chunk: Utf8LossyChunk<'_>, answer: &mut Vec<u8>) -> Result<(), All
     answer.extend_from_slice("\u{FFFD}".as_bytes())
 }
 
-/// Adds the path as text to `answer`, with U+FFFD for each broken front.
+/// Appends the path to `answer`, with invalid UTF-8 replaced as in Rust's `Path::display`.
 ///
-/// Bytes that are UTF-8 are added as they are. Allocates only for what it adds; if the allocation
-/// fails, what `answer` holds is unspecified. By Rust's `Path::display`.
+/// Each chunk of the path is valid UTF-8, followed by at most 3 invalid bytes. Valid UTF-8 is
+/// appended unchanged, and the invalid bytes of a chunk are replaced by one U+FFFD.
 ///
-/// The bytes 61 FF add `a` and U+FFFD.
+/// For the bytes 61 FF appends `a` and U+FFFD.
 pub fn push_show(path: Path<'_>, answer: &mut Vec<u8>) -> Result<(), AllocError>
     ensures { OnOk result (answer.new.items ≡ answer.old.items ++ lossy_of path.entry.bytes.now) }
 {
@@ -47,36 +47,36 @@ pub fn push_show(path: Path<'_>, answer: &mut Vec<u8>) -> Result<(), AllocError>
     Ok(())
 }
 
-// The compact text of the path as a JSON string.
+// Returns the compact text of the path as a JSON string.
 fn json_text(alloc: Global, path: Path<'_>) -> Result<String, JsonError>
     ensures value { IfOk result (λ text. string_bytes text ≡ quoted path.entry.bytes.now) }
-    ensures refused { IsErrOf result JsonError.NotUtf8 ↔ ¬ (IsText path.entry.bytes.now) }
+    ensures not_utf8 { IsErrOf result JsonError.NotUtf8 ↔ ¬ (IsText path.entry.bytes.now) }
 {
     let value = to_json(alloc, path)?;
     value.to_string(alloc).map_err(JsonError::Memory)
 }
 
-// Adds the refusal of a path whose bytes aren't UTF-8.
-fn push_refusal(answer: &mut Vec<u8>) -> Result<(), AllocError>
+// Appends the message for a path that isn't valid UTF-8.
+fn push_not_utf8(answer: &mut Vec<u8>) -> Result<(), AllocError>
     ensures { OnOk result (answer.new.items
         ≡ answer.old.items ++ codes "path contains invalid UTF-8 characters") }
 {
     answer.extend_from_slice(b"path contains invalid UTF-8 characters")
 }
 
-/// Adds the path as a JSON string to `answer`, or a refusal if its bytes aren't UTF-8.
+/// Appends the path as a JSON string to `answer`, or a message if it isn't valid UTF-8.
 ///
-/// The string is compact, by RFC 8259, section 7. Allocates for a JSON value, for its text and for
-/// what it adds; if an allocation fails, what `answer` holds is unspecified.
+/// The string is compact, and quoted as in RFC 8259, section 7. Also allocates for a JSON value and
+/// for its text.
 ///
-/// `a"b` adds `"a\"b"`, and FF adds `path contains invalid UTF-8 characters`.
-#[tactic(auto, using(crate::proofs::SayLemmas::adds_quoted))]
+/// For `a"b` appends `"a\"b"`, and for FF `path contains invalid UTF-8 characters`.
+#[tactic(auto, using(crate::proofs::AddLemmas::adds_quoted))]
 pub fn push_json(path: Path<'_>, answer: &mut Vec<u8>) -> Result<(), AllocError>
     ensures { OnOk result (answer.new.items ≡ answer.old.items ++ json_of path.entry.bytes.now) }
 {
     match json_text(*answer.allocator(), path) {
         Ok(text) => answer.extend_from_slice(text.as_bytes()),
-        Err(JsonError::NotUtf8) => push_refusal(answer),
+        Err(JsonError::NotUtf8) => push_not_utf8(answer),
         // Any other error is a failed allocation.
         Err(_) => Err(AllocError),
     }

@@ -14,7 +14,7 @@ use std::alloc::{AllocError, Global};
 use std::iter::once;
 use unix_path::{Component, Path};
 
-// The turn that the letter stands for, if any.
+// Returns the turn that the letter represents, if any.
 fn turn_from(letter: u8) -> Option<Turn>
     ensures { result ≡ turn_of letter }
 {
@@ -25,14 +25,14 @@ fn turn_from(letter: u8) -> Option<Turn>
     }
 }
 
-// Whether each letter stands for a turn.
+// Returns true if and only if each letter represents a turn.
 fn are_turns(letters: &[u8]) -> bool
     ensures { result ≡ list_all (λ letter. is_some (turn_of letter)) letters.now }
 {
     letters.iter().all(|letter| turn_from(*letter).is_some())
 }
 
-// The turns that the letters stand for.
+// Returns the turns that the letters represent.
 fn turns_from(alloc: Global, letters: &[u8]) -> Result<Vec<Turn>, AllocError>
     ensures { IfOk result (λ turns. turns.items ≡ filter_map turn_of letters.now) }
 {
@@ -42,7 +42,7 @@ fn turns_from(alloc: Global, letters: &[u8]) -> Result<Vec<Turn>, AllocError>
         .collect(alloc)
 }
 
-// Adds a count.
+// Appends a count in decimal.
 fn push_count(count: usize, answer: &mut Vec<u8>) -> Result<(), AllocError>
     ensures { OnOk result (answer.new.items ≡ answer.old.items ++ decimal count) }
 {
@@ -50,7 +50,7 @@ fn push_count(count: usize, answer: &mut Vec<u8>) -> Result<(), AllocError>
     answer.extend_from_slice(text.as_bytes())
 }
 
-// Adds how many parts a walk took at each end, with a tab behind each count.
+// Appends how many components a walk took from each end, with a tab after each count.
 fn push_counts(walked: &Walked<'_>, answer: &mut Vec<u8>) -> Result<(), AllocError>
     ensures { OnOk result (answer.new.items ≡ answer.old.items ++ counts_text walked.now) }
 {
@@ -61,7 +61,7 @@ fn push_counts(walked: &Walked<'_>, answer: &mut Vec<u8>) -> Result<(), AllocErr
     Ok(())
 }
 
-// Adds what a walk took at each end, and what it left in between.
+// Appends what a walk took from each end, and the rest between them.
 fn push_walked(walked: &Walked<'_>, answer: &mut Vec<u8>) -> Result<(), AllocError>
     ensures { OnOk result (answer.new.items
         ≡ answer.old.items ++ tabs (walked_items walked.now)) }
@@ -75,15 +75,19 @@ fn push_walked(walked: &Walked<'_>, answer: &mut Vec<u8>) -> Result<(), AllocErr
     )
 }
 
-/// Adds what the turns take of the path to `answer`, as a list.
+/// Walks over the path by turns, and appends what they take to `answer`, as a list.
 ///
-/// The letter `f` takes a part in front, and `b` takes one behind. If there is any other letter, it
-/// adds `bad command`. The list has the counts of parts in front and behind, the parts in front,
-/// the rest, and the parts behind in the order of taking. Allocates for the turns, the parts, the
-/// text of each count and for what it adds; if an allocation fails, what `answer` holds is
-/// unspecified.
+/// The letter `f` takes a component from the front, and `b` takes one from the back. For any other
+/// letter, appends only `bad command`. The list consists of:
 ///
-/// `//` with `bf` adds `0`, `1`, the empty path and `/`, with tabs between them.
+/// - the number of components taken from the front, and the number taken from the back
+/// - the components taken from the front
+/// - the rest of the path
+/// - the components taken from the back, in the order taken
+///
+/// Also allocates for the turns, for the components and for the text of each count.
+///
+/// For `//` and `bf` appends `0`, `1`, the empty path and `/`, with tabs between them.
 pub fn push_walk(path: Path<'_>, letters: &[u8], answer: &mut Vec<u8>) -> Result<(), AllocError>
     ensures { OnOk result (answer.new.items
         ≡ answer.old.items ++ walk_answer path.entry.bytes.now letters.now) }

@@ -1,20 +1,21 @@
-//! Sources and sinks that remember whether they have failed.
+//! Sources and sinks that record whether they have failed.
 ghost use Rattle.std.specs.Prelude.{◌≡◌, ◌||◌, false, length, is_ok, is_err};
 ghost use Rattle.std.specs.Io.{ReadsAtMost, WritesAtMost};
 ghost use Rattle.std.specs.Io.KnownBytes.{ReadConsumes, WriteAppends, Keeps};
 ghost use Rattle.pathtool.specs.Watched.{has_failed, has_ended, is_flushed, watched_inner};
-ghost use Rattle.pathtool.specs.Watched.{moves_none};
+ghost use Rattle.pathtool.specs.Watched.{transfers_none};
 
-use crate::calls::{Sink, Source};
+use crate::io_traits::{Sink, Source};
 use std::io;
 
-/// A reader or a writer, and whether it has failed, has ended or is flushed.
+/// A source or a sink, and whether it has failed, has ended or is flushed.
 ///
-/// It has failed once a call has failed, or a write of some bytes took none. It has ended once a
-/// read with room for a byte found none. It is flushed after a flush that was Ok, until the next
-/// write or flush.
+/// It has failed once a call has failed, or a write of one byte or more has written none. It has
+/// ended once a read into a buffer that isn't empty has succeeded with no byte. It is flushed after
+/// a flush that succeeded, until the next write or flush.
 ///
-/// `Watched::new(b"a".as_slice())` has ended after two reads.
+/// `Watched::new(StdIo::new(b"a".as_slice()))` has ended after two reads, each into a buffer of at
+/// least one byte.
 #[derive(Drop)]
 pub struct Watched<T> {
     inner: T,
@@ -24,9 +25,9 @@ pub struct Watched<T> {
 }
 
 impl<T> Watched<T> {
-    /// Watches `inner`, as one that hasn't failed, hasn't ended and isn't flushed.
+    /// Watches `inner`. At first it has not failed, has not ended and is not flushed.
     ///
-    /// `Watched::new(reader).has_failed()` is false.
+    /// `Watched::new(source).has_failed()` is false.
     pub fn new(inner: T) -> Watched<T>
         ensures inner { watched_inner result ≡ inner }
         ensures failed { has_failed result ≡ false }
@@ -41,9 +42,9 @@ impl<T> Watched<T> {
         }
     }
 
-    /// Whether a call has failed, or a write of some bytes took none.
+    /// Returns true if a call has failed, or a write of one byte or more has written none.
     ///
-    /// It is true after a `flush` that failed.
+    /// It is true after a `flush_once` that failed.
     pub fn has_failed(&self) -> bool
         ensures { result ≡ has_failed self.now }
     {
@@ -51,7 +52,7 @@ impl<T> Watched<T> {
         *failed
     }
 
-    /// Whether a read with room for a byte found none.
+    /// Returns true if a read into a buffer that isn't empty has succeeded with no byte.
     ///
     /// It is false after a read into an empty slice.
     pub fn has_ended(&self) -> bool
@@ -61,9 +62,9 @@ impl<T> Watched<T> {
         *ended
     }
 
-    /// Whether a flush was Ok, and nothing was written or flushed since.
+    /// Returns true if a flush has succeeded, and nothing has been written or flushed since.
     ///
-    /// It is false after a `write`.
+    /// It is false after a `write_once`.
     pub fn is_flushed(&self) -> bool
         ensures { result ≡ is_flushed self.now }
     {
@@ -71,7 +72,7 @@ impl<T> Watched<T> {
         *flushed
     }
 
-    /// Gives back the reader or the writer.
+    /// Returns the source or the sink.
     ///
     /// `Watched::new(7).into_inner()` is 7.
     pub fn into_inner(self) -> T
@@ -82,7 +83,7 @@ impl<T> Watched<T> {
     }
 }
 
-/// Reads from the source that is watched.
+/// Reads from the watched source.
 impl<T: Source> Source for Watched<T> {
     ghost remaining = { λ w. T.remaining (watched_inner w) };
 
@@ -92,17 +93,17 @@ impl<T: Source> Source for Watched<T> {
         ensures bound { ReadsAtMost result buf.new }
         ensures bytes { ReadConsumes (T.remaining (watched_inner self.old))
             (T.remaining (watched_inner self.new)) result buf.new }
-        ensures one { T.read_gives (watched_inner self.old) buf.old result buf.new
+        ensures single_call { T.read_gives (watched_inner self.old) buf.old result buf.new
             (watched_inner self.new) }
         ensures failed { has_failed self.new ≡ (has_failed self.old || is_err result) }
         ensures ended { has_ended self.new
-            ≡ (has_ended self.old || moves_none result (length buf.old)) }
+            ≡ (has_ended self.old || transfers_none result (length buf.old)) }
         ensures flushed { is_flushed self.new ≡ is_flushed self.old }
     {
-        let has_room = !buf.is_empty();
+        let wants_bytes = !buf.is_empty();
         match self.inner.read_once(buf) {
             Ok(count) => {
-                if count == 0 && has_room {
+                if count == 0 && wants_bytes {
                     self.ended = true;
                 }
                 Ok(count)
@@ -115,7 +116,7 @@ impl<T: Source> Source for Watched<T> {
     }
 }
 
-/// Writes to the sink that is watched.
+/// Writes to the watched sink.
 impl<T: Sink> Sink for Watched<T> {
     ghost contents = { λ w. T.contents (watched_inner w) };
 
@@ -127,10 +128,10 @@ impl<T: Sink> Sink for Watched<T> {
         ensures bound { WritesAtMost result buf.now }
         ensures bytes { WriteAppends (T.contents (watched_inner self.old))
             (T.contents (watched_inner self.new)) result buf.now }
-        ensures one { T.write_gives (watched_inner self.old) buf.now result
+        ensures single_call { T.write_gives (watched_inner self.old) buf.now result
             (watched_inner self.new) }
         ensures failed { has_failed self.new
-            ≡ (has_failed self.old || is_err result || moves_none result (length buf.now)) }
+            ≡ (has_failed self.old || is_err result || transfers_none result (length buf.now)) }
         ensures ended { has_ended self.new ≡ has_ended self.old }
         ensures flushed { is_flushed self.new ≡ false }
     {
@@ -152,7 +153,8 @@ impl<T: Sink> Sink for Watched<T> {
     fn flush_once(&mut self) -> io::Result<()>
         ensures bytes { Keeps (T.contents (watched_inner self.old))
             (T.contents (watched_inner self.new)) }
-        ensures one { T.flush_gives (watched_inner self.old) result (watched_inner self.new) }
+        ensures single_call { T.flush_gives (watched_inner self.old) result
+            (watched_inner self.new) }
         ensures failed { has_failed self.new ≡ (has_failed self.old || is_err result) }
         ensures ended { has_ended self.new ≡ has_ended self.old }
         ensures flushed { is_flushed self.new ≡ is_ok result }

@@ -6,19 +6,19 @@ static LETTERS: [u8; 8] = *b"//../.ab";
 
 /// The numbers of splitmix64 (Steele, Lea and Flood, 2014) from a seed.
 ///
-/// After `Random::new(1)` each run gets the same numbers and strings. Not in Rust's std.
+/// After `Random::new(1)` each run returns the same numbers and strings.
 #[derive(Drop)]
 pub struct Random {
     state: u64,
 }
 
 impl Random {
-    /// Returns the generator with this seed. Not in Rust's std.
+    /// Returns the generator with this seed.
     pub fn new(seed: u64) -> Random {
         Random { state: seed }
     }
 
-    /// Returns the next number. Not in Rust's std.
+    /// Returns the next number.
     pub fn next(&mut self) -> u64 {
         self.state = self.state.wrapping_add(0x9E37_79B9_7F4A_7C15);
         let mixed = (self.state ^ self.state >> 30).wrapping_mul(0xBF58_476D_1CE4_E5B9);
@@ -26,7 +26,7 @@ impl Random {
         mixed ^ mixed >> 31
     }
 
-    // In strings of letters a letter; in others a letter one time in four, and else any byte.
+    // Returns a letter or, unless the string has only letters, any byte three times in four.
     fn byte(&mut self, has_letters_alone: bool) -> u8 {
         let word = self.next();
         let is_letter = has_letters_alone || word >> 32 & 3 == 0;
@@ -40,7 +40,7 @@ impl Random {
     /// Returns a string of at most 64 bytes. Half of the strings have only slashes, dots, `a` and
     /// `b`.
     ///
-    /// Fails if an allocation fails. Not in Rust's std.
+    /// Fails if an allocation fails.
     pub fn string(&mut self, alloc: Global) -> Result<Vec<u8>, AllocError> {
         let word = self.next();
         let has_letters_alone = word >> 32 & 1 == 0;

@@ -1,18 +1,17 @@
 //! All short strings over some letters.
 use std::alloc::{AllocError, Global};
 
-// Returns the string with the letter after it.
+// Returns the string followed by the letter.
 fn with_letter(alloc: Global, string: &[u8], letter: u8) -> Result<Vec<u8>, AllocError> {
     let mut longer = Vec::from_slice(alloc, string)?;
     longer.push(letter)?;
     Ok(longer)
 }
 
-/// Returns strings over these letters, shorter ones first: the empty one, and each of the first
-/// `shorter` strings with each letter after it.
+/// Returns strings over these letters, shorter ones first: the empty string, and each of the first
+/// `shorter` strings followed by each letter.
 ///
 /// Over `ab` with `shorter` 1 they are the empty string, `a` and `b`. Fails if an allocation fails.
-/// Not in Rust's std.
 pub fn strings_over(
     alloc: Global,
     letters: &[u8],

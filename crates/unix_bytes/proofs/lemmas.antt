@@ -5,4 +5,4 @@ pub mod sequences
 pub mod text
 pub mod lossy
 pub mod chunks
-pub mod stretches
+pub mod prefixes

@@ -1,4 +1,4 @@
--- What a byte string feeds a hasher.
+-- What a byte string feeds to a hasher.
 use Rattle.std.specs.Prelude.{◌++◌, ◌∷◌, ℕ, length, List, []}
 use Rattle.std.specs.Hash.{HashWrites, usize}
 

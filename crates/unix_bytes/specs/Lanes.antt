@@ -1,15 +1,15 @@
--- Tests of bytes, as bits: the lowest for the first byte.
+-- Tests of bytes, as bits: the lowest bit for the first byte.
 use Rattle.std.specs.Prelude.{ℕ, Bool, ◌==◌, List, map, nat_le}
 use Rattle.std.specs.Simd.Lanes.{mask_l}
 
 -- the byte is not ASCII
-abbrev pub is_wide : ℕ → Bool
-is_wide b = nat_le 0x80 b
+abbrev pub is_non_ascii : ℕ → Bool
+is_non_ascii b = nat_le 0x80 b
 
--- a bit for each byte, the lowest for the first: set if the byte is not ASCII
-abbrev pub wide_mask : List ℕ → ℕ
-wide_mask bytes = mask_l (map is_wide bytes)
+-- a bit for each byte, the lowest for the first: set if and only if the byte is not ASCII
+abbrev pub non_ascii_mask : List ℕ → ℕ
+non_ascii_mask bytes = mask_l (map is_non_ascii bytes)
 
--- a bit for each byte, the lowest for the first: set if the byte equals the given one
+-- a bit for each byte, the lowest for the first: set if and only if the byte equals the given one
 abbrev pub hit_mask : ℕ → List ℕ → ℕ
 hit_mask byte bytes = mask_l (map (λ b. b == byte) bytes)

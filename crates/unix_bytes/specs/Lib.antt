@@ -1,4 +1,4 @@
-pub mod Begins
+pub mod IsPrefixOf
 pub mod Utf8
 pub mod Lossy
 pub mod Chunks

@@ -1,9 +1,10 @@
--- The lossy text of bytes: sequences as they are, and U+FFFD for each broken front.
+-- The lossy form of bytes: sequences unchanged, and U+FFFD for each invalid front.
 use Rattle.std.specs.Prelude.{ℕ, Bool, List, [], ◌∷◌, take, if◌then◌else◌}
 use Rattle.std.specs.List.{concat, flat_map, list_all, push}
 use Rattle.unix_bytes.specs.Utf8.{is_sequence, begins_sequence}
 
--- u and then s, cut into fronts: a byte joins the front before it if some sequence begins with both
+-- u and then s, cut into fronts: the next byte extends the front u if some sequence begins with u
+-- and this byte, and otherwise begins a new front
 abbrev pub fronts_from : List ℕ → List ℕ → List (List ℕ)
 fronts_from u [] = u ∷ []
 fronts_from u (b ∷ s) =
@@ -14,7 +15,8 @@ unfoldable pub fronts_of : List ℕ → List (List ℕ)
 fronts_of [] = []
 fronts_of (b ∷ s) = fronts_from (b ∷ []) s
 
--- the first front: the longest prefix that begins some sequence, or one byte if none does
+-- the first front: the longest prefix that begins some sequence, or the first byte if that begins
+-- none
 abbrev pub front_of : List ℕ → List ℕ
 front_of s = concat (take 1 (fronts_of s))
 
@@ -22,7 +24,7 @@ front_of s = concat (take 1 (fronts_of s))
 abbrev pub replacement : List ℕ
 replacement = 0xEF ∷ 0xBF ∷ 0xBD ∷ []
 
--- the fronts, one after the other: each sequence as it is, and U+FFFD for each broken front
+-- the fronts, one after the other: each sequence unchanged, and U+FFFD for each invalid front
 unfoldable pub lossy_of : List ℕ → List ℕ
 lossy_of s = flat_map (λ u. if is_sequence u then u else replacement) (fronts_of s)
 

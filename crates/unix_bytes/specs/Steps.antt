@@ -1,5 +1,5 @@
--- What the code finds at the beginning of some bytes, and how it splits them. No public clause
--- cites these words.
+-- What the code finds at the beginning of bytes, and how it splits them. No public clause cites
+-- these definitions.
 use Rattle.std.specs.Prelude.{ℕ, zero, suc, ◌+◌, ◌≤◌, ◌≡◌, Bool, true, List, length, take, drop}
 use Rattle.std.specs.Prelude.{max, if◌then◌else◌}
 use Rattle.unix_bytes.specs.Utf8.{is_sequence, begins_sequence}
@@ -15,20 +15,20 @@ longest_len_to (suc m) test s = if test (take (suc m) s) then suc m else longest
 unfoldable pub longest_len : (List ℕ → Bool) → List ℕ → ℕ
 longest_len test s = longest_len_to (length s) test s
 
--- the longest prefix that begins some sequence, or one byte if none does
+-- the first front (`front_of`), by its length: the longest prefix that begins some sequence, or the
+-- first byte if that begins none
 unfoldable pub longest_front_of : List ℕ → List ℕ
 longest_front_of s = take (max 1 (longest_len begins_sequence s)) s
 
--- the first n bytes are there, and begin some sequence
+-- there are at least n bytes, and the first n begin some sequence
 abbrev pub HasBegun : List ℕ → ℕ → Type 0
 HasBegun s n = (n ≤ length s) × (begins_sequence (take n s) ≡ true)
 
--- how many bytes are broken at the beginning: 0 if a sequence stands there, or if there are no
--- bytes
+-- the length of the first front if that is invalid; 0 if it is a sequence, or if there are no bytes
 abbrev pub broken_len : List ℕ → ℕ
 broken_len s = let u = longest_front_of s in if is_sequence u then 0 else length u
 
--- the longest prefix that is text, and the front behind it
+-- the longest prefix that is valid UTF-8, and the front after it
 unfoldable pub first_chunk_of : List ℕ → Chunk
 first_chunk_of s =
     let n = longest_len is_text s in
@@ -38,12 +38,12 @@ first_chunk_of s =
 abbrev pub chunk_len : Chunk → ℕ
 chunk_len c = length c.valid + length c.broken
 
--- the bytes behind the longest prefix that is text
-abbrev pub behind_text : List ℕ → List ℕ
-behind_text s = drop (longest_len is_text s) s
+-- the bytes after the longest prefix that is valid UTF-8
+abbrev pub rest_after_text : List ℕ → List ℕ
+rest_after_text s = drop (longest_len is_text s) s
 
--- s is split into its longest prefix that is text, the broken front behind that, and the rest
+-- s is split into its longest prefix that is valid UTF-8, the invalid front after it, and the rest
 pub record Splits (s valid broken rest : List ℕ) : Type 0 where
   pub text : valid ≡ take (longest_len is_text s) s
-  pub front : broken ≡ take (broken_len (behind_text s)) (behind_text s)
-  pub behind : rest ≡ drop (broken_len (behind_text s)) (behind_text s)
+  pub front : broken ≡ take (broken_len (rest_after_text s)) (rest_after_text s)
+  pub after : rest ≡ drop (broken_len (rest_after_text s)) (rest_after_text s)

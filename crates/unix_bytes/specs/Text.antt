@@ -1,15 +1,15 @@
--- What a lossy text holds.
+-- What a `LossyText` contains.
 use Rattle.std.specs.Prelude.{ℕ, List, ⊤}
 use Rattle.std.specs.String.{string_bytes}
 use Rattle.unix_bytes.specs.declared.bytes.text.LossyText.{LossyText}
 use Rattle.unix_bytes.specs.declared.bytes.text.LossyText.TheVariants.{Borrowed, Owned}
 
--- the bytes of a lossy text
+-- the bytes of a `LossyText`
 abbrev pub text_bytes : LossyText → List ℕ
 text_bytes (Borrowed t) = t.now
 text_bytes (Owned t) = string_bytes t
 
--- the lossy text borrows the bytes that it was read from
+-- the `LossyText` borrows the bytes that it was converted from
 abbrev pub IsBorrowed : LossyText → Type 0
 IsBorrowed (Borrowed t) = ⊤
 IsBorrowed (Owned t) = ⊥

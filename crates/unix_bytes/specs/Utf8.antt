@@ -1,4 +1,4 @@
--- UTF-8 as the table of RFC 3629, section 4, has it.
+-- UTF-8 as the table of RFC 3629, section 4, defines it.
 use Rattle.std.specs.Prelude.{◌≡◌, ℕ, Bool, true, false, ◌&&◌, List, [], ◌∷◌, ◌++◌, length, take}
 use Rattle.std.specs.Int.{is_in_range}
 use Rattle.std.specs.List.{All, concat, list_any}
@@ -7,7 +7,7 @@ use Rattle.std.specs.List.{All, concat, list_any}
 abbrev pub tail : ℕ × ℕ
 tail = (0x80, 0xBF)
 
--- UTF8-1 to UTF8-4 of the RFC: a row for each alternative, and in a row a range for each byte
+-- UTF8-1 to UTF8-4 of the RFC: a row for each alternative, with a range for each byte
 abbrev pub table : List (List (ℕ × ℕ))
 table =
     ((0x00, 0x7F) ∷ [])
@@ -21,7 +21,7 @@ table =
     ∷ ((0xF4, 0xF4) ∷ (0x80, 0x8F) ∷ tail ∷ tail ∷ [])
     ∷ []
 
--- there are as many bytes as ranges, and each byte is in the range at its place
+-- there are as many bytes as ranges, and each byte is in the range with the same index
 abbrev pub fits : List (ℕ × ℕ) → List ℕ → Bool
 fits [] [] = true
 fits [] (b ∷ u) = false

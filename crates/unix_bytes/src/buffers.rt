@@ -1,9 +1,9 @@
-//! Bytes put into a buffer.
+//! Writing bytes into a buffer.
 ghost use Rattle.std.specs.Prelude.{◌≡◌, ◌+◌, ◌≤◌, ◌++◌, length, take, drop};
 
-/// Overwrites the bytes of `out` from `at` on with `bytes`. Does not allocate. Not in Rust's std.
+/// Copies `bytes` into `out` at index `at`. It must fit: `at + bytes.len()` is at most `out.len()`.
 ///
-/// If `out` is `a/..` and `at` is 2, `bc` makes it `a/bc`.
+/// If `out` is `a/..`, `at` is 2 and `bytes` is `bc`, `out` becomes `a/bc`.
 #[inline]
 pub fn write_at(out: &mut [u8], at: usize, bytes: &[u8])
     requires { at + length bytes.now ≤ length out.old }

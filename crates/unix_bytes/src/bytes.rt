@@ -25,11 +25,11 @@ mod text;
 pub use owned::UnixString;
 pub use text::LossyText;
 
-/// A borrowed byte string: a path or a name as Unix keeps it, in whatever encoding.
+/// A borrowed byte string: a path or a name on Unix, in any encoding.
 ///
-/// It may hold any byte, NUL included. Two are compared byte by byte, and a proper prefix is the
-/// lesser. A copy copies the view, and not the bytes.
-/// As the crate `unix_str`'s type of that name, which stands for Rust's `OsStr` on Unix.
+/// It may contain any byte, including NUL. Comparison is byte by byte, and a proper prefix is less
+/// than the longer string. `Copy` copies the view, not the bytes. Corresponds to Rust's `OsStr` on
+/// Unix, and to `UnixStr` of the crate `unix_str`.
 #[derive(Clone, Copy, PartialEq, Eq)]
 pub struct UnixStr<'a> {
     /// The bytes.
@@ -39,9 +39,7 @@ pub struct UnixStr<'a> {
 impl<'a> UnixStr<'a> {
     ghost use Rattle.unix_bytes.specs.Text.{text_bytes, IsBorrowed};
 
-    /// The bytes of the text, in UTF-8. Does not allocate.
-    ///
-    /// As Rust's `OsStr::new` of a `str`.
+    /// Returns a view of the bytes of `text`, which are valid UTF-8.
     ///
     /// `UnixStr::new("tmp")` has the 3 bytes of `tmp`.
     #[inline]
@@ -53,9 +51,8 @@ impl<'a> UnixStr<'a> {
         }
     }
 
-    /// These bytes, whatever they are, as the very slice that was passed. Does not allocate.
-    ///
-    /// As Rust's `OsStrExt::from_bytes`.
+    /// Returns a view of these bytes, which need not be valid UTF-8. The view keeps this slice,
+    /// without copying it.
     ///
     /// `UnixStr::from_bytes(b"\xff")` has the 1 byte FF.
     #[inline]
@@ -66,9 +63,7 @@ impl<'a> UnixStr<'a> {
         UnixStr { bytes }
     }
 
-    /// The bytes, as the very slice that the view holds. Does not allocate.
-    ///
-    /// As Rust's `OsStrExt::as_bytes`.
+    /// Returns the slice of bytes that the view keeps, without copying it.
     ///
     /// `UnixStr::new("tmp").as_bytes()` is `b"tmp"`.
     #[inline]
@@ -79,9 +74,7 @@ impl<'a> UnixStr<'a> {
         self.bytes
     }
 
-    /// How many bytes there are. Does not allocate.
-    ///
-    /// As Rust's `OsStr::len`.
+    /// Returns the number of bytes.
     ///
     /// `UnixStr::new("tmp").len()` is 3.
     #[inline]
@@ -91,9 +84,7 @@ impl<'a> UnixStr<'a> {
         self.bytes.len()
     }
 
-    /// Whether there are no bytes. Does not allocate.
-    ///
-    /// As Rust's `OsStr::is_empty`.
+    /// Returns true if and only if there are no bytes.
     ///
     /// `UnixStr::new("").is_empty()` is true.
     #[inline]
@@ -103,9 +94,7 @@ impl<'a> UnixStr<'a> {
         self.bytes.is_empty()
     }
 
-    /// The bytes as text, or `None` if they are not UTF-8. Does not allocate.
-    ///
-    /// As Rust's `OsStr::to_str`; UTF-8 is that of RFC 3629, section 4.
+    /// Returns the bytes as a `str`, or `None` if they are not valid UTF-8 (RFC 3629, section 4).
     ///
     /// `UnixStr::from_bytes(b"a\xFF").to_str()` is `None`.
     #[inline]
@@ -116,13 +105,12 @@ impl<'a> UnixStr<'a> {
         to_text(self.bytes)
     }
 
-    /// The bytes as text, with U+FFFD for each broken front.
+    /// Returns the lossy form of the bytes.
     ///
-    /// Bytes that are UTF-8 are borrowed, which does not allocate and always succeeds. Otherwise a
-    /// new text is allocated; fails if an allocation fails.
-    /// As Rust's `OsStr::to_string_lossy`.
+    /// If the bytes are valid UTF-8, the result borrows them: nothing is allocated, and the call
+    /// succeeds. Otherwise the result is a new `String`, and the call fails if an allocation fails.
     ///
-    /// For the bytes 61 FF it is `a` and U+FFFD.
+    /// For the bytes 61 FF the result is `a` and U+FFFD.
     pub fn to_string_lossy(self, alloc: Global) -> Result<LossyText<'a>, AllocError>
         ensures value { IfOk result (λ text. text_bytes text ≡ lossy_of self.entry.bytes.now) }
         ensures borrowed { IfOk result (λ text. IsBorrowed text ↔ IsText self.entry.bytes.now) }
@@ -148,7 +136,7 @@ impl PartialOrd for UnixStr<'_> {
     }
 }
 
-/// Byte strings are ordered by their bytes, and a proper prefix is the lesser. Does not allocate.
+/// Compares byte by byte. A proper prefix is less than the longer string.
 impl Ord for UnixStr<'_> {
     ghost cmp = { λ x y. slice_cmp nat_cmp x.bytes.now y.bytes.now };
 
@@ -163,8 +151,9 @@ impl Ord for UnixStr<'_> {
     }
 }
 
-/// Feeds the length, and then all bytes in one write. The length tells where a name ends when
-/// several are fed, and one write is fast for a long name. The form is this crate's own.
+/// Feeds the hasher the length, and then all bytes in one write. The length marks where a byte
+/// string ends when several are fed, and one write is fast for many bytes. The format is specific
+/// to this crate.
 impl Hash for UnixStr<'_> {
     ghost use Rattle.unix_bytes.specs.Hashed.{name_input};
     ghost use Rattle.std.specs.Cmp.Lexicographic.{bytes_decides};
@@ -180,51 +169,53 @@ impl Hash for UnixStr<'_> {
     }
 }
 
-/// The debug form of the lossy text, which for UTF-8 is the text itself. Does not allocate, and
-/// fails only if the writer does. The form is this crate's own.
+/// Writes the lossy form of the bytes as the debug form of a `str`: in quotes, with escapes. For
+/// valid UTF-8, the lossy form is the bytes themselves. Fails only if the writer fails. The format
+/// is specific to this crate.
 impl fmt::Debug for UnixStr<'_> {
     fn fmt<W: fmt::Write>(&self, f: &mut fmt::Formatter<W>) -> fmt::Result {
         fmt::Debug::fmt(&Utf8Lossy::from_bytes(self.bytes), f)
     }
 }
 
-// The text, then U+FFFD if `broken` has bytes, then the lossy text of the rest. If one buffer takes
-// all of that lossy text, the capacity is known at once.
+// Returns `text`, then U+FFFD if `broken` is not empty, then the lossy form of `rest`. If
+// `show_first` reads all of `rest`, the string never grows.
 fn lossy_string(alloc: Global, text: &str, broken: &[u8], rest: &[u8]) -> Result<String, AllocError>
     ensures { let whole = (text.now ++ replacement_for broken.now) ++ lossy_of rest.now in
         IfOk result (λ lossy. string_bytes lossy ≡ whole) }
 {
     let mut buffer = [0; BUFFER_LEN];
     let (read, written) = show_first(rest, &mut buffer);
-    let left = &rest[read..];
-    let capacity = text.len().saturating_add(left.len());
+    let unread = &rest[read..];
+    let capacity = text.len().saturating_add(unread.len());
     let mut bytes = Vec::with_capacity(alloc, capacity.saturating_add(written + 3))?;
     bytes.extend_from_slice(text.as_bytes())?;
     push_broken(&mut bytes, broken)?;
     bytes.extend_from_slice(&buffer[..written])?;
-    push_lossy(&mut bytes, left, &mut buffer)?;
-    // All that was pushed is text.
+    push_lossy(&mut bytes, unread, &mut buffer)?;
+    // All bytes pushed are valid UTF-8.
     Ok(unsafe { String::from_utf8_unchecked(bytes) })
 }
 
-// Appends the lossy text of the source, made a buffer at a time in `buffer`.
+// Appends the lossy form of `source`: a chunk, then what `show_first` writes to `buffer`, then
+// again a chunk, until all bytes are read.
 fn push_lossy(bytes: &mut Vec<u8>, source: &[u8], buffer: &mut [u8]) -> Result<(), AllocError>
     ensures { OnOk result (bytes.new.items ≡ bytes.old.items ++ lossy_of source.now) }
 {
-    let mut left = source;
-    while !left.is_empty() {
-        let (text, broken, rest) = split_text(left);
-        push_prefix(bytes, left, text.len())?;
+    let mut unread = source;
+    while !unread.is_empty() {
+        let (text, broken, rest) = split_text(unread);
+        push_prefix(bytes, unread, text.len())?;
         push_broken(bytes, broken)?;
         let (read, written) = show_first(rest, buffer);
         bytes.extend_from_slice(&buffer[..written])?;
-        left = &rest[read..];
+        unread = &rest[read..];
     }
     Ok(())
 }
 
-// Appends the first `len` bytes of the source. If `len` is at most sixteen and the source has
-// sixteen bytes, these are copied in one move, and those past `len` are cut off again.
+// Appends the first `len` bytes of `source`. If `len` is at most 16 and `source` has 16 bytes or
+// more, appends 16 bytes at once and then truncates.
 #[inline(always)]
 fn push_prefix(bytes: &mut Vec<u8>, source: &[u8], len: usize) -> Result<(), AllocError>
     requires { len ≤ length source.now }
@@ -242,7 +233,7 @@ fn push_prefix(bytes: &mut Vec<u8>, source: &[u8], len: usize) -> Result<(), All
     Ok(())
 }
 
-// Appends U+FFFD if `broken` has bytes.
+// Appends U+FFFD if `broken` is not empty.
 #[inline(always)]
 fn push_broken(bytes: &mut Vec<u8>, broken: &[u8]) -> Result<(), AllocError>
     ensures { OnOk result (bytes.new.items ≡ bytes.old.items ++ replacement_for broken.now) }

@@ -1,4 +1,4 @@
-//! Laws of text and of lossy text: each function does nothing, and its contract is the law.
+//! Laws of UTF-8 and of lossy forms. Each function does nothing, and its contract is the law.
 ghost use Rattle.unix_bytes.specs.Laws.{TextIsUtf8, SequencesStandAlone, BeginningIsTested};
 ghost use Rattle.unix_bytes.specs.Laws.{TextIsTested, FrontsPartition, FrontsOneByOne, FrontsBegin};
 ghost use Rattle.unix_bytes.specs.Laws.{FrontIsLongest, BrokenIsShort, LossyOfSequence};
@@ -14,91 +14,93 @@ ghost use Rattle.unix_bytes.specs.declared.bytes.owned.UnixString.{UnixString};
 
 use crate::bytes::{UnixStr, UnixString};
 
-/// Text by the table of RFC 3629, section 4, is UTF-8 as Rattle's std defines it.
+/// Bytes are valid UTF-8 by the table of RFC 3629, section 4, if and only if Rattle's std defines
+/// them as UTF-8.
 pub fn text_is_utf8()
     ensures { TextIsUtf8 }
 {}
 
-/// No well-formed sequence begins another.
+/// No sequence is a proper prefix of another.
 pub fn sequences_stand_alone()
     ensures { SequencesStandAlone }
 {}
 
-/// The tests that the definitions use are right: of what begins a sequence, and of text.
+/// The tests that the definitions use are right: `begins_sequence` is true if and only if some
+/// sequence begins with the bytes (`beginning`), and `is_text` if and only if they are valid UTF-8
+/// (`text`).
 pub fn tests_are_right()
     ensures beginning { BeginningIsTested }
     ensures text { TextIsTested }
 {}
 
-/// The fronts partition the bytes: the first, and then the fronts of what follows it.
+/// The fronts partition the bytes. The fronts after the first are the fronts of the bytes after the
+/// first front.
 pub fn fronts_one_by_one()
     ensures partition { FrontsPartition }
     ensures next { FrontsOneByOne }
 {}
 
-/// A front is the longest prefix that begins some sequence, or one byte if none does. The first
-/// front has at most three bytes if the bytes begin with no sequence.
+/// Each front begins some sequence, or is one byte. No prefix that begins some sequence is longer
+/// than the first front. If no prefix is a sequence, the first front has at most three bytes.
 pub fn broken_front()
     ensures begins { FrontsBegin }
     ensures longest { FrontIsLongest }
-    ensures short { BrokenIsShort }
+    ensures len_bound { BrokenIsShort }
 {}
 
-/// The lossy text copies sequences, and has U+FFFD for each broken front.
+/// The lossy form has a leading sequence unchanged, or U+FFFD for a leading invalid front, and then
+/// the lossy form of the rest.
 pub fn lossy_one_by_one()
     ensures sequence { LossyOfSequence }
     ensures broken { LossyOfBroken }
 {}
 
-/// Bytes that are text are their own lossy text.
+/// Valid UTF-8 is its own lossy form: no U+FFFD is added.
 ///
-/// So for well-formed UTF-8 (RFC 3629, section 4) no replacement character is added. Calling it
-/// does nothing. Not in Rust's std.
-///
-/// For `tmp` the lossy text is `tmp`.
+/// For `tmp` the lossy form is `tmp`.
 pub fn lossy_of_text()
     ensures { LossyOfText }
 {}
 
-/// The lossy text of any bytes is text.
+/// The lossy form of any bytes is valid UTF-8.
 pub fn lossy_is_text()
     ensures { LossyIsText }
 {}
 
-/// The lossy text of bytes has at most three times as many bytes.
+/// The lossy form is at most three times as long as the bytes, which bounds the buffer that it
+/// needs.
 ///
-/// A caller can size a buffer by it. Calling it does nothing. Not in Rust's std.
-///
-/// The byte FF is shown by the three bytes EF BF BD, and `tmp` by its own.
+/// The lossy form of the byte FF is the three bytes EF BF BD. The lossy form of `tmp` is `tmp`.
 pub fn lossy_is_short()
     ensures { LossyIsShort }
 {}
 
-/// The empty byte string has no chunks. Of any other, the first chunk is the longest prefix that is
-/// text and the front behind it; then come the chunks of what follows these two.
+/// The empty byte string has no chunks. The first chunk of any other byte string is the longest
+/// prefix that is valid UTF-8, and the front after it. The chunks after the first are the chunks of
+/// the rest.
 pub fn chunks_one_by_one()
     ensures nothing { ChunksOfNothing }
     ensures some { ChunksOfSome }
 {}
 
-/// The chunks partition the bytes. Each has at most three broken bytes, and each but the last has
-/// at least one.
+/// The chunks partition the bytes. Each has at most three invalid bytes, and each except the last
+/// has at least one.
 pub fn chunks_partition()
     ensures partition { ChunksPartition }
-    ensures short { ChunksAreShort }
+    ensures len_bound { ChunksAreShort }
     ensures last { WholeChunkIsLast }
 {}
 
-/// The chunks as they are shown, one after the other, are the lossy text.
+/// The chunks, each with U+FFFD for its invalid front, concatenate to the lossy form of the bytes.
 pub fn chunks_show_lossy()
     ensures { ChunksShowLossy }
 {}
 
-/// Byte strings are equal exactly if their bytes are, and are ordered byte by byte.
+/// Byte strings are equal if and only if their bytes are. They are ordered byte by byte, and a
+/// proper prefix is less than the longer string.
 ///
-/// That is what `==` and `cmp` answer, of views (`view`, `view_order`) and of owned byte strings
-/// (`owned`, `owned_order`); a proper prefix is the lesser. Calling it does nothing. Not in Rust's
-/// std.
+/// The clauses are about `==` and `cmp` of views (`view`, `view_order`) and of owned byte strings
+/// (`owned`, `owned_order`).
 ///
 /// `ab` is less than `abc`, and `abc` is less than `b`.
 pub fn bytes_ordered()

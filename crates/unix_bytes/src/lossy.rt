@@ -1,4 +1,4 @@
-//! Bytes that may not be UTF-8, shown as text: U+FFFD stands for each broken front.
+//! Bytes that may be invalid UTF-8, shown with U+FFFD for each invalid front.
 ghost use Rattle.std.specs.Prelude.{◌≡◌, ◌↔◌, ◌<◌, ◌^◌, ℕ, ◌∷◌, List, [], Some, length};
 ghost use Rattle.std.specs.Prelude.{if◌then◌else◌};
 ghost use Rattle.std.specs.Fmt.{WritesOnOk, WritesStyledOnOk, padded};
@@ -7,17 +7,17 @@ ghost use Rattle.std.specs.Iterator.{YieldsFirstBy, item_count};
 ghost use Rattle.std.specs.Iterator.Runs.{EveryRun, ItemsMapTo};
 ghost use Rattle.unix_bytes.specs.Utf8.{IsSequence, BeginsSequence};
 ghost use Rattle.unix_bytes.specs.Lossy.{is_text, lossy_of};
-ghost use Rattle.unix_bytes.specs.Chunks.{chunks_of, chunk_of, chunks_left, shown_chunk};
+ghost use Rattle.unix_bytes.specs.Chunks.{chunks_of, chunk_of, remaining_chunks, shown_chunk};
 
 use crate::printer::{BUFFER_LEN, show_first};
 use crate::utf8::split_text;
 use std::iter::FusedIterator;
 use std::{fmt, str};
 
-/// How many bytes the well-formed sequences have that begin with `b`: 1 to 4, or 0 if no sequence
-/// begins with it.
+/// Returns the length of the sequences that begin with `b`: 1 to 4, or 0 if no sequence begins with
+/// it.
 ///
-/// Does not allocate. By the table of RFC 3629, section 4.
+/// The lengths are from the table of RFC 3629, section 4.
 ///
 /// `utf8_char_width(0xE2)` is 3.
 #[inline]
@@ -34,10 +34,10 @@ pub fn utf8_char_width(b: u8) -> usize
     }
 }
 
-/// Bytes that are shown as text, whether they are UTF-8 or not.
+/// A view that shows bytes as a string, whether they are valid UTF-8 or not.
 ///
-/// Its `Display` is the lossy text. A copy copies the view, and not the bytes.
-/// As Rust's `String::from_utf8_lossy`, without an allocation.
+/// Its `Display` writes the lossy form and allocates nothing, while Rust's
+/// `String::from_utf8_lossy` may allocate. `Copy` copies the view, not the bytes.
 #[derive(Clone, Copy)]
 pub struct Utf8Lossy<'a> {
     /// The bytes.
@@ -45,9 +45,7 @@ pub struct Utf8Lossy<'a> {
 }
 
 impl<'a> Utf8Lossy<'a> {
-    /// These bytes, whatever they are. Does not allocate.
-    ///
-    /// Not in Rust's std, where `String::from_utf8_lossy` takes the bytes.
+    /// Returns a view of these bytes, which need not be valid UTF-8.
     ///
     /// `Utf8Lossy::from_bytes(b"a\xFF")` is displayed as `a` and U+FFFD.
     #[inline]
@@ -57,47 +55,49 @@ impl<'a> Utf8Lossy<'a> {
         Utf8Lossy { bytes }
     }
 
-    /// The chunks of the bytes: text as far as it goes, and the broken front behind it.
+    /// Returns an iterator over the chunks of the bytes. Corresponds to Rust's
+    /// `<[u8]>::utf8_chunks`.
     ///
-    /// The empty byte string has no chunks. Neither this nor the iterator allocates.
-    /// As Rust's `<[u8]>::utf8_chunks`.
+    /// A chunk is the longest prefix of the remaining bytes that is valid UTF-8, and the invalid
+    /// front after it, if there is one. The empty byte string has no chunks. The iterator does not
+    /// allocate.
     ///
-    /// For the bytes 61 FF 62 there are two: `a` with FF, and `b` with nothing.
+    /// For the bytes 61 FF 62 there are two chunks: `a` with FF, and `b` without an invalid front.
     #[inline]
     pub fn chunks(&self) -> Utf8LossyChunksIter<'a>
-        ensures left { chunks_left result ≡ chunks_of self.now.bytes.now }
-        ensures len { length (chunks_left result) < 2 ^ 64 }
+        ensures pending { remaining_chunks result ≡ chunks_of self.now.bytes.now }
+        ensures len { length (remaining_chunks result) < 2 ^ 64 }
 
-        // Calls of `next` give what is left, in order.
-        ensures runs { EveryRun (YieldsFirstBy chunk_of chunks_left)
-            (λ p. ItemsMapTo p chunk_of (chunks_left p.from)) }
+        // Calls of `next` return the remaining chunks, in order.
+        ensures runs { EveryRun (YieldsFirstBy chunk_of remaining_chunks)
+            (λ p. ItemsMapTo p chunk_of (remaining_chunks p.from)) }
     {
         let source = self.bytes;
         Utf8LossyChunksIter { source }
     }
 }
 
-/// Well-formed sequences, one after the other, and the broken front behind them.
+/// A run of sequences, and the invalid front after it.
 ///
-/// As Rust's `Utf8Chunk`.
+/// Corresponds to Rust's `Utf8Chunk`.
 #[derive(Clone, Copy, Debug, PartialEq, Eq)]
 pub struct Utf8LossyChunk<'a> {
-    /// The sequences; empty if the chunk begins with its broken front.
+    /// The sequences. Empty if the chunk begins with its invalid front.
     pub valid: &'a str,
-    /// The broken front: bytes that begin a sequence but are none, or one byte that begins none; at
-    /// most 3 bytes. Only that of the last chunk can be empty.
+    /// The invalid front: a proper prefix of a sequence, or one byte that begins no sequence. It
+    /// has at most 3 bytes, and can be empty only in the last chunk.
     pub broken: &'a [u8],
 }
 
-/// The chunks that are still to come, in order.
+/// An iterator over the chunks of a byte string, in order.
 ///
-/// As Rust's `Utf8Chunks`.
+/// Corresponds to Rust's `Utf8Chunks`.
 #[derive(Clone, Copy, Debug)]
 pub struct Utf8LossyChunksIter<'a> {
     source: &'a [u8],
 }
 
-// The first chunk, and the bytes after it.
+// Returns the first chunk, and the bytes after it.
 #[inline]
 fn split_chunk(source: &[u8]) -> (Utf8LossyChunk<'_>, &[u8])
     requires { 0 < length source.now }
@@ -110,9 +110,9 @@ fn split_chunk(source: &[u8]) -> (Utf8LossyChunk<'_>, &[u8])
 impl<'a> Iterator for Utf8LossyChunksIter<'a> {
     type Item = Utf8LossyChunk<'a>;
 
-    ghost next_gives = { YieldsFirstBy chunk_of chunks_left };
+    ghost next_gives = { YieldsFirstBy chunk_of remaining_chunks };
 
-    ghost remaining = { item_count chunks_left };
+    ghost remaining = { item_count remaining_chunks };
 
     #[inline]
     fn next(&mut self) -> Option<Utf8LossyChunk<'a>> {
@@ -127,7 +127,7 @@ impl<'a> Iterator for Utf8LossyChunksIter<'a> {
 
 impl FusedIterator for Utf8LossyChunksIter<'_> {}
 
-// Writes the chunk's text, and U+FFFD for its broken front.
+// Writes the chunk's sequences, and U+FFFD for its invalid front.
 fn write_chunk<W: fmt::Write>(chunk: Utf8LossyChunk<'_>, f: &mut fmt::Formatter<W>) -> fmt::Result
     ensures writes { WritesOnOk W.write_str_gives f.old result
         (shown_chunk (chunk_of chunk.entry)) f.new }
@@ -141,7 +141,7 @@ fn write_chunk<W: fmt::Write>(chunk: Utf8LossyChunk<'_>, f: &mut fmt::Formatter<
     f.write_str("\u{FFFD}")
 }
 
-// Writes bytes that are text.
+// Writes the bytes, which must be valid UTF-8.
 #[inline(always)]
 fn write_text<W: fmt::Write>(bytes: &[u8], f: &mut fmt::Formatter<W>) -> fmt::Result
     requires { IsUtf8 bytes.now }
@@ -151,32 +151,32 @@ fn write_text<W: fmt::Write>(bytes: &[u8], f: &mut fmt::Formatter<W>) -> fmt::Re
     f.write_str(unsafe { str::from_utf8_unchecked(bytes) })
 }
 
-// Writes the lossy text of the source, a buffer at a time.
+// Writes the lossy form of `source`, one buffer at a time.
 #[inline]
 fn write_lossy<W: fmt::Write>(source: &[u8], f: &mut fmt::Formatter<W>) -> fmt::Result
     ensures writes { WritesOnOk W.write_str_gives f.old result (lossy_of source.now) f.new }
     ensures styled { WritesStyledOnOk W.write_str_gives f.old result (lossy_of source.now) f.new }
 {
     let mut buffer = [0; BUFFER_LEN];
-    let mut left = source;
-    while !left.is_empty() {
-        let (read, written) = show_first(left, &mut buffer);
+    let mut pending = source;
+    while !pending.is_empty() {
+        let (read, written) = show_first(pending, &mut buffer);
         write_text(&buffer[..written], f)?;
-        let behind = &left[read..];
-        if behind.is_empty() {
+        let after = &pending[read..];
+        if after.is_empty() {
             return Ok(());
         }
-        let (valid, broken, rest) = split_text(behind);
+        let (valid, broken, rest) = split_text(after);
         write_chunk(Utf8LossyChunk { valid, broken }, f)?;
-        left = rest;
+        pending = rest;
     }
     Ok(())
 }
 
-/// The lossy text: the sequences as they are, and U+FFFD for each broken front.
+/// Writes the lossy form: the sequences unchanged, and U+FFFD for each invalid front.
 ///
-/// Bytes that are all UTF-8 are padded as a `str` is, by width, precision, fill and alignment; any
-/// others ignore these. Does not allocate, and fails only if the writer does.
+/// If the bytes are valid UTF-8, width, precision, fill and alignment apply as to a `str`.
+/// Otherwise they are ignored. Fails only if the writer fails.
 impl fmt::Display for Utf8Lossy<'_> {
     ghost output = { λ d. Some (lossy_of d.bytes.now) };
 
@@ -189,7 +189,8 @@ impl fmt::Display for Utf8Lossy<'_> {
         if broken.is_empty() {
             return f.pad(valid);
         }
-        // A short text is read again, so that it is written at once with what follows it.
+        // If the valid prefix is short, it is read again, so that it is written together with the
+        // rest.
         if valid.len() < BUFFER_LEN / 4 {
             return write_lossy(self.bytes, f);
         }
@@ -198,8 +199,8 @@ impl fmt::Display for Utf8Lossy<'_> {
     }
 }
 
-/// The debug form of the lossy text: in quotes, with its escapes. Does not allocate, and fails only
-/// if the writer does. The form is this crate's own.
+/// Writes the lossy form as the debug form of a `str`: in quotes, with escapes. Fails only if the
+/// writer fails. The format is specific to this crate.
 impl fmt::Debug for Utf8Lossy<'_> {
     fn fmt<W: fmt::Write>(&self, f: &mut fmt::Formatter<W>) -> fmt::Result {
         f.write_char('"')?;
@@ -210,7 +211,7 @@ impl fmt::Debug for Utf8Lossy<'_> {
     }
 }
 
-// Writes the chunk's text as its debug form has it between the quotes, and U+FFFD for its broken
+// Writes the chunk's sequences with the escapes of the debug form, and U+FFFD for its invalid
 // front.
 fn write_escaped_chunk<W: fmt::Write>(
     chunk: Utf8LossyChunk<'_>,
@@ -223,12 +224,12 @@ fn write_escaped_chunk<W: fmt::Write>(
     f.write_char(char::REPLACEMENT_CHARACTER)
 }
 
-// Writes the text as its debug form has it between the quotes.
+// Writes the string with the escapes of its debug form, without the quotes.
 fn write_escaped<W: fmt::Write>(text: &str, f: &mut fmt::Formatter<W>) -> fmt::Result {
     text.chars().try_for_each(|c| write_escaped_char(c, f))
 }
 
-// Writes the character as the debug form of a text has it, which leaves a `'` as it is.
+// Writes the character as in the debug form of a `str`, which leaves `'` unescaped.
 fn write_escaped_char<W: fmt::Write>(c: char, f: &mut fmt::Formatter<W>) -> fmt::Result {
     if c == '\'' {
         return f.write_char(c);

@@ -6,9 +6,9 @@ ghost use Rattle.std.specs.Ordering.{nat_cmp};
 use crate::search::common_len;
 use std::cmp::Ordering;
 
-/// The order of two byte strings: of the first bytes that differ the lesser comes first, and a
-/// proper prefix comes before what it begins. Does not allocate. As `Ord` of Rust's slices, which
-/// here compares byte by byte; this one compares 16 at a time.
+/// Returns the order of two byte strings. The first bytes that differ determine it, and a proper
+/// prefix is less than the longer string. `Ord` of byte slices has the same order, but in Rattle it
+/// compares one byte at a time. This function compares up to 64 bytes at a time.
 ///
 /// `compare_bytes(b"a/b", b"a.b")` is `Ordering::Greater`.
 #[must_use]

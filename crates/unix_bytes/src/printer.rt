@@ -1,16 +1,16 @@
-//! Lossy text that is written into a buffer, a front at a time.
+//! Writes lossy forms into a buffer, one front or 16 bytes of ASCII at a time.
 ghost use Rattle.std.specs.Prelude.{◌≡◌, ℕ, ◌+◌, ◌≤◌, ◌<◌, ◌++◌, [], length, take, slice_index};
 ghost use Rattle.unix_bytes.specs.Lossy.{replacement};
 ghost use Rattle.unix_bytes.specs.Printer.{Shows};
 
-use crate::utf8::ascii::{ascii_in_sixteen, is_ascii_block};
-use crate::utf8::fronts::{may_begin, wide_front};
+use crate::utf8::ascii::{ascii_len_simd16, is_ascii_simd64};
+use crate::utf8::fronts::{may_begin, non_ascii_front};
 use std::simd::Simd;
 
-// How many bytes of lossy text are made at once.
+// The size of the buffers for lossy forms, in bytes.
 pub(crate) const BUFFER_LEN: usize = 256;
 
-// Copies the bytes into `out` from `at` on.
+// Copies `bytes` into `out` at index `at`.
 #[inline(always)]
 fn copy_at(out: &mut [u8], at: usize, bytes: &[u8])
     requires { at + length bytes.now ≤ length out.old }
@@ -20,10 +20,10 @@ fn copy_at(out: &mut [u8], at: usize, bytes: &[u8])
     out[at..at + bytes.len()].copy_from_slice(bytes);
 }
 
-// Copies the first N bytes of the source into `out` from `at` on: one load and one store.
+// Copies the first N bytes of `source` into `out` at index `at`, with one load and one store.
 #[inline(always)]
 fn copy_first<const N: usize>(out: &mut [u8], at: usize, source: &[u8])
-    requires room { at + N ≤ length out.old }
+    requires fits_out { at + N ≤ length out.old }
     requires some { N ≤ length source.now }
     ensures len { length out.new ≡ length out.old }
     ensures bytes { (k : ℕ) → k ≤ N
@@ -32,7 +32,7 @@ fn copy_first<const N: usize>(out: &mut [u8], at: usize, source: &[u8])
     Simd::<u8, N>::from_slice(source).copy_to_slice(&mut out[at..]);
 }
 
-// Writes U+FFFD into `out` from `at` on. Gives where in `out` it ends.
+// Writes U+FFFD into `out` at index `at`. Returns the index just after it.
 #[inline(always)]
 fn show_replacement(out: &mut [u8], at: usize) -> usize
     requires { at + 3 ≤ length out.old }
@@ -44,20 +44,21 @@ fn show_replacement(out: &mut [u8], at: usize) -> usize
     at + 3
 }
 
-// Writes the lossy text of the first front, whose first byte is not ASCII. Gives how many bytes
-// were read, and where in `out` the written bytes end.
+// Writes the lossy form of the first front into `out` at index `at`. The source must have at least
+// four bytes, and its first byte must not be ASCII. Returns how many bytes were read, and the index
+// in `out` just after the bytes written.
 #[inline(always)]
-#[tactic(auto, using(crate::proofs::lemmas::stretches::PrinterLemmas::front_bounds))]
+#[tactic(auto, using(crate::proofs::lemmas::prefixes::PrinterLemmas::front_bounds))]
 fn show_front(source: &[u8], out: &mut [u8], at: usize) -> (usize, usize)
     requires some { 4 ≤ length source.now }
-    requires wide { 0x80 ≤ slice_index source.now 0 }
-    requires room { at + 4 ≤ length out.old }
+    requires non_ascii { 0x80 ≤ slice_index source.now 0 }
+    requires fits_out { at + 4 ≤ length out.old }
     ensures len { length out.new ≡ length out.old }
     ensures read { result.0 ≤ length source.now }
     ensures end { result.1 ≤ length out.new }
     ensures lossy { Shows source.now (take at out.old) result.0 (take result.1 out.new) }
 {
-    match wide_front(source) {
+    match non_ascii_front(source) {
         Ok(size) => {
             copy_first::<4>(out, at, source);
             (size, at + size)
@@ -66,14 +67,16 @@ fn show_front(source: &[u8], out: &mut [u8], at: usize) -> (usize, usize)
     }
 }
 
-// Writes 16 bytes of ASCII, or else those before the first front that is not ASCII and the lossy
-// text of that front. Gives how many bytes were read, and where in `out` the written bytes end.
-// Reads nothing if the first 64 bytes are ASCII, or if a longer text that is not ASCII seems to
-// begin: a long text is read faster all at once.
+// Writes into `out` at index `at` either 16 bytes of ASCII, or the ASCII bytes before the first
+// front that is not ASCII and then the lossy form of this front. Returns how many bytes were read,
+// and the index in `out` just after the bytes written.
+//
+// Reads nothing where a long run seems to begin, because a long run is read faster all at once: if
+// the first 64 bytes are ASCII, or if `may_begin` is true and the eighth byte is not ASCII.
 #[inline(always)]
-fn show_many(source: &[u8], out: &mut [u8], at: usize) -> (usize, usize)
+fn show_block(source: &[u8], out: &mut [u8], at: usize) -> (usize, usize)
     requires some { 20 ≤ length source.now }
-    requires room { at + 20 ≤ length out.old }
+    requires fits_out { at + 20 ≤ length out.old }
     ensures len { length out.new ≡ length out.old }
     ensures read { result.0 ≤ length source.now }
     ensures end { result.1 ≤ length out.new }
@@ -88,8 +91,8 @@ fn show_many(source: &[u8], out: &mut [u8], at: usize) -> (usize, usize)
         }
         return show_front(source, out, at);
     }
-    let ascii = ascii_in_sixteen(source);
-    if ascii == 16 && 64 <= source.len() && is_ascii_block(source, 0) {
+    let ascii = ascii_len_simd16(source);
+    if ascii == 16 && 64 <= source.len() && is_ascii_simd64(source, 0) {
         return (0, at);
     }
     copy_first::<16>(out, at, source);
@@ -100,20 +103,21 @@ fn show_many(source: &[u8], out: &mut [u8], at: usize) -> (usize, usize)
     (ascii + size, end)
 }
 
-// Writes the lossy text of the first front, whose first byte is not ASCII; the source may have
-// fewer than four bytes. Gives how many bytes were read, and where in `out` the written bytes end.
+// Writes the lossy form of the first front into `out` at index `at`. The source may have fewer than
+// four bytes, and its first byte must not be ASCII. Returns how many bytes were read, and the index
+// in `out` just after the bytes written.
 #[inline(never)]
-#[tactic(auto, using(crate::proofs::lemmas::stretches::PrinterLemmas::front_bounds))]
+#[tactic(auto, using(crate::proofs::lemmas::prefixes::PrinterLemmas::front_bounds))]
 fn show_last_front(source: &[u8], out: &mut [u8], at: usize) -> (usize, usize)
     requires some { 0 < length source.now }
-    requires wide { 0x80 ≤ slice_index source.now 0 }
-    requires room { at + 4 ≤ length out.old }
+    requires non_ascii { 0x80 ≤ slice_index source.now 0 }
+    requires fits_out { at + 4 ≤ length out.old }
     ensures len { length out.new ≡ length out.old }
     ensures read { result.0 ≤ length source.now }
     ensures end { result.1 ≤ length out.new }
     ensures lossy { Shows source.now (take at out.old) result.0 (take result.1 out.new) }
 {
-    match wide_front(source) {
+    match non_ascii_front(source) {
         Ok(size) => {
             copy_at(out, at, &source[..size]);
             (size, at + size)
@@ -122,12 +126,12 @@ fn show_last_front(source: &[u8], out: &mut [u8], at: usize) -> (usize, usize)
     }
 }
 
-// Writes the first byte if it is ASCII, or else the lossy text of the first front. Gives how many
-// bytes were read, and where in `out` the written bytes end.
+// Writes the lossy form of the first front into `out` at index `at`. Returns how many bytes were
+// read, and the index in `out` just after the bytes written.
 #[inline(always)]
-fn show_few(source: &[u8], out: &mut [u8], at: usize) -> (usize, usize)
+fn show_one_front(source: &[u8], out: &mut [u8], at: usize) -> (usize, usize)
     requires some { 0 < length source.now }
-    requires room { at + 4 ≤ length out.old }
+    requires fits_out { at + 4 ≤ length out.old }
     ensures len { length out.new ≡ length out.old }
     ensures read { result.0 ≤ length source.now }
     ensures end { result.1 ≤ length out.new }
@@ -140,8 +144,9 @@ fn show_few(source: &[u8], out: &mut [u8], at: usize) -> (usize, usize)
     show_last_front(source, out, at)
 }
 
-// Writes the lossy text of the first bytes. Gives how many bytes were read, and how many written.
-// Stops if fewer than 20 bytes of `out` are left, or where a long text begins.
+// Writes the lossy form of a prefix of `source` into `out`. Returns how many bytes were read, and
+// how many were written. Stops where fewer than 20 bytes of `out` remain, or where a long run of
+// valid UTF-8 seems to begin.
 pub(crate) fn show_first(source: &[u8], out: &mut [u8]) -> (usize, usize)
     ensures len { length out.new ≡ length out.old }
     ensures read { result.0 ≤ length source.now }
@@ -153,9 +158,9 @@ pub(crate) fn show_first(source: &[u8], out: &mut [u8]) -> (usize, usize)
     while read < source.len() && 20 <= out.len() - end {
         let rest = &source[read..];
         let (size, next) = if rest.len() < 20 {
-            show_few(rest, out, end)
+            show_one_front(rest, out, end)
         } else {
-            show_many(rest, out, end)
+            show_block(rest, out, end)
         };
         read += size;
         end = next;

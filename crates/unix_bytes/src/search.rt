@@ -1,4 +1,4 @@
-//! The first and the last place of a byte, and how far two byte strings are the same.
+//! Finds the first and the last index of a byte, and the common prefix of two byte strings.
 ghost use Rattle.std.specs.Prelude.{◌≡◌, ℕ, ◌+◌, ◌-◌, ◌<◌, ◌≤◌, ◌==◌, false, length, take, drop};
 ghost use Rattle.std.specs.Prelude.{slice_index, nat_eq, min, IsTrue, ◌||◌, true};
 ghost use Rattle.std.specs.List.{position_or_len, common_prefix_len};
@@ -6,7 +6,8 @@ ghost use Rattle.unix_bytes.specs.Lanes.{hit_mask};
 
 use std::simd::prelude::*;
 
-// A bit for each of the 16 bytes from `at` on: set if the byte is `byte`.
+// Returns a bit for each of the 16 bytes from `at` on, the lowest for the first. A bit is set if
+// and only if its byte is `byte`.
 #[inline]
 fn hits(bytes: &[u8], at: usize, byte: u8) -> u64
     requires { at + 16 ≤ length bytes.now }
@@ -17,24 +18,25 @@ fn hits(bytes: &[u8], at: usize, byte: u8) -> u64
         .to_bitmask()
 }
 
-// The place of the first `byte`, or the length if there is none, looked for byte by byte.
+// Returns the index of the first `byte`, or the length if there is none. Compares one byte at a
+// time.
 #[inline]
-fn first_in_few(bytes: &[u8], byte: u8) -> usize
+fn find_byte_scalar(bytes: &[u8], byte: u8) -> usize
     ensures value { result ≡ position_or_len (λ b. b == byte) bytes.now }
     ensures in_range { result ≤ length bytes.now }
 {
-    for (place, b) in bytes.iter().enumerate() {
+    for (index, b) in bytes.iter().enumerate() {
         if *b == byte {
-            return place;
+            return index;
         }
     }
     bytes.len()
 }
 
-// The place of the first `byte` among the 16 bytes from `at` on, counted from `at`, or 16 if there
-// is none.
+// Returns the index of the first `byte` among the 16 bytes from `at` on, relative to `at`, or 16 if
+// there is none.
 #[inline]
-fn first_in_lanes(bytes: &[u8], at: usize, byte: u8) -> usize
+fn find_byte_simd16(bytes: &[u8], at: usize, byte: u8) -> usize
     requires { at + 16 ≤ length bytes.now }
     ensures value { result ≡ position_or_len (λ b. b == byte) (take 16 (drop at bytes.now)) }
     ensures in_range { result ≤ 16 }
@@ -47,38 +49,38 @@ fn first_in_lanes(bytes: &[u8], at: usize, byte: u8) -> usize
     }
 }
 
-/// The place of the first `byte`, or the length if there is none. Does not allocate. Not in Rust's
-/// std; as the crate `memchr`.
+/// Returns the index of the first `byte`, or the length if there is none. Similar to `memchr` of
+/// the crate `memchr`.
 ///
-/// `first_place(b"a:b:c", b':')` is 1.
+/// `find_byte(b"a:b:c", b':')` is 1.
 #[must_use]
 #[inline]
-pub fn first_place(bytes: &[u8], byte: u8) -> usize
+pub fn find_byte(bytes: &[u8], byte: u8) -> usize
     ensures value { result ≡ position_or_len (λ b. b == byte) bytes.now }
     ensures in_range { result ≤ length bytes.now }
 {
     if bytes.len() < 16 {
-        return first_in_few(bytes, byte);
+        return find_byte_scalar(bytes, byte);
     }
     let last = bytes.len() - 16;
     let mut at = 0;
     while at < last {
-        let place = first_in_lanes(bytes, at, byte);
-        if place < 16 {
-            return at + place;
+        let index = find_byte_simd16(bytes, at, byte);
+        if index < 16 {
+            return at + index;
         }
         at += 16;
     }
-    last + first_in_lanes(bytes, last, byte)
+    last + find_byte_simd16(bytes, last, byte)
 }
 
-// The place just after the last `byte` among the first `len` bytes, or 0 if there is none.
+// Returns the index just after the last `byte` among the first `len` bytes, or 0 if there is none.
 #[inline]
-fn past_last_in_few(bytes: &[u8], len: usize, byte: u8) -> usize
+fn after_last_scalar(bytes: &[u8], len: usize, byte: u8) -> usize
     requires { len ≤ length bytes.now }
     ensures in_range { result ≤ len }
     ensures after { 0 < result → slice_index bytes.now (result - 1) ≡ byte }
-    ensures none_behind { (k : ℕ) → result ≤ k → k < len →
+    ensures none_after { (k : ℕ) → result ≤ k → k < len →
         (slice_index bytes.now k == byte) ≡ false }
 {
     let mut past = len;
@@ -88,50 +90,51 @@ fn past_last_in_few(bytes: &[u8], len: usize, byte: u8) -> usize
     past
 }
 
-// The place just after the last `byte` among the 16 bytes from `at` on, counted from `at`, or 0 if
-// there is none.
+// Returns the index just after the last `byte` among the 16 bytes from `at` on, relative to `at`,
+// or 0 if there is none.
 #[inline]
-fn past_last_in_lanes(bytes: &[u8], at: usize, byte: u8) -> usize
+fn after_last_simd16(bytes: &[u8], at: usize, byte: u8) -> usize
     requires { at + 16 ≤ length bytes.now }
     ensures in_range { result ≤ 16 }
     ensures after { 0 < result → slice_index bytes.now (at + result - 1) ≡ byte }
-    ensures none_behind { (k : ℕ) → at + result ≤ k → k < at + 16 →
+    ensures none_after { (k : ℕ) → at + result ≤ k → k < at + 16 →
         (slice_index bytes.now k == byte) ≡ false }
 {
     64 - hits(bytes, at, byte).leading_zeros() as usize
 }
 
-/// The place just after the last `byte`, or 0 if there is none. Does not allocate. Not in Rust's
-/// std; as one more than `memrchr` of the crate `memchr`.
+/// Returns the index just after the last `byte`, or 0 if there is none. This is one more than the
+/// index that `memrchr` of the crate `memchr` returns.
 ///
-/// `past_last(b"a:b:c", b':')` is 4.
+/// `after_last(b"a:b:c", b':')` is 4.
 #[must_use]
 #[inline]
-pub fn past_last(bytes: &[u8], byte: u8) -> usize
+pub fn after_last(bytes: &[u8], byte: u8) -> usize
     ensures in_range { result ≤ length bytes.now }
     ensures after { 0 < result → slice_index bytes.now (result - 1) ≡ byte }
-    ensures none_behind { position_or_len (λ b. b == byte) (drop result bytes.now)
+    ensures none_after { position_or_len (λ b. b == byte) (drop result bytes.now)
         ≡ length (drop result bytes.now) }
 {
     let mut end = bytes.len();
     while end >= 16 {
-        let past = past_last_in_lanes(bytes, end - 16, byte);
+        let past = after_last_simd16(bytes, end - 16, byte);
         if past > 0 {
             return end - 16 + past;
         }
         end -= 16;
     }
-    past_last_in_few(bytes, end, byte)
+    after_last_scalar(bytes, end, byte)
 }
 
-// The place just after the last of two bytes among the first `len`, or 0 if neither stands there.
+// Returns the index just after the last byte that is `first` or `second`, among the first `len`
+// bytes, or 0 if there is none.
 #[inline]
-fn past_last_of_two_in_few(bytes: &[u8], len: usize, first: u8, second: u8) -> usize
+fn after_last_of_two_scalar(bytes: &[u8], len: usize, first: u8, second: u8) -> usize
     requires { len ≤ length bytes.now }
     ensures in_range { result ≤ len }
     ensures after { 0 < result → (slice_index bytes.now (result - 1) == first
         || slice_index bytes.now (result - 1) == second) ≡ true }
-    ensures none_behind { (k : ℕ) → result ≤ k → k < len →
+    ensures none_after { (k : ℕ) → result ≤ k → k < len →
         (slice_index bytes.now k == first || slice_index bytes.now k == second) ≡ false }
 {
     let mut past = len;
@@ -144,19 +147,19 @@ fn past_last_of_two_in_few(bytes: &[u8], len: usize, first: u8, second: u8) -> u
     past
 }
 
-// The place just after the last of two bytes among the 16 from `at` on, counted from `at`, or 0 if
-// neither stands there.
+// Returns the index, relative to `at`, just after the last byte that is `first` or `second` among
+// the 16 bytes from `at` on, or 0 if there is none.
 #[inline]
-fn past_last_of_two_in_lanes(bytes: &[u8], at: usize, first: u8, second: u8) -> usize
+fn after_last_of_two_simd16(bytes: &[u8], at: usize, first: u8, second: u8) -> usize
     requires { at + 16 ≤ length bytes.now }
     ensures in_range { result ≤ 16 }
     ensures after { 0 < result → (slice_index bytes.now (at + result - 1) == first
         || slice_index bytes.now (at + result - 1) == second) ≡ true }
-    ensures none_behind { (k : ℕ) → at + result ≤ k → k < at + 16 →
+    ensures none_after { (k : ℕ) → at + result ≤ k → k < at + 16 →
         (slice_index bytes.now k == first || slice_index bytes.now k == second) ≡ false }
 {
-    let past_first = past_last_in_lanes(bytes, at, first);
-    let past_second = past_last_in_lanes(bytes, at, second);
+    let past_first = after_last_simd16(bytes, at, first);
+    let past_second = after_last_simd16(bytes, at, second);
     if past_first < past_second {
         past_second
     } else {
@@ -164,48 +167,49 @@ fn past_last_of_two_in_lanes(bytes: &[u8], at: usize, first: u8, second: u8) -> 
     }
 }
 
-/// The place just after the last byte that is one of two, or 0 if there is none. Does not allocate.
-/// Not in Rust's std; as one more than `memrchr2` of the crate `memchr`.
+/// Returns the index just after the last byte that is `first` or `second`, or 0 if there is none.
+/// This is one more than the index that `memrchr2` of the crate `memchr` returns.
 ///
-/// `past_last_of_two(b"a:b;c", b':', b';')` is 4.
+/// `after_last_of_two(b"a:b;c", b':', b';')` is 4.
 #[must_use]
 #[inline]
-pub fn past_last_of_two(bytes: &[u8], first: u8, second: u8) -> usize
+pub fn after_last_of_two(bytes: &[u8], first: u8, second: u8) -> usize
     ensures in_range { result ≤ length bytes.now }
     ensures after { 0 < result → (slice_index bytes.now (result - 1) == first
         || slice_index bytes.now (result - 1) == second) ≡ true }
-    ensures none_behind { (k : ℕ) → result ≤ k → k < length bytes.now →
+    ensures none_after { (k : ℕ) → result ≤ k → k < length bytes.now →
         (slice_index bytes.now k == first || slice_index bytes.now k == second) ≡ false }
 {
     let mut end = bytes.len();
     while end >= 16 {
-        let past = past_last_of_two_in_lanes(bytes, end - 16, first, second);
+        let past = after_last_of_two_simd16(bytes, end - 16, first, second);
         if past > 0 {
             return end - 16 + past;
         }
         end -= 16;
     }
-    past_last_of_two_in_few(bytes, end, first, second)
+    after_last_of_two_scalar(bytes, end, first, second)
 }
 
-// How many bytes both begin with, compared byte by byte; the lesser length is `most`.
+// Returns the length of the longest common prefix, comparing one byte at a time. `shorter_len` must
+// be the length of the shorter byte string.
 #[inline]
-fn common_in_few(a: &[u8], b: &[u8], most: usize) -> usize
-    requires { most ≡ min (length a.now) (length b.now) }
+fn common_len_scalar(a: &[u8], b: &[u8], shorter_len: usize) -> usize
+    requires { shorter_len ≡ min (length a.now) (length b.now) }
     ensures value { result ≡ common_prefix_len nat_eq a.now b.now }
-    ensures in_range { result ≤ most }
+    ensures in_range { result ≤ shorter_len }
 {
     let mut len = 0;
-    while len < most && a[len] == b[len] {
+    while len < shorter_len && a[len] == b[len] {
         len += 1;
     }
     len
 }
 
-// How many of the 16 places from `at` on come before the first at which the two differ, or 16 if
-// there is none.
+// Returns how many of the 16 bytes from `at` on come before the first at which `a` and `b` differ,
+// or 16 if they are the same.
 #[inline]
-fn common_in_lanes(a: &[u8], b: &[u8], at: usize) -> usize
+fn common_len_simd16(a: &[u8], b: &[u8], at: usize) -> usize
     requires in_first { at + 16 ≤ length a.now }
     requires in_second { at + 16 ≤ length b.now }
     ensures in_range { result ≤ 16 }
@@ -224,9 +228,10 @@ fn common_in_lanes(a: &[u8], b: &[u8], at: usize) -> usize
     }
 }
 
-// As `common_in_lanes`, for 8 places.
+// Returns how many of the 8 bytes from `at` on come before the first at which `a` and `b` differ,
+// or 8 if they are the same.
 #[inline]
-fn common_in_eight(a: &[u8], b: &[u8], at: usize) -> usize
+fn common_len_simd8(a: &[u8], b: &[u8], at: usize) -> usize
     requires in_first { at + 8 ≤ length a.now }
     requires in_second { at + 8 ≤ length b.now }
     ensures in_range { result ≤ 8 }
@@ -245,29 +250,30 @@ fn common_in_eight(a: &[u8], b: &[u8], at: usize) -> usize
     }
 }
 
-// How many bytes both begin with, if the lesser length, `most`, is below 16: from eight bytes on,
-// the first eight are compared at once, and then the last eight.
+// Returns the length of the longest common prefix. `shorter_len` must be the length of the shorter
+// byte string, and less than 16. If it is at least 8, compares the first 8 bytes at once, and then
+// the 8 bytes before index `shorter_len`.
 #[inline]
-fn common_in_short(a: &[u8], b: &[u8], most: usize) -> usize
-    requires lesser { most ≡ min (length a.now) (length b.now) }
-    requires short { most < 16 }
+fn common_len_under_16(a: &[u8], b: &[u8], shorter_len: usize) -> usize
+    requires lesser { shorter_len ≡ min (length a.now) (length b.now) }
+    requires len_bound { shorter_len < 16 }
     ensures value { result ≡ common_prefix_len nat_eq a.now b.now }
-    ensures in_range { result ≤ most }
+    ensures in_range { result ≤ shorter_len }
 {
-    if most < 8 {
-        return common_in_few(a, b, most);
+    if shorter_len < 8 {
+        return common_len_scalar(a, b, shorter_len);
     }
-    let first = common_in_eight(a, b, 0);
+    let first = common_len_simd8(a, b, 0);
     if first < 8 {
         return first;
     }
-    let last = most - 8;
-    last + common_in_eight(a, b, last)
+    let last = shorter_len - 8;
+    last + common_len_simd8(a, b, last)
 }
 
-// Whether the 64 bytes from `at` on are the same in both.
+// Returns true only if the 64 bytes from `at` on are the same in `a` and `b`.
 #[inline(always)]
-fn is_common_block(a: &[u8], b: &[u8], at: usize) -> bool
+fn is_common_simd64(a: &[u8], b: &[u8], at: usize) -> bool
     requires in_first { at + 64 ≤ length a.now }
     requires in_second { at + 64 ≤ length b.now }
     ensures { IsTrue result → ((k : ℕ) → at ≤ k → k < at + 64 →
@@ -277,22 +283,22 @@ fn is_common_block(a: &[u8], b: &[u8], at: usize) -> bool
     other.to_bitmask() == 0
 }
 
-// How many bytes both begin with, in whole blocks of 64; the lesser length is `most`.
+// Returns the length of a common prefix, found in whole blocks of 64 bytes. `shorter_len` must be
+// the length of the shorter byte string.
 #[inline]
-fn common_blocks_len(a: &[u8], b: &[u8], most: usize) -> usize
-    requires { most ≡ min (length a.now) (length b.now) }
-    ensures in_range { result ≤ most }
+fn common_blocks_len(a: &[u8], b: &[u8], shorter_len: usize) -> usize
+    requires { shorter_len ≡ min (length a.now) (length b.now) }
+    ensures in_range { result ≤ shorter_len }
     ensures same { (k : ℕ) → k < result → slice_index a.now k ≡ slice_index b.now k }
 {
     let mut len = 0;
-    while 64 <= most - len && is_common_block(a, b, len) {
+    while 64 <= shorter_len - len && is_common_simd64(a, b, len) {
         len += 64;
     }
     len
 }
 
-/// How many bytes both begin with: the length of their longest common prefix. Does not allocate.
-/// Not in Rust's std.
+/// Returns the length of the longest common prefix.
 ///
 /// `common_len(b"a/b", b"a/c")` is 2.
 #[must_use]
@@ -302,38 +308,38 @@ pub fn common_len(a: &[u8], b: &[u8]) -> usize
     ensures in_first { result ≤ length a.now }
     ensures in_second { result ≤ length b.now }
 {
-    let most = a.len().min(b.len());
-    if most < 16 {
-        return common_in_short(a, b, most);
+    let shorter_len = a.len().min(b.len());
+    if shorter_len < 16 {
+        return common_len_under_16(a, b, shorter_len);
     }
-    let last = most - 16;
-    let mut len = common_blocks_len(a, b, most);
+    let last = shorter_len - 16;
+    let mut len = common_blocks_len(a, b, shorter_len);
     while len < last {
-        let common = common_in_lanes(a, b, len);
+        let common = common_len_simd16(a, b, len);
         if common < 16 {
             return len + common;
         }
         len += 16;
     }
-    last + common_in_lanes(a, b, last)
+    last + common_len_simd16(a, b, last)
 }
 
-/// As `common_len`, but quicker if the first bytes that differ stand among the first 16. Does not
-/// allocate. Not in Rust's std.
+/// Returns the same as `common_len`, and is faster if the first difference is within the first 16
+/// bytes.
 ///
-/// `near_common_len(b"a/b", b"a/c")` is 2.
+/// `common_len_expect_short(b"a/b", b"a/c")` is 2.
 #[must_use]
 #[inline]
-pub fn near_common_len(a: &[u8], b: &[u8]) -> usize
+pub fn common_len_expect_short(a: &[u8], b: &[u8]) -> usize
     ensures value { result ≡ common_prefix_len nat_eq a.now b.now }
     ensures in_first { result ≤ length a.now }
     ensures in_second { result ≤ length b.now }
 {
-    let most = a.len().min(b.len());
-    if most < 16 {
-        return common_in_short(a, b, most);
+    let shorter_len = a.len().min(b.len());
+    if shorter_len < 16 {
+        return common_len_under_16(a, b, shorter_len);
     }
-    let first = common_in_lanes(a, b, 0);
+    let first = common_len_simd16(a, b, 0);
     if first < 16 {
         return first;
     }

@@ -1,4 +1,4 @@
-//! Tests of unix_bytes and unix_path, in a crate of their own, since a crate with tests is proved
+//! Tests of unix_bytes and unix_path, in a crate of their own, because a crate with tests is proved
 //! twice.
 #![tactic(auto)]
 

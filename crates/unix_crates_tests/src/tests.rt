@@ -1,4 +1,4 @@
-//! Tables of calls that only Rattle has, with their answers, and tests of what no clause says. Rows
+//! Tables of calls that only Rattle has, with their results, and tests of what no clause says. Rows
 //! of calls that C or pathtool has are in tests/rows.txt and vectors.
 mod answers;
 mod buffers;
@@ -8,22 +8,22 @@ mod display;
 mod edits;
 mod extensions;
 mod filler;
-mod firsts;
+mod first_component;
 mod json;
 mod kept_order;
 mod kept_paths;
-mod lasts;
 mod maps;
+mod name_run_ends;
 mod names;
 mod order;
 mod parents;
 mod parts;
+mod path_end;
 mod places;
 mod readme;
 mod recording_hasher;
 mod refusing_writer;
 mod rests;
 mod stems;
-mod stops;
 mod texts;
 mod views;

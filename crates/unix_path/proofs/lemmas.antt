@@ -3,7 +3,7 @@ pub mod lists
 pub mod parts
 pub mod filler
 pub mod steps
-pub mod stops
+pub mod name_run_ends
 pub mod rests
 pub mod edits
 pub mod names

@@ -1,4 +1,4 @@
--- What each edit leaves of a path (Rust's `PathBuf::pop`, `PathBuf::set_file_name`,
+-- The result of each edit of a path (Rust's `PathBuf::pop`, `PathBuf::set_file_name`,
 -- `PathBuf::set_extension`).
 use Rattle.std.specs.Prelude.{ℕ, ◌+◌, ◌==◌, List, [], ◌∷◌, ◌++◌, length, take, Option, None}
 use Rattle.std.specs.Prelude.{unwrap_or, is_some, option_map, if◌then◌else◌}
@@ -10,11 +10,11 @@ use Rattle.unix_path.specs.Joins.{join_of}
 use Rattle.unix_path.specs.Parents.{parent_of}
 use Rattle.unix_path.specs.Names.{file_name_of, stem_of}
 
--- the parent, or all of the path if there is none
+-- the parent, or the whole path if there is none
 unfoldable pub popped_of : List ℕ → List ℕ
 popped_of s = unwrap_or (parent_of s) s
 
--- the path without its file name and the filler around it, or all of the path if there is no file
+-- the path without its file name and the filler around it, or the whole path if there is no file
 -- name
 unfoldable pub before_name_of : List ℕ → List ℕ
 before_name_of s = if is_some (file_name_of (values s)) then rest s 0 1 else s
@@ -23,11 +23,11 @@ before_name_of s = if is_some (file_name_of (values s)) then rest s 0 1 else s
 abbrev pub with_name_of : List ℕ → List ℕ → List ℕ
 with_name_of s name = join_of (before_name_of s) name
 
--- the place where the last of these parts starts, or 0 if there is none
+-- the index where the last of these components starts, or 0 if there is none
 abbrev pub last_start_of : List Part → ℕ
 last_start_of ps = option_map_or (λ p. p.start) (last_or None ps) 0
 
--- the place where the stem of the file name ends
+-- the index where the stem of the file name ends
 unfoldable pub stem_end_of : List ℕ → Option ℕ
 stem_end_of s = option_map (λ stem. last_start_of (parts s) + length stem) (stem_of (values s))
 
@@ -35,7 +35,7 @@ stem_end_of s = option_map (λ stem. last_start_of (parts s) + length stem) (ste
 abbrev pub dot_before : List ℕ → List ℕ
 dot_before extension = if length extension == 0 then [] else dot ∷ []
 
--- the path up to its stem's end, then the dot and the extension; all of the path if it has no file
+-- the path up to its stem's end, then the dot and the extension; the whole path if it has no file
 -- name
 unfoldable pub with_extension_of : List ℕ → List ℕ → List ℕ
 with_extension_of s extension =

@@ -5,16 +5,17 @@ use Rattle.std.specs.List.{last_or}
 use Rattle.unix_path.specs.Parts.{slash, is_slash, is_rooted}
 
 -- the last byte is a slash, or there is no byte
-abbrev pub is_open : List ℕ → Bool
-is_open s = option_map_or is_slash (last_or None s) true
+abbrev pub needs_no_separator : List ℕ → Bool
+needs_no_separator s = option_map_or is_slash (last_or None s) true
 
--- a rooted b alone; else a, then b, with a slash between them unless a is open
+-- b if b is rooted; otherwise a and then b, with a slash between them unless a is empty or ends in
+-- a slash
 unfoldable pub join_of : List ℕ → List ℕ → List ℕ
 join_of a b =
     if is_rooted b then b
-    else (if is_open a then a ++ b else a ++ slash ∷ b)
+    else (if needs_no_separator a then a ++ b else a ++ slash ∷ b)
 
--- a joined with the first of some paths, that join with the second, and so on
+-- a joined with the first of some paths, the result joined with the second, and so on
 abbrev pub join_all_of : List ℕ → List (List ℕ) → List ℕ
 join_all_of a [] = a
 join_all_of a (b ∷ bs) = join_all_of (join_of a b) bs

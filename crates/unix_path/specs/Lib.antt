@@ -7,11 +7,11 @@ pub mod Joins
 pub mod Edits
 pub mod Extensions
 pub mod Buffers
-pub mod Kept
+pub mod Pointers
 pub mod Json
 pub mod Order
 pub mod Scan
-pub mod Stops
+pub mod NameRunEnds
 pub mod Steps
 pub mod Views
 pub mod Cursor
@@ -19,6 +19,6 @@ pub mod Ancestors
 pub mod CallsMixed
 pub mod Hashed
 pub mod OrderLaws
-pub mod Places
+pub mod Slices
 pub mod CommonDir
 pub mod Pairs

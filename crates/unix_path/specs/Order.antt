@@ -6,23 +6,23 @@ use Rattle.std.specs.Ordering.{is_eq, nat_cmp, then_cmp, on}
 use Rattle.std.specs.Cmp.Lexicographic.{slice_cmp}
 use Rattle.unix_path.specs.Parts.{Value, RootDir, CurDir, ParentDir, Normal, value_bytes}
 
--- the place of a value's kind in the order
+-- the position of a value's kind in the order
 abbrev pub rank : Value → ℕ
 rank RootDir = 0
 rank CurDir = 1
 rank ParentDir = 2
 rank (Normal name) = 3
 
--- the order of two values: by their kind, and that of two names by their bytes
+-- the order of two values: by kind, and for two names by their bytes
 abbrev pub value_cmp : Value → Value → Ordering
 value_cmp = then_cmp (on rank nat_cmp) (on value_bytes (slice_cmp nat_cmp))
 
--- whether v and w are the same value
+-- v and w are the same value
 abbrev pub same_value : Value → Value → Bool
 same_value v w = is_eq (value_cmp v w)
 
--- the order of two lists: by the first values that differ; a list comes before the longer ones that
--- begin with it
+-- the order of two lists: by the first values that differ; a list sorts before the longer lists
+-- that begin with it
 abbrev pub values_cmp : List Value → List Value → Ordering
 values_cmp = slice_cmp value_cmp
 

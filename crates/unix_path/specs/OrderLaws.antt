@@ -1,4 +1,4 @@
--- Laws of the order of values and of their lists: it is total, and only equal ones tie.
+-- The order of values and of their lists is total, and only equal values and equal lists tie.
 use Rattle.std.proofs.Common.{◌≡◌, true, List, refl, ap}
 use Rattle.std.specs.Ordering.{is_eq}
 use Rattle.std.specs.Cmp.{IsTotalOrder, Equal-is}

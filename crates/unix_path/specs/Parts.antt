@@ -1,6 +1,7 @@
--- The parts of a path: it is cut at every slash, and the pieces that count are its parts
--- (POSIX.1-2017 section 4.13, and Rust's `Path::components`). The bytes that are in no part,
--- slashes and `.` pieces, are filler.
+-- The components of a path, here called parts. The path is split at every slash into pieces. Pieces
+-- that are neither empty nor `.` count. The components are the root or a leading `.`, if there is
+-- one, and then the pieces that count (POSIX.1-2017 section 4.13, and Rust's `Path::components`).
+-- The bytes that belong to no component, namely other slashes and `.` pieces, are filler.
 use Rattle.std.specs.Prelude.{◌≡◌, ℕ, ◌+◌, Bool, false, ◌==◌, ◌||◌, not, List, [], ◌∷◌, ◌++◌}
 use Rattle.std.specs.Prelude.{map, length, slice_get, if◌then◌else◌}
 use Rattle.std.specs.Option.{option_map_or}
@@ -19,22 +20,22 @@ slash = 47
 abbrev pub is_slash : ℕ → Bool
 is_slash b = b == slash
 
--- the text `.`
+-- the bytes of `.`
 abbrev pub cur_dir : List ℕ
 cur_dir = dot ∷ []
 
--- the text `..`
+-- the bytes of `..`
 abbrev pub parent_dir : List ℕ
 parent_dir = dot ∷ dot ∷ []
 
--- a part without its place
+-- a component without its position
 pub data Value : Type 0 where
   RootDir : Value
   CurDir : Value
   ParentDir : Value
   Normal : List ℕ → Value
 
--- a value with its place: from `start` up to `end`
+-- a component with its position: the value, and its bytes from index `start` up to `end`
 pub record Part : Type 0 where
   pub start : ℕ
   pub end : ℕ
@@ -44,18 +45,19 @@ pub record Part : Type 0 where
 abbrev pub counts : List ℕ → Bool
 counts piece = not (bytes_eq piece [] || bytes_eq piece cur_dir)
 
--- `..` goes up, anything else is a name
+-- the value of a piece that counts: `..`, or else a name
 abbrev pub value_of_piece : List ℕ → Value
 value_of_piece bytes = if bytes_eq bytes parent_dir then ParentDir else Normal bytes
 
--- the parts of these pieces: the first begins at `at`, and one byte stands between two of them
+-- the components of these pieces: the first piece begins at index `at`, and one byte lies between
+-- each piece and the next
 abbrev pub parts_of_pieces : ℕ → List (List ℕ) → List Part
 parts_of_pieces at [] = []
 parts_of_pieces at (p ∷ ps) =
     let part : Part = record { start = at; end = at + length p; value = value_of_piece p } in
     (if counts p then part ∷ [] else []) ++ parts_of_pieces (at + length p + 1) ps
 
--- the parts of the pieces between the slashes of s, which stands at `at`
+-- the components of the pieces between the slashes of s, if s begins at index `at`
 unfoldable pub inner_parts : ℕ → List ℕ → List Part
 inner_parts at s = parts_of_pieces at (slice_split is_slash s)
 
@@ -63,18 +65,19 @@ inner_parts at s = parts_of_pieces at (slice_split is_slash s)
 abbrev pub is_rooted : List ℕ → Bool
 is_rooted s = option_map_or is_slash (slice_get s 0) false
 
--- the root at 0..1 if byte 0 is a slash, else `.` at 0..1 if that is the first piece, else nothing
+-- the root at 0..1 if byte 0 is a slash, else the `.` at 0..1 if the first piece is `.`, else
+-- nothing
 unfoldable pub leading_part : List ℕ → List Part
 leading_part s =
     let dotted = bytes_eq (before_first is_slash s) cur_dir in
     if is_rooted s then record { start = 0; end = 1; value = RootDir } ∷ []
     else (if dotted then record { start = 0; end = 1; value = CurDir } ∷ [] else [])
 
--- the leading part, and then the pieces that count, each with its place
+-- the root or leading `.`, and then the pieces that count, each with its position
 unfoldable pub parts : List ℕ → List Part
 parts s = leading_part s ++ inner_parts 0 s
 
--- the parts without their places
+-- the components without their positions
 unfoldable pub values : List ℕ → List Value
 values s = map (λ p. p.value) (parts s)
 
@@ -82,7 +85,7 @@ values s = map (λ p. p.value) (parts s)
 abbrev pub SameValues : List ℕ → List ℕ → Type 0
 SameValues s t = values s ≡ values t
 
--- the bytes that a value is written as
+-- the bytes of a value
 abbrev pub value_bytes : Value → List ℕ
 value_bytes RootDir = slash ∷ []
 value_bytes CurDir = cur_dir

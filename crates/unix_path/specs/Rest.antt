@@ -1,4 +1,5 @@
--- What is left of a path after some parts in front and some behind (Rust's `Components::as_path`).
+-- The rest of a path without some leading and some trailing components (Rust's
+-- `Components::as_path`).
 use Rattle.std.specs.Prelude.{ℕ, ◌+◌, ◌-◌, List, [], ◌∷◌, length, take, drop, slice_range}
 use Rattle.unix_path.specs.Parts.{Part, parts}
 
@@ -7,11 +8,11 @@ abbrev pub last_end : Part → List Part → ℕ
 last_end p [] = p.end
 last_end p (q ∷ qs) = last_end q qs
 
--- s from the start of the first of these parts to the end of the last; empty if there is none
+-- s from the start of the first of these components to the end of the last; empty if there is none
 abbrev pub span_of : List ℕ → List Part → List ℕ
 span_of s [] = []
 span_of s (p ∷ ps) = slice_range s p.start (last_end p ps)
 
--- what is left of s after its first k and its last m parts
+-- the span of the components of s, except its first k and its last m
 unfoldable pub rest : List ℕ → ℕ → ℕ → List ℕ
 rest s k m = let all = parts s in span_of s (take (length all - (k + m)) (drop k all))

@@ -1,22 +1,22 @@
--- Which bytes of a path are filler, and where a piece `..` stands.
+-- Filler in a path, and `..` as its first or last piece.
 use Rattle.std.specs.Prelude.{◌≡◌, ◌<◌, ℕ, ◌+◌, ◌-◌, nat_lt, ◌==◌, Bool, false, ◌||◌, ◌&&◌, List}
 use Rattle.std.specs.Prelude.{[], ◌∷◌, length, slice_index, slice_index_or, Option, Some, None}
 use Rattle.unix_path.specs.Parts.{slash, dot}
 
--- the byte at i is a slash, or a `.` that a slash or the end follows
+-- the byte at i is a slash, or a `.` before a slash or the end
 abbrev pub is_filler : List ℕ → ℕ → Bool
 is_filler s i =
     slice_index s i == slash
     || (slice_index s i == dot && slice_index_or s (i + 1) slash == slash)
 
 -- the first piece is `..`
-abbrev pub begins_with_parent : List ℕ → Bool
-begins_with_parent s =
+abbrev pub starts_with_parent_dir : List ℕ → Bool
+starts_with_parent_dir s =
     slice_index s 0 == dot && (slice_index s 1 == dot && slice_index_or s 2 slash == slash)
 
 -- the last piece is `..`
-abbrev pub ends_with_parent : List ℕ → Bool
-ends_with_parent s =
+abbrev pub ends_with_parent_dir : List ℕ → Bool
+ends_with_parent_dir s =
     slice_index s (length s - 1) == dot
     && (nat_lt 1 (length s) && (slice_index s (length s - 2) == dot
     && (length s == 2 || slice_index s (length s - 3) == slash)))
@@ -27,11 +27,12 @@ is_trailing s i =
     nat_lt 0 i
     && (slice_index s i == slash || (slice_index s i == dot && slice_index s (i - 1) == slash))
 
--- the string is empty or ends where its last part ends
+-- the string is empty or ends where its last component ends
 abbrev pub EndsInPart : List ℕ → Type 0
 EndsInPart s = 0 < length s → is_trailing s (length s - 1) ≡ false
 
--- the byte between what is kept and what is added, if there is one
+-- the bytes of the separator that an edit puts between the bytes it keeps and those it appends: one
+-- byte, or none
 abbrev pub separator_bytes : Option ℕ → List ℕ
 separator_bytes None = []
 separator_bytes (Some b) = b ∷ []

@@ -1,4 +1,4 @@
--- The values that components stand for.
+-- The values of components.
 use Rattle.unix_path.specs.Parts.{Value}
 use Rattle.unix_path.specs.Parts as parts
 use Rattle.unix_path.specs.declared.cursor.component.Component.{Component}

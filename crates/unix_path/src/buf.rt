@@ -1,15 +1,15 @@
-//! Paths that own their bytes.
+//! Owned paths.
 ghost use Rattle.std.specs.Prelude.{◌≡◌, ◌<◌, ◌≤◌, [], length, IfOk, IsOk};
-ghost use Rattle.unix_path.specs.Buffers.{path_bytes, room, capacity};
+ghost use Rattle.unix_path.specs.Buffers.{path_bytes, spare_capacity, capacity};
 ghost use Rattle.unix_path.specs.Parts.{values, value_bytes};
 ghost use Rattle.unix_path.specs.Rest.{rest};
 
+mod collect;
 mod conversions;
 mod edits;
 mod extensions;
-mod many;
 mod order;
-mod room;
+mod spare_capacity;
 
 use crate::cursor::Iter;
 use crate::path::Path;
@@ -18,12 +18,11 @@ use std::alloc::{AllocError, Global};
 use std::fmt;
 use unix_bytes::bytes::{UnixStr, UnixString};
 
-/// An owned path: bytes, which slashes cut into parts, and which edits change.
+/// An owned path: bytes that slashes separate into components, and that edits change.
 ///
-/// It keeps its allocator. An edit makes one allocation at most, before it cuts anything; if the
-/// allocation fails, the bytes stay as they were. `extend` pushes item by item, and if a push
-/// fails, the items before it stay joined. `into_boxed_path` drops the path if it fails. As Rust's
-/// `PathBuf` on Unix.
+/// It keeps its allocator. An edit makes at most one allocation, before it removes anything. If the
+/// allocation fails, the bytes are unchanged. `extend` is an exception: it pushes item by item, and
+/// if a push fails, the items before it stay joined. `into_boxed_path` drops the path if it fails.
 ///
 /// `foo//bar/.` after `pop` is `foo`.
 #[derive(Drop)]
@@ -32,9 +31,9 @@ pub struct PathBuf {
 }
 
 impl PathBuf {
-    /// The empty path. Does not allocate. As Rust's `PathBuf::new`.
+    /// Returns the empty path. Does not allocate.
     ///
-    /// `PathBuf::new(alloc)` has no part.
+    /// `PathBuf::new(alloc)` has no component.
     #[must_use]
     #[inline]
     pub fn new(alloc: Global) -> PathBuf
@@ -45,23 +44,23 @@ impl PathBuf {
         }
     }
 
-    /// The empty path with room for at least `count` bytes.
+    /// Returns the empty path with spare capacity for at least `count` bytes.
     ///
-    /// Allocates once, or not at all for 0 bytes; fails if the allocation fails. As Rust's
-    /// `PathBuf::with_capacity`.
+    /// Allocates once, and fails if the allocation fails. If `count` is 0, it does not allocate,
+    /// and succeeds.
     ///
-    /// `PathBuf::with_capacity(alloc, 10)?` takes 10 bytes before it grows.
+    /// `PathBuf::with_capacity(alloc, 10)?` can hold 10 bytes before it grows.
     #[must_use]
     pub fn with_capacity(alloc: Global, count: usize) -> Result<PathBuf, AllocError>
         ensures bytes { IfOk result (λ p. path_bytes p ≡ []) }
-        ensures room { IfOk result (λ p. count ≤ room p) }
+        ensures spare_capacity { IfOk result (λ p. count ≤ spare_capacity p) }
         ensures succeeds { count ≡ 0 → IsOk result }
     {
         let inner = UnixString::with_capacity(alloc, count)?;
         Ok(PathBuf { inner })
     }
 
-    /// The path as a view of all its bytes. Does not allocate. As Rust's `PathBuf::as_path`.
+    /// Returns the path as a view of all its bytes.
     ///
     /// After a push of `foo/` onto the empty path, it is `foo/`.
     #[must_use]
@@ -72,8 +71,7 @@ impl PathBuf {
         Path::new(self.inner.as_unix_str())
     }
 
-    /// How many bytes it can hold before it grows. Does not allocate. As Rust's
-    /// `PathBuf::capacity`.
+    /// Returns how many bytes the path can hold before it grows.
     ///
     /// After `with_capacity(alloc, 10)` it is at least 10.
     #[must_use]
@@ -84,10 +82,9 @@ impl PathBuf {
         self.inner.capacity()
     }
 
-    /// Makes it the empty path, and keeps the capacity. Does not allocate. As Rust's
-    /// `PathBuf::clear`.
+    /// Removes all bytes, and keeps the capacity.
     ///
-    /// `/foo` after `clear` has no part.
+    /// `/foo` after `clear` has no component.
     #[inline]
     pub fn clear(&mut self)
         ensures bytes { path_bytes self.new ≡ [] }
@@ -96,10 +93,10 @@ impl PathBuf {
         self.inner.clear();
     }
 
-    /// A copy of the path, under the same allocator.
+    /// Returns a copy of the path, with the same allocator.
     ///
-    /// Allocates once; fails if the allocation fails. For no bytes does not allocate, and succeeds.
-    /// As `Clone` of Rust's `PathBuf`.
+    /// Allocates once, and fails if the allocation fails. If the path is empty, it does not
+    /// allocate, and succeeds.
     ///
     /// A clone of `foo/` is another `foo/`.
     #[must_use]
@@ -112,10 +109,10 @@ impl PathBuf {
     }
 }
 
-/// The walk that `as_path().iter()` gives. Does not allocate. As Rust's `IntoIterator` of
+/// Converts the path into the walk that `as_path().iter()` returns. Like Rust's `IntoIterator` of
 /// `&PathBuf`.
 ///
-/// For `/tmp/` it gives `/` and `tmp`.
+/// For `/tmp/` it yields `/` and `tmp`.
 impl<'a> IntoIterator for &'a PathBuf {
     ghost use Rattle.std.specs.Prelude.{◌^◌, map};
     ghost use Rattle.unix_path.specs.Cursor.{iter_rest, iter_bytes};
@@ -135,7 +132,7 @@ impl<'a> IntoIterator for &'a PathBuf {
     }
 }
 
-/// The debug form of `as_path`: for `/tmp` it is `"/tmp"`. Does not allocate.
+/// Writes the debug form of `as_path`: for `/tmp` it is `"/tmp"`.
 impl fmt::Debug for PathBuf {
     fn fmt<W: fmt::Write>(&self, f: &mut fmt::Formatter<W>) -> fmt::Result {
         fmt::Debug::fmt(&self.as_path(), f)

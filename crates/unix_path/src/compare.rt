@@ -1,15 +1,15 @@
-//! The order of two paths, and whether they are equal.
+//! The order of two paths, and their equality.
 ghost use Rattle.std.specs.Prelude.{◌≡◌};
 ghost use Rattle.std.specs.Ordering.{is_eq};
 ghost use Rattle.unix_path.specs.Parts.{values};
 ghost use Rattle.unix_path.specs.Order.{values_cmp};
 
-use crate::endings::shared_last_len;
-use crate::pair::{Comparison, Difference, Pair, left_len};
+use crate::pair::{Comparison, Difference, Pair, rest_len};
+use crate::suffixes::shared_last_len;
 use std::cmp::Ordering;
 use unix_bytes::search::common_len;
 
-// The order of two paths by their values.
+// Returns the order of two paths by their components.
 pub(crate) fn compare(a: &[u8], b: &[u8]) -> Ordering
     ensures { result ≡ values_cmp (values a.now) (values b.now) }
 {
@@ -22,16 +22,17 @@ pub(crate) fn compare(a: &[u8], b: &[u8]) -> Ordering
         return Ordering::Equal;
     }
     match pair.first_difference() {
-        Difference::InParts(order) => order,
-        Difference::InFirstParts => pair.first_parts_order(),
-        Difference::Behind(first, second) if first.is_empty() => 0.cmp(&left_len(second)),
-        Difference::Behind(first, second) if second.is_empty() => left_len(first).cmp(&0),
-        Difference::Behind(first, second) => Comparison::order_behind_cut(first, second),
+        Difference::Decided(order) => order,
+        Difference::FirstComponents => pair.first_components_order(),
+        Difference::CutBefore(first, second) if first.is_empty() => 0.cmp(&rest_len(second)),
+        Difference::CutBefore(first, second) if second.is_empty() => rest_len(first).cmp(&0),
+        Difference::CutBefore(first, second) => Comparison::order_after_cut(first, second),
     }
 }
 
-// Whether two paths have the same values. Most paths that differ do so in their last parts, so the
-// ends are looked at first, but for paths that may well have the same bytes.
+// Returns true if and only if two paths have the same components. Most paths that differ do so in
+// their last components, so these are compared first. Paths with the same length and last byte are
+// an exception, because they may well have the same bytes.
 pub(crate) fn is_same(a: &[u8], b: &[u8]) -> bool
     ensures { result ≡ is_eq (values_cmp (values a.now) (values b.now)) }
 {

@@ -1,5 +1,4 @@
-//! Walks over the parts of a path, from both ends. What they pass over, slashes and `.` pieces that
-//! are no part, is filler.
+//! Walks over the components of a path from both ends, which skip filler, and over its ancestors.
 mod component;
 mod hash;
 mod iter;
@@ -11,5 +10,5 @@ mod walk;
 pub use component::Component;
 pub use iter::Iter;
 pub use parents::Ancestors;
-pub(crate) use steps::{last_name_step, trimmed_len};
+pub(crate) use steps::{split_last_root_or_name, trimmed_len};
 pub use walk::Components;

@@ -1,4 +1,4 @@
-//! Paths as text.
+//! Paths as strings: valid UTF-8, and lossy text.
 ghost use Rattle.std.specs.Prelude.{◌≡◌, ◌↔◌, IsOk, IsSome, IfOk, IfSome, Some, if◌then◌else◌};
 ghost use Rattle.std.specs.Fmt.{padded};
 ghost use Rattle.unix_bytes.specs.Utf8.{IsText};
@@ -11,20 +11,17 @@ use std::fmt;
 use unix_bytes::bytes::{LossyText, UnixStr};
 use unix_bytes::lossy::Utf8Lossy;
 
-/// Bytes that are printed as their lossy text.
-///
-/// It is a view, and making, copying or printing one does not allocate. As Rust's
-/// `std::path::Display`.
+/// A view of bytes that is printed as lossy text.
 ///
 /// The bytes of `tmp` are printed as `tmp`.
 #[derive(Clone, Copy)]
 pub struct Display<'a> {
-    /// The bytes.
+    /// The bytes that are printed.
     pub bytes: &'a [u8],
 }
 
 impl<'a> Display<'a> {
-    /// The bytes, to be printed. Does not allocate. Not in Rust's std.
+    /// Returns a view that prints these bytes.
     ///
     /// `Display::from_bytes(b"a\xff")` is printed as `a` and U+FFFD.
     #[inline]
@@ -35,11 +32,12 @@ impl<'a> Display<'a> {
     }
 }
 
-/// The lossy text: well-formed UTF-8 as it is (RFC 3629 section 4), and U+FFFD for each broken
-/// front, the longest beginning of a sequence that breaks off, or else one byte.
+/// Writes the lossy text: valid UTF-8 unchanged (RFC 3629 section 4), and one U+FFFD for each group
+/// of invalid bytes. Such a group is the longest prefix of a UTF-8 sequence, if the sequence is cut
+/// off there, or else one byte.
 ///
-/// Bytes that are UTF-8 are padded by width, precision, fill and alignment, as a `str` is; other
-/// bytes are printed without regard to these. Does not allocate, and fails only if the writer does.
+/// Valid UTF-8 is padded by width, precision, fill and alignment, like a `str`. Other bytes are
+/// printed without padding or truncation. Fails only if the writer does.
 ///
 /// The bytes 61 FF are printed as `a` and U+FFFD.
 impl fmt::Display for Display<'_> {
@@ -54,7 +52,7 @@ impl fmt::Display for Display<'_> {
     }
 }
 
-/// The debug form of the lossy text: for `tmp` it is `"tmp"`. Does not allocate.
+/// Writes the debug form of the lossy text: for `tmp` it is `"tmp"`.
 impl fmt::Debug for Display<'_> {
     fn fmt<W: fmt::Write>(&self, f: &mut fmt::Formatter<W>) -> fmt::Result {
         fmt::Debug::fmt(&UnixStr::from_bytes(self.bytes), f)
@@ -62,8 +60,8 @@ impl fmt::Debug for Display<'_> {
 }
 
 impl<'a> Path<'a> {
-    /// The path as text, or `None` if its bytes aren't UTF-8 (RFC 3629 section 4). Does not
-    /// allocate. As Rust's `Path::to_str`.
+    /// Returns the path as a `str` if and only if its bytes are valid UTF-8 (RFC 3629 section 4),
+    /// and otherwise `None`.
     ///
     /// For `/tmp` it is `/tmp`, and for the bytes 61 FF it is `None`.
     #[must_use]
@@ -75,10 +73,10 @@ impl<'a> Path<'a> {
         self.as_unix_str().to_str()
     }
 
-    /// The path as text, with U+FFFD for each broken front, as `Display` prints it.
+    /// Returns the path as lossy text, with U+FFFD for invalid bytes, as `Display` prints it.
     ///
-    /// If the bytes are UTF-8, the text is borrowed and nothing is allocated. Otherwise it
-    /// allocates, and fails if an allocation fails. As Rust's `Path::to_string_lossy`.
+    /// If the bytes are valid UTF-8, the text is borrowed and nothing is allocated. Otherwise it
+    /// allocates, and fails if an allocation fails.
     ///
     /// For the bytes 61 FF it is `a` and U+FFFD.
     #[must_use]
@@ -90,7 +88,7 @@ impl<'a> Path<'a> {
         self.as_unix_str().to_string_lossy(alloc)
     }
 
-    /// What prints the path as its lossy text. Does not allocate. As Rust's `Path::display`.
+    /// Returns a view that prints the path as lossy text.
     ///
     /// For `/tmp` it prints `/tmp`.
     #[must_use]

@@ -1,20 +1,21 @@
-//! Filler: the slashes of a path, and its pieces `.`, that belong to no part.
+//! Filler: the slashes of a path, and its `.` pieces, that belong to no component.
 //!
-//! For code that reads the bytes of a path itself: `Path` and `Components` have what other callers
-//! need. None of these functions allocates, and Rust's std has none of them.
+//! This module is for code that reads the bytes of a path itself. Other callers use `Path` and
+//! `Components`.
 ghost use Rattle.std.specs.Prelude.{◌≡◌, ℕ, ◌+◌, ◌<◌, ◌≤◌, true, false, length, drop, IsTrue};
 ghost use Rattle.unix_path.specs.CommonDir.{inner_values};
 ghost use Rattle.unix_path.specs.Parts.{inner_parts};
-ghost use Rattle.unix_path.specs.Places.{IsTail};
+ghost use Rattle.unix_path.specs.Slices.{IsTail};
 ghost use Rattle.unix_path.specs.Scan.{is_filler, is_trailing};
-ghost use Rattle.unix_path.specs.Steps.{PastFiller};
+ghost use Rattle.unix_path.specs.Steps.{AfterFiller};
 
 use std::simd::prelude::*;
 
-/// Returns true if the byte at `at` is a slash, or a `.` that a slash or the end follows.
+/// Returns true if and only if the byte at `at` is a slash, or a `.` before a slash or the end.
 ///
-/// After a slash such a byte belongs to no part: it is filler. At the beginning of a path it is the
-/// root or a leading `.`. In `a/./b` it is true at 1, 2 and 3.
+/// After the first byte such a slash belongs to no component, and neither does such a `.` directly
+/// after a slash: they are filler. At the beginning of a path the byte is the root or a leading
+/// `.`. In `a/./b` it is true at 1, 2 and 3.
 #[inline]
 pub fn is_filler(bytes: &[u8], at: usize) -> bool
     requires { at < length bytes.now }
@@ -23,9 +24,10 @@ pub fn is_filler(bytes: &[u8], at: usize) -> bool
     bytes[at] == b'/' || (bytes[at] == b'.' && (at + 1 == bytes.len() || bytes[at + 1] == b'/'))
 }
 
-/// Returns true if the byte at `at` isn't the first, and is a slash or a `.` after a slash.
+/// Returns true if and only if the byte at `at` is not the first byte, and is a slash, or a `.`
+/// directly after a slash.
 ///
-/// At the end of a path such a byte belongs to no part. In `/a/.` it is true at 2 and 3.
+/// Such a byte is filler if no component follows it. In `/a/.` it is true at 2 and 3.
 #[inline]
 pub fn is_trailing(bytes: &[u8], at: usize) -> bool
     requires { at < length bytes.now }
@@ -34,7 +36,7 @@ pub fn is_trailing(bytes: &[u8], at: usize) -> bool
     0 < at && (bytes[at] == b'/' || (bytes[at] == b'.' && bytes[at - 1] == b'/'))
 }
 
-/// Returns the length of the filler at the beginning of what follows a slash.
+/// Returns the length of the filler at the beginning of bytes that follow a slash or a component.
 ///
 /// Reads byte by byte, since filler is usually short. For `/./a` it is 3, and for `.a` it is 0.
 #[inline]
@@ -42,7 +44,7 @@ pub fn filler_len(bytes: &[u8]) -> usize
     ensures in_range { result ≤ length bytes.now }
     ensures filler { (at : ℕ) →
         inner_parts at bytes.now ≡ inner_parts (at + result) (drop result bytes.now) }
-    ensures busy { result < length bytes.now → is_filler bytes.now result ≡ false }
+    ensures not_filler { result < length bytes.now → is_filler bytes.now result ≡ false }
 {
     let mut len = 0;
     while len < bytes.len() && is_filler(bytes, len) {
@@ -51,9 +53,9 @@ pub fn filler_len(bytes: &[u8]) -> usize
     len
 }
 
-// Returns true only if each of the 16 bytes from `at` on is a slash, or a `.` before a slash.
+// Returns true if each of the 16 bytes that start at `at` is a slash, or a `.` before a slash.
 #[inline]
-fn is_filler_block(path: &[u8], at: usize) -> bool
+fn is_filler_simd16(path: &[u8], at: usize) -> bool
     requires { at + 16 < length path.now }
     ensures { IsTrue result → ((k : ℕ) → at ≤ k → k < at + 16 → is_filler path.now k ≡ true) }
 {
@@ -65,11 +67,10 @@ fn is_filler_block(path: &[u8], at: usize) -> bool
     other.to_bitmask() == 0
 }
 
-// Returns the length of the filler at the beginning, or less: `start` bytes, which are known to be
-// filler, and then 16 for each block of 16 bytes that are all filler. Stops if 16 bytes or fewer
-// are left.
+// Skips blocks of 16 bytes that are all filler, starting at `start`. Returns the index where it
+// stops: at a block with a byte that isn't filler, or where at most 16 bytes remain.
 #[inline]
-fn filler_blocks_len(path: &[u8], start: usize) -> usize
+fn filler_blocks_end(path: &[u8], start: usize) -> usize
     requires { start ≤ length path.now }
     ensures forward { start ≤ result }
     ensures in_range { result ≤ length path.now }
@@ -77,39 +78,39 @@ fn filler_blocks_len(path: &[u8], start: usize) -> usize
         ≡ inner_parts (at + result) (drop result path.now) }
 {
     let mut len = start;
-    while path.len() - len > 16 && is_filler_block(path, len) {
+    while path.len() - len > 16 && is_filler_simd16(path, len) {
         len += 16;
     }
     len
 }
 
-// As `long_filler_len`, for filler of which `start` bytes are known: reads blocks of 16. It is cold
-// and not inlined, so that callers keep their registers for short filler, which most filler is.
+// Skips the filler at `start`, and returns the index where it ends. Reads blocks of 16 bytes. Cold
+// and not inlined, so that callers keep their registers for short filler, which is the usual case.
 #[cold]
 #[inline(never)]
-fn filler_len_from(path: &[u8], start: usize) -> usize
+fn filler_end_from(path: &[u8], start: usize) -> usize
     requires { start ≤ length path.now }
     ensures in_range { result ≤ length path.now }
     ensures filler { (at : ℕ) → inner_parts (at + start) (drop start path.now)
         ≡ inner_parts (at + result) (drop result path.now) }
-    ensures busy { result < length path.now → is_filler path.now result ≡ false }
+    ensures not_filler { result < length path.now → is_filler path.now result ≡ false }
 {
-    let mut len = filler_blocks_len(path, start);
+    let mut len = filler_blocks_end(path, start);
     while len < path.len() && is_filler(path, len) {
         len += 1;
     }
     len
 }
 
-// Returns how many bytes of filler begin at `i`: a slash, a `.` and the slash after it, or a `.` at
-// the end. Returns 0 if a part begins there.
+// Returns the length of the filler at `i` that one step skips: a slash, a `.` and the slash after
+// it, or a `.` at the end. Returns 0 if a component begins there.
 #[inline]
 fn filler_step(path: &[u8], i: usize) -> usize
     requires { i < length path.now }
     ensures in_range { i + result ≤ length path.now }
     ensures filler { (at : ℕ) → inner_parts (at + i) (drop i path.now)
         ≡ inner_parts (at + (i + result)) (drop (i + result) path.now) }
-    ensures busy { result ≡ 0 → is_filler path.now i ≡ false }
+    ensures not_filler { result ≡ 0 → is_filler path.now i ≡ false }
 {
     if path[i] == b'/' {
         return 1;
@@ -123,14 +124,14 @@ fn filler_step(path: &[u8], i: usize) -> usize
     if path[i + 1] == b'/' { 2 } else { 0 }
 }
 
-// As `filler_len`, for filler that may be long: after its first four bytes, reads blocks of 16.
-// `filler_len` is quicker for short filler, as between two parts.
+// Does the same as `filler_len`, for filler that may be long: after four or five bytes, reads
+// blocks of 16 bytes. `filler_len` is faster for short filler, such as between two components.
 #[inline]
 fn long_filler_len(path: &[u8]) -> usize
     ensures in_range { result ≤ length path.now }
     ensures filler { (at : ℕ) →
         inner_parts at path.now ≡ inner_parts (at + result) (drop result path.now) }
-    ensures busy { result < length path.now → is_filler path.now result ≡ false }
+    ensures not_filler { result < length path.now → is_filler path.now result ≡ false }
 {
     let mut len = 0;
     while len < path.len() {
@@ -140,20 +141,21 @@ fn long_filler_len(path: &[u8]) -> usize
         }
         len += step;
         if len > 3 {
-            return filler_len_from(path, len);
+            return filler_end_from(path, len);
         }
     }
     len
 }
 
-/// Returns what follows the filler at the beginning of what follows a slash.
+/// Returns the given bytes, which follow a slash or a component, without the filler at their
+/// beginning.
 ///
 /// Reads long filler 16 bytes at a time. For `/./a` it is `a`.
 #[inline]
-pub fn past_filler(bytes: &[u8]) -> &[u8]
+pub fn after_filler(bytes: &[u8]) -> &[u8]
     ensures same { inner_values bytes.now ≡ inner_values result.now }
-    ensures busy { is_filler result.now 0 ≡ false }
-    ensures behind { PastFiller bytes.now result.now }
+    ensures not_filler { is_filler result.now 0 ≡ false }
+    ensures after { AfterFiller bytes.now result.now }
     ensures tail { IsTail result bytes.entry }
 {
     &bytes[long_filler_len(bytes)..]

@@ -15,24 +15,23 @@ use std::alloc::{AllocError, Global};
 use std::error::Error;
 use std::fmt;
 
-/// Why a path couldn't be written as JSON, or why a JSON value couldn't be read as a path.
+/// The error of writing a path as JSON, or of reading a JSON value as a path.
 ///
-/// Each variant is printed as the text beside it, padded by width, precision, fill and alignment.
-/// Not in Rust's std.
+/// Each variant is printed as the text in its comment, padded by width, precision, fill and
+/// alignment.
 ///
-/// `to_json` of the path with the bytes 66 FF is refused with `NotUtf8`.
+/// `to_json` of the path with the bytes 66 FF fails with `NotUtf8`.
 #[derive(Debug, Drop)]
 pub enum JsonError {
-    /// The path's bytes aren't UTF-8: `path contains invalid UTF-8 characters`.
+    /// The path's bytes are not valid UTF-8: `path contains invalid UTF-8 characters`.
     NotUtf8,
-    /// The value isn't a string: `expected path string`.
+    /// The value is not a string: `expected path string`.
     NotString,
     /// An allocation failed: `out of memory`.
     Memory(AllocError),
 }
 
-/// The texts that the variants name, padded by width, precision, fill and alignment. Does not
-/// allocate.
+/// Writes the variant's text, padded by width, precision, fill and alignment.
 ///
 /// `JsonError::NotString` is printed as `expected path string`.
 impl fmt::Display for JsonError {
@@ -53,9 +52,9 @@ impl fmt::Display for JsonError {
 
 impl Error for JsonError {}
 
-/// `Memory`, with the error of the allocation. Does not allocate.
+/// Converts the error of an allocation into `Memory`.
 ///
-/// With it `?` works on a `Path::to_path_buf` in a function whose error is a `JsonError`.
+/// This lets `?` work on a `Path::to_path_buf` in a function whose error is a `JsonError`.
 impl From<AllocError> for JsonError {
     ghost use Rattle.unix_path.specs.declared.json.JsonError.TheVariants.{Memory};
 
@@ -66,11 +65,11 @@ impl From<AllocError> for JsonError {
     }
 }
 
-/// The path's text, as a JSON string.
+/// Returns the path as a JSON string. Replaces serde's `Serialize`.
 ///
-/// Allocates once; for no bytes does not allocate, and succeeds. The error is `NotUtf8` exactly if
-/// the bytes are not UTF-8 (RFC 3629 section 4), and comes before anything is allocated; it is
-/// `Memory` if the allocation fails. Not in Rust's std; it takes the place of serde's `Serialize`.
+/// The error is `NotUtf8` if and only if the bytes are not valid UTF-8 (RFC 3629 section 4). It is
+/// returned before anything is allocated. The error is `Memory` if the allocation fails. Allocates
+/// once. If the path is empty, it does not allocate, and succeeds.
 ///
 /// For `a//b` it is the string `a//b`.
 pub fn to_json(alloc: Global, path: Path<'_>) -> Result<Value, JsonError>
@@ -87,14 +86,13 @@ pub fn to_json(alloc: Global, path: Path<'_>) -> Result<Value, JsonError>
     Ok(Value::String(copy))
 }
 
-/// The path that a JSON string holds.
+/// Returns the path that a JSON string contains. Replaces serde's `Deserialize`.
 ///
-/// Allocates once; for the empty string does not allocate, and succeeds. The error is `NotString`
-/// exactly if the value isn't a string (a number, for instance), and comes before anything is
-/// allocated; it is `Memory` if the allocation fails. Not in Rust's std; it takes the place of
-/// serde's `Deserialize`.
+/// The error is `NotString` if and only if the value is not a string (for example, a number). It is
+/// returned before anything is allocated. The error is `Memory` if the allocation fails. Allocates
+/// once. If the string is empty, it does not allocate, and succeeds.
 ///
-/// For the string `a//b` it is the path `a//b`. What `to_json` wrote is read back as a path of the
+/// For the string `a//b` it is the path `a//b`. A path that `to_json` wrote is read back with the
 /// same bytes.
 pub fn from_json(alloc: Global, value: &Value) -> Result<PathBuf, JsonError>
     ensures value { IfOk result (λ path. IsString value.now (path_bytes path)) }

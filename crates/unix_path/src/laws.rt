@@ -1,4 +1,4 @@
-//! Laws of parts and walks: each function does nothing, and its contract is the law.
+//! Laws of components and walks: each function does nothing, and its contract is the law.
 ghost use Rattle.std.specs.Prelude.{◌≡◌, ◌↔◌, IsTrue};
 ghost use Rattle.unix_path.specs.Order.{value_cmp};
 ghost use Rattle.unix_path.specs.Views.{value_of};
@@ -9,13 +9,12 @@ mod walks;
 use crate::cursor::Component;
 pub use walks::{ends_meet, walks_in_order};
 
-/// Components are equal exactly if they have the same value, and are ordered as their values are.
+/// Components are equal if and only if they have the same value, and are ordered as their values
+/// are.
 ///
-/// That is what `==` (`equal`) and `cmp` (`order`) of `Component` answer. Calling it does nothing.
-/// Not in Rust's std.
+/// This describes `==` (`equal`) and `cmp` (`order`) of `Component`.
 ///
-/// The root is less than `.`, that than `..`, and that than the names, which are ordered by their
-/// bytes.
+/// The root comes first, then `.`, then `..`, and then the names, ordered by their bytes.
 pub fn components_ordered()
     ensures equal { (x y : Component) →
         IsTrue (⟦<Component<'static> as PartialEq>⟧.eq x y) ↔ (value_of x ≡ value_of y) }

@@ -1,27 +1,37 @@
-//! Unix paths as plain bytes, on any platform.
+//! Unix paths as byte strings, with the same behaviour on every platform.
+//!
+//! Unless stated otherwise:
+//! - Functions named as in `std::path` behave as they do on Unix.
+//! - Functions do not allocate unless they take an allocator or say so.
+//! - Laws do nothing at run time.
+//! - Indices and lengths count bytes.
+//!
+//! A component is the root, a leading `.`, a name, or `..`. Bytes that belong to no component,
+//! namely other slashes and `.` pieces, are filler. In clauses, `parts` and `values` are the
+//! components with and without their positions.
 #![tactic(auto)]
 
 pub mod buf;
 mod compare;
 pub mod cursor;
 pub mod display;
-mod endings;
 pub mod filler;
-pub mod firsts;
+pub mod first_component;
 pub mod json;
-pub mod kept;
-pub mod lasts;
 pub mod laws;
+pub mod name_run_ends;
 mod names;
 mod order;
 mod pair;
 pub mod path;
+pub mod path_end;
+pub mod pointers;
 pub mod stems;
-pub mod stops;
+mod suffixes;
 
 pub use buf::{ExtensionError, PathBuf};
 pub use cursor::{Ancestors, Component, Components, Iter};
 pub use display::Display;
-pub use kept::{BoxedPath, CowPath, RcPath};
 pub use path::{MAIN_SEPARATOR, Path, StripPrefixError, is_separator};
+pub use pointers::{BoxedPath, CowPath, RcPath};
 pub use unix_bytes::{bytes, lossy};

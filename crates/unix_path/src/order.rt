@@ -1,4 +1,4 @@
-//! Equality, order and hash of paths, by the values of their parts.
+//! Equality, order and hash of paths, by their components.
 ghost use Rattle.std.specs.Prelude.{◌≡◌, ◌↔◌, IsTrue, Some, fold};
 ghost use Rattle.std.specs.Ordering.{is_eq};
 ghost use Rattle.std.specs.Cmp;
@@ -17,7 +17,7 @@ use crate::path::Path;
 use std::cmp::Ordering;
 use std::hash::{Hash, Hasher};
 
-// Feeds a hasher the parts that a walk has left, one after the other.
+// Feeds a hasher the components that remain in a walk, one after the other.
 fn feed_parts<H: Hasher>(parts: Components<'_>, state: &mut H)
     ensures { state.new ≡ fold H.write state.old (hash_input_of (cursor_values parts.entry)) }
 {
@@ -26,8 +26,8 @@ fn feed_parts<H: Hasher>(parts: Components<'_>, state: &mut H)
     }
 }
 
-/// Two paths are equal if the values of their parts are: `a//b` equals `a/b/.`, and `./a` doesn't
-/// equal `a`. Does not allocate. As `PartialEq` of Rust's `Path`.
+/// Two paths are equal if and only if their components are: `a//b` equals `a/b/.`, and `./a`
+/// doesn't equal `a`.
 impl PartialEq for Path<'_> {
     ghost eq = { λ x y. is_eq (values_cmp (values x.bytes.now) (values y.bytes.now)) };
 
@@ -59,8 +59,7 @@ impl PartialOrd for Path<'_> {
     }
 }
 
-/// Paths are ordered by the values of their parts: `a/b` comes before `a.b`, and `./a` before `a`.
-/// Does not allocate. As `Ord` of Rust's `Path`.
+/// Paths are ordered by their components: `a/b` comes before `a.b`, and `./a` before `a`.
 impl Ord for Path<'_> {
     ghost cmp = { λ x y. values_cmp (values x.bytes.now) (values y.bytes.now) };
 
@@ -75,10 +74,12 @@ impl Ord for Path<'_> {
     }
 }
 
-/// A path feeds a hasher the values of its parts one after the other, each as `Component` does, so
-/// `a//b` feeds what `a/b` feeds. Different tuples of paths can feed the same bytes, as
-/// (`a`, `b/c`) and (`a/b`, `c`) do, so a key of several paths should feed something between them,
-/// such as a slash and a NUL, with which no part begins. Does not allocate.
+/// Feeds a hasher the components one after the other, each as `Component` does. So `a//b` feeds the
+/// same bytes as `a/b`.
+///
+/// Different tuples of paths can feed the same bytes, for example (`a`, `b/c`) and (`a/b`, `c`). A
+/// key of several paths should therefore feed something between them, such as a slash and a NUL,
+/// with which no component begins.
 impl Hash for Path<'_> {
     ghost hash_input = { λ path. hash_input_of (values path.bytes.now) };
 

@@ -1,6 +1,6 @@
-//! The view of a path.
+//! The borrowed path, `Path`.
 //!
-//! The other methods of `Path` stand by their subject:
+//! Its other methods are grouped by subject:
 //! - `path/parents.rt`: `parent` and `ancestors`;
 //! - `path/file_name.rt`: `file_name`, `file_stem`, `extension` and `file_prefix`;
 //! - `path/prefix.rt`: `strip_prefix`, `starts_with` and `ends_with`;
@@ -10,16 +10,16 @@
 //! - `buf/edits.rt`: `join` and `with_file_name`;
 //! - `buf/extensions.rt`: `with_extension` and `with_added_extension`.
 //!
-//! `order.rt` has the equality, the order and the hash of a `Path`. `json.rt`, `kept/boxed.rt`,
-//! `kept/rc.rt` and `kept/cow.rt` have the functions that convert one.
+//! `order.rt` defines the equality, order and hash of a `Path`. `json.rt`, `pointers/boxed.rt`,
+//! `pointers/rc.rt` and `pointers/cow.rt` contain the functions that convert a `Path`.
 ghost use Rattle.std.specs.Prelude.{◌≡◌, ◌↔◌, ◌<◌, ◌^◌, not, [], ◌∷◌, length, map};
 ghost use Rattle.std.specs.Prelude.{IsTrue, IsFalse};
 ghost use Rattle.unix_path.specs.Parts.{RootDir, slash, values, value_bytes, is_rooted};
 ghost use Rattle.unix_path.specs.Rest.{rest};
 ghost use Rattle.unix_path.specs.Cursor.{cursor_rest, cursor_source, cursor_start, cursor_values};
 ghost use Rattle.unix_path.specs.Cursor.{iter_rest, iter_source, iter_start, iter_bytes};
-ghost use Rattle.unix_path.specs.Prefixes.{Begins};
-ghost use Rattle.unix_path.specs.Places.{LiesIn, place_of};
+ghost use Rattle.unix_path.specs.Prefixes.{IsPrefixOf};
+ghost use Rattle.unix_path.specs.Slices.{LiesIn, memory_offset};
 
 mod common_dir;
 mod file_name;
@@ -31,27 +31,25 @@ pub use prefix::StripPrefixError;
 use std::fmt;
 use unix_bytes::bytes::UnixStr;
 
-/// A borrowed path: bytes, which slashes cut into parts.
+/// A borrowed path: bytes that slashes separate into components.
 ///
-/// Any bytes are a path, the empty string too, and a `Path` keeps them all. Slashes and `.` pieces
-/// that are no part are the path's filler. Copying one copies the view and not the bytes. As Rust's
-/// `Path` on Unix, which stands behind a reference.
+/// Any byte string is a path, including the empty one, and a `Path` keeps all of its bytes. Slashes
+/// and `.` pieces that are not components are filler. Copying a `Path` copies the view, not the
+/// bytes. Rust's `Path` is itself only used behind a reference.
 ///
-/// `///foo///bar` has three parts: the root, `foo` and `bar`.
+/// `///foo///bar` has three components: the root, `foo` and `bar`.
 #[derive(Clone, Copy)]
 pub struct Path<'a> {
-    /// The bytes.
+    /// The path's bytes.
     pub bytes: &'a [u8],
 }
 
-/// The character between two parts of a path, which is `/`. As Rust's
-/// `std::path::MAIN_SEPARATOR` on Unix.
+/// The separator of components, `/`.
 pub const MAIN_SEPARATOR: char = '/';
 
 const _: () = prove!(MAIN_SEPARATOR == '/');
 
-/// Whether the character separates the parts of a path: `/` alone does. Does not allocate. As
-/// Rust's `std::path::is_separator` on Unix.
+/// Returns true if and only if the character is `/`, the separator of components.
 ///
 /// `is_separator('/')` is true, and `is_separator('\\')` is false.
 #[must_use]
@@ -63,7 +61,7 @@ pub fn is_separator(c: char) -> bool
 }
 
 impl<'a> Path<'a> {
-    /// The path with these bytes, in the same memory. Does not allocate. As Rust's `Path::new`.
+    /// Returns the path with these bytes, in the same memory.
     ///
     /// `Path::new(UnixStr::new("/tmp"))` is the path `/tmp`.
     #[inline]
@@ -74,8 +72,7 @@ impl<'a> Path<'a> {
         Path { bytes: text.bytes }
     }
 
-    /// The path with these bytes, whatever they are, as the very slice that was passed. Does not
-    /// allocate. Not in Rust's std.
+    /// Returns this slice as a path, without copying it. The slice may contain any bytes.
     ///
     /// `Path::from_bytes(b"/tmp")` is the path `/tmp`.
     #[inline]
@@ -86,7 +83,7 @@ impl<'a> Path<'a> {
         Path { bytes }
     }
 
-    /// The path with the bytes of the text, in UTF-8. Does not allocate. As Rust's `Path::new` of a
+    /// Returns the path with the bytes of `text`, which are UTF-8. Like Rust's `Path::new` of a
     /// `&str`.
     ///
     /// `Path::from_text("/tmp")` is the path `/tmp`.
@@ -99,7 +96,7 @@ impl<'a> Path<'a> {
         }
     }
 
-    /// All bytes of the path, in the same memory. Does not allocate. As Rust's `Path::as_os_str`.
+    /// Returns all bytes of the path, in the same memory. Like Rust's `Path::as_os_str`.
     ///
     /// For the path `a//b/` it is `a//b/`.
     #[must_use]
@@ -111,67 +108,65 @@ impl<'a> Path<'a> {
         UnixStr { bytes: self.bytes }
     }
 
-    /// Whether the path begins with the root. Does not allocate. As Rust's `Path::is_absolute` on
-    /// Unix.
+    /// Returns true if and only if the path starts with the root.
     ///
     /// `/tmp` is absolute, and `tmp` isn't.
     #[must_use]
     #[inline]
     pub fn is_absolute(&self) -> bool
         ensures value { result ≡ is_rooted self.now.bytes.now }
-        ensures root { IsTrue result ↔ Begins (RootDir ∷ []) (values self.now.bytes.now) }
+        ensures root { IsTrue result ↔ IsPrefixOf (RootDir ∷ []) (values self.now.bytes.now) }
     {
         self.has_root()
     }
 
-    /// Whether the path doesn't begin with the root. Does not allocate. As Rust's
-    /// `Path::is_relative`.
+    /// Returns true if and only if the path does not start with the root.
     ///
     /// `./tmp` is relative, and so is the empty path.
     #[must_use]
     #[inline]
     pub fn is_relative(&self) -> bool
         ensures value { result ≡ not (is_rooted self.now.bytes.now) }
-        ensures root { IsFalse result ↔ Begins (RootDir ∷ []) (values self.now.bytes.now) }
+        ensures root { IsFalse result ↔ IsPrefixOf (RootDir ∷ []) (values self.now.bytes.now) }
     {
         !self.is_absolute()
     }
 
-    /// Whether the path begins with the root. Does not allocate. As Rust's `Path::has_root`.
+    /// Returns true if and only if the path starts with the root, that is, if its first byte is
+    /// `/`.
     ///
     /// `//tmp` has a root, and `tmp/` has none.
     #[must_use]
     #[inline]
     pub fn has_root(&self) -> bool
         ensures value { result ≡ is_rooted self.now.bytes.now }
-        ensures root { IsTrue result ↔ Begins (RootDir ∷ []) (values self.now.bytes.now) }
+        ensures root { IsTrue result ↔ IsPrefixOf (RootDir ∷ []) (values self.now.bytes.now) }
     {
         !self.bytes.is_empty() && self.bytes[0] == b'/'
     }
 
-    /// A walk over the parts, from both ends. Does not allocate. As Rust's `Path::components`.
+    /// Returns a walk over the components, from both ends.
     ///
-    /// For `///foo///bar` it gives the root, `foo` and `bar`.
+    /// For `///foo///bar` it yields the root, `foo` and `bar`.
     #[inline]
     pub fn components(&self) -> Components<'a>
         ensures rest { cursor_rest result ≡ rest self.now.bytes.now 0 0 }
         ensures place { LiesIn (cursor_source result) self.now.bytes }
-        ensures start { cursor_start result ≡ place_of self.now.bytes }
+        ensures start { cursor_start result ≡ memory_offset self.now.bytes }
         ensures values { cursor_values result ≡ values self.now.bytes.now }
         ensures len { length (cursor_values result) < 2 ^ 64 }
     {
         Components::new(self.bytes)
     }
 
-    /// A walk over the parts, each as its bytes, from both ends. Does not allocate. As Rust's
-    /// `Path::iter`.
+    /// Returns a walk over the bytes of each component, from both ends.
     ///
-    /// For `///foo///bar` it gives `/`, `foo` and `bar`.
+    /// For `///foo///bar` it yields `/`, `foo` and `bar`.
     #[inline]
     pub fn iter(&self) -> Iter<'a>
         ensures rest { iter_rest result ≡ rest self.now.bytes.now 0 0 }
         ensures place { LiesIn (iter_source result) self.now.bytes }
-        ensures start { iter_start result ≡ place_of self.now.bytes }
+        ensures start { iter_start result ≡ memory_offset self.now.bytes }
         ensures bytes { iter_bytes result ≡ map value_bytes (values self.now.bytes.now) }
         ensures len { length (iter_bytes result) < 2 ^ 64 }
     {
@@ -179,9 +174,9 @@ impl<'a> Path<'a> {
     }
 }
 
-/// The walk that `iter` gives. Does not allocate. As Rust's `IntoIterator` of `&Path`.
+/// Converts the path into the walk that `iter` returns. Like Rust's `IntoIterator` of `&Path`.
 ///
-/// For `///foo///bar` it gives `/`, `foo` and `bar`.
+/// For `///foo///bar` it yields `/`, `foo` and `bar`.
 impl<'a> IntoIterator for Path<'a> {
     type Item = UnixStr<'a>;
 
@@ -198,7 +193,7 @@ impl<'a> IntoIterator for Path<'a> {
     }
 }
 
-/// The debug form of `as_unix_str`: for `/tmp` it is `"/tmp"`. Does not allocate.
+/// Writes the debug form of `as_unix_str`: for `/tmp` it is `"/tmp"`.
 impl fmt::Debug for Path<'_> {
     fn fmt<W: fmt::Write>(&self, f: &mut fmt::Formatter<W>) -> fmt::Result {
         fmt::Debug::fmt(&self.as_unix_str(), f)

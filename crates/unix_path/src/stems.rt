@@ -1,16 +1,15 @@
-//! Where the stem of a file name ends, and what is put behind it for an extension.
+//! The end of a file name's stem, and the dot before an extension.
 ghost use Rattle.std.specs.Prelude.{◌≡◌, ◌<◌, ◌≤◌, length, take, Some};
 ghost use Rattle.unix_path.specs.Edits.{dot_before, stem_end_of};
 ghost use Rattle.unix_path.specs.Extensions.{has_slash, name_end_of};
 ghost use Rattle.unix_path.specs.Scan.{separator_bytes};
 
-use unix_bytes::search::past_last_of_two;
+use unix_bytes::search::after_last_of_two;
 
-/// The place where the stem ends of the name that the bytes end in. The first `known` bytes have to
-/// end in a stem themselves, unless there are none.
+/// Returns the index where the stem of the last name ends. The bytes must end in that name, and the
+/// first `known` bytes must also end in a stem, unless `known` is 0.
 ///
-/// Looks back to the last dot or slash, and not at the bytes before `known`, but for the last of
-/// them. Does not allocate. Not in Rust's std.
+/// Searches back to the last dot or slash. Of the bytes before `known`, reads only the last.
 ///
 /// For `a/b.rs` and 0 it is 3, and for `a/bcd` and 4 it is 5.
 #[inline]
@@ -22,19 +21,18 @@ pub fn stem_end(bytes: &[u8], known: usize) -> usize
     ensures forward { known ≤ result }
     ensures in_range { result ≤ length bytes.now }
 {
-    let past = past_last_of_two(&bytes[known..], b'.', b'/');
+    let past = after_last_of_two(&bytes[known..], b'.', b'/');
     if past == 0 {
         return bytes.len();
     }
-    let place = known + past - 1;
-    if place == 0 || bytes[place] == b'/' || bytes[place - 1] == b'/' {
+    let index = known + past - 1;
+    if index == 0 || bytes[index] == b'/' || bytes[index - 1] == b'/' {
         return bytes.len();
     }
-    place
+    index
 }
 
-/// The dot that stands before an extension, or `None` before an empty one. Does not allocate. Not
-/// in Rust's std.
+/// Returns the dot before an extension, or `None` if the extension is empty.
 ///
 /// Before `rs` it is a dot.
 #[inline]
@@ -47,9 +45,9 @@ pub fn dot_before(extension: &[u8]) -> Option<u8>
     Some(b'.')
 }
 
-/// Whether one of the bytes is a slash. Does not allocate. Not in Rust's std.
+/// Returns true if and only if one of the bytes is a slash.
 ///
-/// It is true for `x/y`, which is refused as an extension.
+/// It is true for `x/y`, which is no valid extension.
 #[inline]
 pub fn has_slash(extension: &[u8]) -> bool
     ensures { result ≡ has_slash extension.now }

@@ -1,4 +1,4 @@
 -- The lemmas, by subject.
-pub mod places
+pub mod spans
 pub mod walks
 pub mod buffers

@@ -1,8 +1,8 @@
--- What an answer in a buffer is made of. No public clause cites this word.
+-- The bytes of a result in a buffer. No public clause cites this definition.
 use Rattle.std.specs.Prelude.{ℕ, List, ◌++◌}
 use Rattle.unix_path.specs.Scan.{separator_bytes}
 use Rattle.unix_path_c.specs.declared.joins.Layout.{Layout}
 
--- the beginning, the byte behind it if there is one, and the end
+-- the beginning, then the separator's byte if there is one, then the end
 abbrev pub layout_bytes : Layout → List ℕ
 layout_bytes layout = (layout.beginning.now ++ separator_bytes layout.separator) ++ layout.end.now

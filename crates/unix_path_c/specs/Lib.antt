@@ -1,9 +1,9 @@
-pub mod Places
+pub mod Spans
 pub mod Ancestors
 pub mod Chunks
 pub mod Walks
 pub mod Queries
-pub mod Refusals
+pub mod ErrorCodes
 pub mod Layout
 pub mod SaturatedSize
 pub mod Steps

@@ -1,11 +1,12 @@
--- A length as a `size_t` of C, which may be too small for it, or greater than any buffer is. No
--- public clause cites these words.
+-- Lengths as C returns them, where a length may be greater than any `size_t`, or than any buffer.
+-- No public clause cites these definitions.
 use Rattle.std.specs.Prelude.{ℕ, min, ◌-◌, ◌^◌}
 
--- the number, or the greatest `size_t` if the number is more
+-- the number, or the greatest `size_t` if the number is greater
 abbrev pub saturated_size : ℕ → ℕ
 saturated_size n = min n (2 ^ 64 - 1)
 
--- the number, or `PTRDIFF_MAX + 1` if it is more, by which a call says that it is too long
+-- the number, or `PTRDIFF_MAX + 1` if the number is greater; with this value a call reports that
+-- its result is too long
 abbrev pub buffer_size : ℕ → ℕ
 buffer_size n = min n (2 ^ 63)

@@ -1,4 +1,4 @@
--- Walks that a caller keeps as two places of a path (Rust's `Components`).
+-- Walks that a caller keeps as two indices of a path (like Rust's `Components`).
 use Rattle.std.specs.Prelude.{ℕ, ◌+◌, ◌≤◌, nat_le, ◌==◌, ◌&&◌, List, [], ◌∷◌, map, length}
 use Rattle.std.specs.Prelude.{take, drop, slice_range, if◌then◌else◌}
 use Rattle.unix_path.specs.Parts as paths
@@ -6,52 +6,54 @@ use Rattle.unix_path.specs.Parts.{Value, RootDir, CurDir, ParentDir, Normal, par
 use Rattle.unix_path_c.specs.declared.walks.Part.{Part}
 use Rattle.unix_path_c.specs.declared.walks.Walk.{Walk}
 
--- each of these places is at most the next
+-- each of these indices is at most the next
 abbrev pub InOrder : List ℕ → Type 0
 InOrder [] = Unit {0}
 InOrder (m ∷ []) = Unit {0}
-InOrder (m ∷ n ∷ places) = (m ≤ n) × InOrder (n ∷ places)
+InOrder (m ∷ n ∷ indices) = (m ≤ n) × InOrder (n ∷ indices)
 
--- the bytes between the walk's places; none if these are out of order or past the path's end
-unfoldable pub bytes_left : List ℕ → Walk → List ℕ
-bytes_left path walk =
+-- the rest of a walk: the bytes between its indices; none if these are out of order or past the
+-- path's end
+unfoldable pub remaining : List ℕ → Walk → List ℕ
+remaining path walk =
     if nat_le walk.front walk.back && nat_le walk.back (length path)
     then slice_range path walk.front walk.back else []
 
--- the part p of a string that stands at place `at` of a path, by its places in the path
+-- p is a component of a string that begins at index `at` of a path; the same component, with its
+-- indices in the path
 abbrev pub part_from : ℕ → paths.Part → paths.Part
 part_from at p = record { start = p.start + at; end = p.end + at; value = p.value }
 
--- the parts of the bytes that are left, with their places in the path
-abbrev pub parts_left : List ℕ → Walk → List paths.Part
-parts_left path walk = map (part_from walk.front) (parts (bytes_left path walk))
+-- the components of the rest, with their indices in the path
+abbrev pub remaining_parts : List ℕ → Walk → List paths.Part
+remaining_parts path walk = map (part_from walk.front) (parts (remaining path walk))
 
--- the kind of a value: 0 for the root, 1 for `.`, 2 for `..`, and 3 for a name
+-- the kind of a component: 0 for the root, 1 for `.`, 2 for `..`, and 3 for a name
 abbrev pub kind_of : Value → ℕ
 kind_of RootDir = 0
 kind_of CurDir = 1
 kind_of ParentDir = 2
 kind_of (Normal name) = 3
 
--- the value of this kind, which has these bytes if it is a name
+-- the component of this kind, which has these bytes if it is a name
 abbrev pub value_of_kind : ℕ → List ℕ → Value
 value_of_kind kind bytes =
     if kind == 0 then RootDir
     else (if kind == 1 then CurDir else (if kind == 2 then ParentDir else Normal bytes))
 
--- the place just after the part's last byte
+-- the index just after the component's last byte
 abbrev pub part_end : Part → ℕ
 part_end part = part.start + part.length
 
--- the bytes that stand at the part's place
+-- the path's bytes in the component's span
 abbrev pub part_bytes : List ℕ → Part → List ℕ
 part_bytes path part = take part.length (drop part.start path)
 
--- the value of the part, by its kind and its bytes
+-- the component, by its kind and its bytes, without its position
 abbrev pub part_value : List ℕ → Part → Value
 part_value path part = value_of_kind part.kind (part_bytes path part)
 
--- the part in the form that the specs of paths use
+-- the component in the form that the specs of `unix_path` use
 abbrev pub part_in : List ℕ → Part → paths.Part
 part_in path part =
     record { start = part.start; end = part_end part; value = part_value path part }

@@ -1,11 +1,11 @@
-//! What a caller of the exports can show by their clauses. Nothing calls these.
+//! Callers of the exports, proved from the exports' clauses. Nothing calls them.
 ghost use Rattle.std.specs.Prelude.{◌≡◌, [], ◌∷◌, ◌++◌, IsTrue, option_map};
 ghost use Rattle.unix_path.specs.Names.{file_name_of};
 ghost use Rattle.unix_path.specs.Parts.{values};
-ghost use Rattle.unix_path_c.specs.Places.{span_bytes};
+ghost use Rattle.unix_path_c.specs.Spans.{span_bytes};
 ghost use Rattle.unix_path_c.specs.Walks.{part_value};
 
-use crate::places::{Span, unix_path_file_name};
+use crate::spans::{Span, unix_path_file_name};
 use crate::walks::{
     Part, Walk, unix_path_as_path, unix_path_components, unix_path_next, unix_path_next_back,
 };
@@ -24,8 +24,9 @@ fn read_file_name(path: &[u8]) -> Option<&[u8]>
     Some(&path[span.start..span.start + span.length])
 }
 
-// Takes the first part of a path and the last, and finds those between; false with fewer than two.
-fn take_ends(path: &[u8], first: &mut Part, between: &mut Span, last: &mut Part) -> bool
+// Finds the first and the last component of a path, and the span of the components between them.
+// Returns false if the path has fewer than two components.
+fn find_first_and_last(path: &[u8], first: &mut Part, between: &mut Span, last: &mut Part) -> bool
     ensures { IsTrue result → values path.now ≡ part_value path.now first.new
         ∷ (values (span_bytes path.now between.new) ++ part_value path.now last.new ∷ []) }
 {

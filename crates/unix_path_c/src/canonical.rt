@@ -1,4 +1,4 @@
-//! The canonical spelling, in a buffer of the caller's, and whether a path is spelled so.
+//! The canonical form of a path, written to the caller's buffer, and whether a path has it.
 ghost use Rattle.std.specs.Prelude.{◌≡◌, ◌↔◌, ◌≤◌, length, IsTrue};
 ghost use Rattle.unix_path.specs.Parts.{values};
 ghost use Rattle.path_runs.specs.Buffer.{buffer_after};
@@ -7,14 +7,11 @@ ghost use Rattle.path_runs.specs.Spelling.{spelling_of};
 use path_runs::canonical::{is_canonical, write_canonical};
 use unix_path::Path;
 
-/// Writes the canonical spelling of a path to `out`, and gives how many bytes it has.
+/// Writes the canonical form of a path to `out` if it fits, and returns its length.
 ///
-/// It is the path's parts with one `/` between two of them, and none behind the root: the one
-/// shortest path that is equal to this one, never longer than it. For the empty path it has no
-/// bytes. If `out` has room for all of it, it stands at the beginning of `out`, and the bytes
-/// behind stay; else nothing is written. Lengths are in bytes. `out` doesn't overlap the path, and
-/// no pointer is null. Does not allocate. Not in Rust's std: there it is a `Components` that is
-/// collected into a `PathBuf`.
+/// It is the path's components with one `/` between two of them, and none after the root: the one
+/// shortest path that is equal to this one. It is never longer than the path, and empty for the
+/// empty path. In Rust's std it is a `Components` that is collected into a `PathBuf`.
 ///
 /// For `.//a/./b/` it is `./a/b`, of 5 bytes.
 #[tactic(auto, using(crate::proofs::lemmas::buffers::BoundLemmas::bounds))]
@@ -22,14 +19,13 @@ use unix_path::Path;
 pub extern "C" fn unix_path_canonical(path: &[u8], out: &mut [u8]) -> usize
     ensures out { out.new ≡ buffer_after (spelling_of (values path.now)) out.old }
     ensures length { result ≡ length (spelling_of (values path.now)) }
-    ensures short { result ≤ length path.now }
+    ensures len_bound { result ≤ length path.now }
 {
     write_canonical(Path { bytes: path }, out)
 }
 
-/// Whether the path is in canonical spelling, so that `unix_path_canonical` gives the same bytes.
-///
-/// Does not allocate. Not in Rust's std.
+/// Returns true if and only if the path is canonical, so that `unix_path_canonical` writes the same
+/// bytes.
 ///
 /// For `./a/b` and the empty path it is true, and for `a//b`, `a/./b` and `a/` it is false.
 #[unsafe(no_mangle)]

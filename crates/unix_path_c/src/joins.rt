@@ -1,23 +1,24 @@
-//! Joins, and copies of paths with another file name or extension.
+//! Joins, and copies of a path with another file name or extension.
 ghost use Rattle.std.specs.Prelude.{◌≡◌, ◌↔◌, ◌⊎◌, ◌≤◌, ◌+◌, true, false, length};
 ghost use Rattle.unix_path.specs.Edits.{with_extension_of, with_name_of};
 ghost use Rattle.unix_path.specs.Extensions.{added_extension_of, has_slash};
 ghost use Rattle.unix_path.specs.Joins.{join_of};
 ghost use Rattle.unix_path.specs.Scan.{separator_bytes};
 ghost use Rattle.unix_path_c.specs.Layout.{layout_bytes};
-ghost use Rattle.unix_path_c.specs.Refusals.{IsLength, separator, too_long};
+ghost use Rattle.unix_path_c.specs.ErrorCodes.{IsLength, separator, too_long};
 ghost use Rattle.path_runs.specs.Buffer.{buffer_after};
 
-use crate::writing::{separator_len, told_len, write_separator};
+use crate::output::{len_or_too_long, separator_len, write_separator};
 use unix_bytes::buffers::write_at;
 use unix_path::Path;
-use unix_path::lasts::is_open;
+use unix_path::path_end::needs_no_separator;
 use unix_path::stems::{dot_before, has_slash};
 
-// The answer if an extension has a slash.
+// The error code if an extension has a slash.
 const SEPARATOR: usize = usize::MAX - 6;
 
-// What an answer is made of: a beginning, then a separator of one byte or none, and an end.
+// The bytes of a result: a beginning, then a separator of one byte, if there is one, and then an
+// end.
 #[derive(Clone, Copy)]
 struct Layout<'a> {
     beginning: &'a [u8],
@@ -26,7 +27,7 @@ struct Layout<'a> {
 }
 
 impl Layout<'_> {
-    // How many bytes the whole has.
+    // Returns the length of all three together.
     #[inline]
     fn total_len(&self) -> usize
         ensures total { result ≡ length (layout_bytes self.now) }
@@ -36,8 +37,7 @@ impl Layout<'_> {
         self.beginning.len() + separator_len(self.separator) + self.end.len()
     }
 
-    // Writes the whole to the beginning of the buffer if it has room for all of it, and gives how
-    // many bytes the whole has.
+    // Writes all three to the beginning of the buffer if they fit, and returns their length.
     #[inline]
     fn write(&self, out: &mut [u8]) -> usize
         ensures out { out.new ≡ buffer_after (layout_bytes self.now) out.old }
@@ -54,7 +54,7 @@ impl Layout<'_> {
     }
 }
 
-// What a join is made of.
+// Returns the layout of a join.
 #[inline]
 fn join_layout<'a>(base: Path<'a>, path: Path<'a>) -> Layout<'a>
     ensures { layout_bytes result ≡ join_of base.entry.bytes.now path.entry.bytes.now }
@@ -68,7 +68,7 @@ fn join_layout<'a>(base: Path<'a>, path: Path<'a>) -> Layout<'a>
         };
     }
     let beginning = base.bytes;
-    if is_open(beginning) {
+    if needs_no_separator(beginning) {
         return Layout {
             beginning,
             separator: None,
@@ -82,9 +82,9 @@ fn join_layout<'a>(base: Path<'a>, path: Path<'a>) -> Layout<'a>
     }
 }
 
-// What a path that stays as it is is made of.
+// Returns the layout of an unchanged path.
 #[inline]
-fn whole_layout<'a>(path: Path<'a>) -> Layout<'a>
+fn unchanged_layout<'a>(path: Path<'a>) -> Layout<'a>
     ensures { layout_bytes result ≡ path.entry.bytes.now }
 {
     Layout {
@@ -94,13 +94,13 @@ fn whole_layout<'a>(path: Path<'a>) -> Layout<'a>
     }
 }
 
-// What a path with another extension is made of.
+// Returns the layout of a path with another extension.
 #[inline]
 fn extension_layout<'a>(path: Path<'a>, extension: &'a [u8]) -> Layout<'a>
     ensures { layout_bytes result ≡ with_extension_of path.entry.bytes.now extension.now }
 {
     let Some(end) = path.stem_end() else {
-        return whole_layout(path);
+        return unchanged_layout(path);
     };
     Layout {
         beginning: &path.bytes[..end],
@@ -109,17 +109,17 @@ fn extension_layout<'a>(path: Path<'a>, extension: &'a [u8]) -> Layout<'a>
     }
 }
 
-// What a path with an extension added is made of.
+// Returns the layout of a path with an extension added.
 #[inline]
 #[tactic(auto, using(unix_path::proofs::lemmas::names::NameEndLemmas::added_cases))]
-fn added_layout<'a>(path: Path<'a>, extension: &'a [u8]) -> Layout<'a>
+fn added_extension_layout<'a>(path: Path<'a>, extension: &'a [u8]) -> Layout<'a>
     ensures { layout_bytes result ≡ added_extension_of path.entry.bytes.now extension.now }
 {
     if extension.is_empty() {
-        return whole_layout(path);
+        return unchanged_layout(path);
     }
     let Some(end) = path.name_end() else {
-        return whole_layout(path);
+        return unchanged_layout(path);
     };
     Layout {
         beginning: &path.bytes[..end],
@@ -128,12 +128,10 @@ fn added_layout<'a>(path: Path<'a>, extension: &'a [u8]) -> Layout<'a>
     }
 }
 
-/// Writes the join of two paths to `out`, and gives how many bytes the join has.
+/// Writes the join of two paths to `out` if it fits, and returns its length.
 ///
-/// It is `path` alone if that begins with `/`; otherwise `base`, a `/` unless `base` is empty or
-/// ends in one, and `path`. If `out` has room for all of it, the join stands at its beginning, and
-/// the bytes behind stay; else nothing is written. Lengths are in bytes. `out` overlaps neither
-/// path, and no pointer is null. Does not allocate. As Rust's `Path::join`.
+/// The join is `path` itself if `path` begins with `/`. Otherwise the join is `base`, a `/` unless
+/// `base` is empty or ends in one, and `path`. The length is at most `base.len() + 1 + path.len()`.
 ///
 /// `/etc` joined with `passwd` is `/etc/passwd`, of 11 bytes, and `a` with the empty path is `a/`.
 #[tactic(auto, using(crate::proofs::lemmas::buffers::BoundLemmas::bounds))]
@@ -141,18 +139,16 @@ fn added_layout<'a>(path: Path<'a>, extension: &'a [u8]) -> Layout<'a>
 pub extern "C" fn unix_path_join(base: &[u8], path: &[u8], out: &mut [u8]) -> usize
     ensures out { out.new ≡ buffer_after (join_of base.now path.now) out.old }
     ensures length { result ≡ length (join_of base.now path.now) }
-    ensures short { result ≤ length base.now + 1 + length path.now }
+    ensures len_bound { result ≤ length base.now + 1 + length path.now }
 {
     join_layout(Path { bytes: base }, Path { bytes: path }).write(out)
 }
 
-/// Writes the path with another file name to `out`, and gives how many bytes it has then.
+/// Writes the path with another file name to `out` if it fits, and returns its length.
 ///
-/// The name is joined to what stands before the file name, or to all of the path if there is none.
-/// The name may be any bytes: one that begins with `/` replaces the whole path, and `..` stays. If
-/// `out` has room for all of it, the answer stands at its beginning, and the bytes behind stay;
-/// else nothing is written. Lengths are in bytes. `out` overlaps neither slice, and no pointer is
-/// null. Does not allocate. As Rust's `Path::with_file_name`.
+/// The name is joined to what comes before the file name, or to the whole path if it has no file
+/// name. The name may be any bytes: one that begins with `/` replaces the whole path, and `..`
+/// stays. The length is at most `path.len() + 1 + name.len()`.
 ///
 /// `/tmp/foo.txt` with the file name `bar.txt` is `/tmp/bar.txt`, of 12 bytes, and `foo/..` with
 /// `bar` is `foo/../bar`.
@@ -161,22 +157,21 @@ pub extern "C" fn unix_path_join(base: &[u8], path: &[u8], out: &mut [u8]) -> us
 pub extern "C" fn unix_path_with_file_name(path: &[u8], name: &[u8], out: &mut [u8]) -> usize
     ensures out { out.new ≡ buffer_after (with_name_of path.now name.now) out.old }
     ensures length { result ≡ length (with_name_of path.now name.now) }
-    ensures short { result ≤ length path.now + 1 + length name.now }
+    ensures len_bound { result ≤ length path.now + 1 + length name.now }
 {
     let path = Path { bytes: path };
     join_layout(path.before_name(), Path { bytes: name }).write(out)
 }
 
-/// Writes the path with another extension to `out`, and gives how many bytes it has then.
+/// Writes the path with another extension to `out` if it fits, and returns its length.
 ///
-/// The extension, with a dot before it unless it is empty, replaces what stands behind the stem of
-/// the file name; a path without a file name stays as it is. If the extension has a `/`, the answer
-/// is `UNIX_PATH_SEPARATOR`, and nothing is written; if the path would have more than `PTRDIFF_MAX`
-/// bytes, which no buffer has, it is `UNIX_PATH_TOO_LONG`. If `out` has room for all of it, the
-/// answer stands at its beginning, and the bytes behind stay; else nothing is written. Lengths are
-/// in bytes. `out` overlaps neither slice, and no pointer is null. Does not allocate. As Rust's
-/// `Path::with_extension`, except that Rust's panics for a separator, and gives `..` for `..a`
-/// whatever the extension is.
+/// The extension, with a dot before it unless it is empty, replaces what follows the stem of the
+/// file name. A path without a file name is unchanged.
+///
+/// Returns at most `path.len() + 1 + extension.len()`, or an error code: `UNIX_PATH_SEPARATOR` if
+/// and only if the extension has a `/`, or `UNIX_PATH_TOO_LONG` if the result has more than
+/// `PTRDIFF_MAX` bytes, which no buffer has. Rust's `Path::with_extension` panics for a separator,
+/// and returns `..` for `..a` whatever the extension is.
 ///
 /// `foo.rs/.` with the extension `txt` is `foo.txt`, of 7 bytes, and `..` stays `..`.
 #[tactic(auto, using(crate::proofs::lemmas::buffers::BoundLemmas::bounds))]
@@ -187,26 +182,26 @@ pub extern "C" fn unix_path_with_extension(path: &[u8], extension: &[u8], out: &
     ensures too_long { result ≡ too_long
         → too_long ≤ length (with_extension_of path.now extension.now) }
     ensures length { IsLength result → result ≡ length (with_extension_of path.now extension.now) }
-    ensures short { IsLength result → result ≤ length path.now + 1 + length extension.now }
+    ensures len_bound { IsLength result → result ≤ length path.now + 1 + length extension.now }
     ensures out { has_slash extension.now ≡ false
         → out.new ≡ buffer_after (with_extension_of path.now extension.now) out.old }
-    ensures kept { has_slash extension.now ≡ true → out.new ≡ out.old }
+    ensures unchanged { has_slash extension.now ≡ true → out.new ≡ out.old }
 {
     if has_slash(extension) {
         return SEPARATOR;
     }
-    told_len(extension_layout(Path { bytes: path }, extension).write(out))
+    len_or_too_long(extension_layout(Path { bytes: path }, extension).write(out))
 }
 
-/// Writes the path with an extension added to `out`, and gives how many bytes it has then.
+/// Writes the path with an extension added to `out` if it fits, and returns its length.
 ///
-/// The extension is put behind the file name with a dot before it; a path without a file name stays
-/// as it is, and so does each path if the extension is empty. If the extension has a `/`, the
-/// answer is `UNIX_PATH_SEPARATOR`, and nothing is written; if the path would have more than
-/// `PTRDIFF_MAX` bytes, which no buffer has, it is `UNIX_PATH_TOO_LONG`. If `out` has room for all
-/// of it, the answer stands at its beginning, and the bytes behind stay; else nothing is written.
-/// Lengths are in bytes. `out` overlaps neither slice, and no pointer is null. Does not allocate.
-/// As Rust's `Path::with_added_extension`, which panics for a separator.
+/// A dot and the extension follow the file name. A path without a file name is unchanged, and so is
+/// every path if the extension is empty.
+///
+/// Returns at most `path.len() + 1 + extension.len()`, or an error code: `UNIX_PATH_SEPARATOR` if
+/// and only if the extension has a `/`, or `UNIX_PATH_TOO_LONG` if the result has more than
+/// `PTRDIFF_MAX` bytes, which no buffer has. Rust's `Path::with_added_extension` panics for a
+/// separator.
 ///
 /// `foo.tar/.` with the extension `gz` added is `foo.tar.gz`, of 10 bytes, and `..` stays `..`.
 #[tactic(auto, using(crate::proofs::lemmas::buffers::BoundLemmas::bounds))]
@@ -221,13 +216,13 @@ pub extern "C" fn unix_path_with_added_extension(
     ensures too_long { result ≡ too_long
         → too_long ≤ length (added_extension_of path.now extension.now) }
     ensures length { IsLength result → result ≡ length (added_extension_of path.now extension.now) }
-    ensures short { IsLength result → result ≤ length path.now + 1 + length extension.now }
+    ensures len_bound { IsLength result → result ≤ length path.now + 1 + length extension.now }
     ensures out { has_slash extension.now ≡ false
         → out.new ≡ buffer_after (added_extension_of path.now extension.now) out.old }
-    ensures kept { has_slash extension.now ≡ true → out.new ≡ out.old }
+    ensures unchanged { has_slash extension.now ≡ true → out.new ≡ out.old }
 {
     if has_slash(extension) {
         return SEPARATOR;
     }
-    told_len(added_layout(Path { bytes: path }, extension).write(out))
+    len_or_too_long(added_extension_layout(Path { bytes: path }, extension).write(out))
 }

@@ -1,15 +1,15 @@
-//! The lossy text, in a buffer of the caller's.
+//! The lossy string of a path, written to the caller's buffer.
 ghost use Rattle.std.specs.Prelude.{◌≡◌, ◌↔◌, ◌⊎◌, ◌≤◌, ◌*◌, length};
 ghost use Rattle.unix_bytes.specs.Chunks.{replacement_for};
 ghost use Rattle.unix_bytes.specs.Lossy.{lossy_of};
-ghost use Rattle.unix_path_c.specs.Refusals.{IsLength, too_long};
+ghost use Rattle.unix_path_c.specs.ErrorCodes.{IsLength, too_long};
 ghost use Rattle.unix_path_c.specs.SaturatedSize.{saturated_size};
 ghost use Rattle.path_runs.specs.Buffer.{buffer_after};
 
-use crate::writing::{told_len, write_both};
+use crate::output::{len_or_too_long, write_both};
 use unix_bytes::lossy::Utf8Lossy;
 
-// What is shown for these broken bytes: U+FFFD, or nothing if there are none.
+// Returns what replaces these invalid bytes: U+FFFD, or nothing if there are none.
 #[inline]
 fn replacement_for(broken: &[u8]) -> &'static [u8]
     ensures { result.now ≡ replacement_for broken.now }
@@ -20,7 +20,7 @@ fn replacement_for(broken: &[u8]) -> &'static [u8]
     b"\xEF\xBF\xBD"
 }
 
-// How many bytes the lossy text has, or `usize::MAX` if it has more.
+// Returns the length of the lossy string, or `usize::MAX` if it is greater.
 #[inline]
 fn lossy_len(path: &[u8]) -> usize
     ensures { result ≡ saturated_size (length (lossy_of path.now)) }
@@ -35,7 +35,7 @@ fn lossy_len(path: &[u8]) -> usize
     len
 }
 
-// Writes the lossy text to the beginning of the buffer.
+// Writes the lossy string to the beginning of the buffer.
 #[inline]
 fn write_lossy(path: &[u8], out: &mut [u8])
     requires { length (lossy_of path.now) ≤ length out.old }
@@ -48,15 +48,14 @@ fn write_lossy(path: &[u8], out: &mut [u8])
     }
 }
 
-/// Writes the lossy text of a path to `out`, and gives how many bytes it has.
+/// Writes the lossy string of a path to `out` if it fits, and returns its length.
 ///
-/// It is the path itself if that is UTF-8 (RFC 3629 section 4); otherwise U+FFFD, of 3 bytes,
-/// stands for each broken front. So it has at most three times as many bytes as the path. If `out`
-/// has room for all of it, it stands at the beginning of `out`, and the bytes behind stay; else
-/// nothing is written. Lengths are in bytes. The answer is `UNIX_PATH_TOO_LONG` exactly if the text
-/// has more than `PTRDIFF_MAX` bytes, for which no buffer has room; only a path longer than a third
-/// of that can have such a text. `out` doesn't overlap the path, and no pointer is null. Does not
-/// allocate. As Rust's `Path::to_string_lossy`.
+/// It is the path itself if the path is valid UTF-8 (RFC 3629, section 4). Otherwise one U+FFFD, of
+/// 3 bytes, replaces the invalid bytes of each chunk. The length is at most `3 * path.len()`.
+///
+/// Returns `UNIX_PATH_TOO_LONG` if and only if the lossy string has more than `PTRDIFF_MAX` bytes,
+/// which no buffer has. Only a path with more than `PTRDIFF_MAX / 3` bytes can have such a lossy
+/// string.
 ///
 /// For the bytes 61 FF it is `a` and U+FFFD, of 4 bytes.
 #[tactic(auto, using(crate::proofs::lemmas::buffers::BoundLemmas::bounds))]
@@ -65,13 +64,13 @@ pub extern "C" fn unix_path_to_string_lossy(path: &[u8], out: &mut [u8]) -> usiz
     ensures answers { IsLength result ⊎ (result ≡ too_long) }
     ensures too_long { (result ≡ too_long) ↔ (too_long ≤ length (lossy_of path.now)) }
     ensures length { IsLength result → result ≡ length (lossy_of path.now) }
-    ensures short { IsLength result → result ≤ 3 * length path.now }
+    ensures len_bound { IsLength result → result ≤ 3 * length path.now }
     ensures out { out.new ≡ buffer_after (lossy_of path.now) out.old }
-    ensures long { result ≡ too_long → out.new ≡ out.old }
+    ensures too_long_unchanged { result ≡ too_long → out.new ≡ out.old }
 {
     let len = lossy_len(path);
     if len <= out.len() {
         write_lossy(path, out);
     }
-    told_len(len)
+    len_or_too_long(len)
 }

@@ -1,4 +1,4 @@
-//! Questions about a path, or about two.
+//! Queries about a path, or about two.
 ghost use Rattle.std.specs.Prelude.{◌≡◌, ◌↔◌, ◌≤◌, ◌⊎◌, ℕ, IsTrue, List, [], ◌∷◌, length};
 ghost use Rattle.std.specs.Prelude.{pos, negsuc, true, false};
 ghost use Rattle.std.specs.Ordering.{is_eq};
@@ -6,47 +6,48 @@ ghost use Rattle.unix_bytes.specs.Utf8.{IsText};
 ghost use Rattle.unix_path.specs.CommonDir.{common_dir_of};
 ghost use Rattle.unix_path.specs.Order.{values_cmp, IsBefore};
 ghost use Rattle.unix_path.specs.Parts.{RootDir, SameValues, is_rooted, values};
-ghost use Rattle.unix_path.specs.Prefixes.{Begins, Ends};
-ghost use Rattle.path_within.specs.Below.{has_nul};
-ghost use Rattle.path_within.specs.Climbs.{Climbs};
+ghost use Rattle.unix_path.specs.Prefixes.{IsPrefixOf, IsSuffixOf};
+ghost use Rattle.path_within.specs.Below.{ends_in_slash, has_nul, names_below};
+ghost use Rattle.path_within.specs.Escapes.{Escapes};
 ghost use Rattle.unix_path_c.specs.Queries.{path_hash, sign_of};
 
-use path_within::within::climbs;
-use path_within::{Request, RequestError};
+use path_within::within::escapes;
+use path_within::{Request, RequestError, ends_in_slash, request_is_root};
 use std::cmp::Ordering;
 use std::hash::{DefaultHasher, Hash, Hasher};
 use unix_path::Path;
 
-/// Whether the parts of `base` begin those of the path. Every path begins with the empty one.
+/// Returns true if and only if the path starts with the components of `base`. Every path starts
+/// with the empty path.
 ///
-/// Whole parts count, whatever stands between them. Does not allocate. As Rust's
-/// `Path::starts_with`.
+/// Only whole components match, whatever filler is between them.
+///
+/// A path that starts with a directory may still leave it: no `..` is resolved, and `/dest/../etc`
+/// starts with `/dest`. To keep a path below a directory, use `unix_path_join_beneath`.
 ///
 /// `/etc/passwd` starts with `/etc/`, and not with `/e`.
 #[unsafe(no_mangle)]
 pub extern "C" fn unix_path_starts_with(path: &[u8], base: &[u8]) -> bool
-    ensures { IsTrue result ↔ Begins (values base.now) (values path.now) }
+    ensures { IsTrue result ↔ IsPrefixOf (values base.now) (values path.now) }
 {
     Path::from_bytes(path).starts_with(Path::from_bytes(base))
 }
 
-/// Whether the parts of `child` end those of the path. Every path ends with the empty one.
+/// Returns true if and only if the path ends with the components of `child`. Every path ends with
+/// the empty path.
 ///
-/// Whole parts count, whatever stands between them. Does not allocate. As Rust's
-/// `Path::ends_with`.
+/// Only whole components match, whatever filler is between them.
 ///
 /// `a/b` ends with `b`, and with neither `./b` nor `/b`.
 #[unsafe(no_mangle)]
 pub extern "C" fn unix_path_ends_with(path: &[u8], child: &[u8]) -> bool
-    ensures { IsTrue result ↔ Ends (values child.now) (values path.now) }
+    ensures { IsTrue result ↔ IsSuffixOf (values child.now) (values path.now) }
 {
     Path::from_bytes(path).ends_with(Path::from_bytes(child))
 }
 
-/// The place just after the last `/` of the longest string that both paths begin with, in bytes, or
-/// 0 if that string has none.
-///
-/// Both paths begin with the same bytes up to that place. Does not allocate. Not in Rust's std.
+/// Returns the index just after the last `/` of the longest common prefix of both paths' bytes, or
+/// 0 if that prefix has no `/`.
 ///
 /// For `a/./b` and `a/b` it is 2, and for `a/b` and `ab` it is 0.
 #[unsafe(no_mangle)]
@@ -58,11 +59,10 @@ pub extern "C" fn unix_path_common_dir(a: &[u8], b: &[u8]) -> usize
     Path::from_bytes(a).common_dir(Path::from_bytes(b))
 }
 
-/// Whether the two paths are equal: they have the same values, whatever stands between the parts.
+/// Returns true if and only if the two paths are equal: they have the same components, whatever
+/// filler is between them.
 ///
-/// Does not allocate. As Rust's `==` of `Path`.
-///
-/// `a//b/.` equals `a/b`, and `./a` doesn't equal `a`.
+/// `a//b/.` equals `a/b`, and `./a` does not equal `a`.
 #[unsafe(no_mangle)]
 pub extern "C" fn unix_path_equal(a: &[u8], b: &[u8]) -> bool
     ensures value { result ≡ is_eq (values_cmp (values a.now) (values b.now)) }
@@ -71,7 +71,7 @@ pub extern "C" fn unix_path_equal(a: &[u8], b: &[u8]) -> bool
     Path::from_bytes(a) == Path::from_bytes(b)
 }
 
-// -1, 0 or 1: less, equal or greater.
+// Returns -1, 0 or 1 for less, equal or greater.
 fn sign(order: Ordering) -> i32
     ensures { result ≡ sign_of order }
 {
@@ -82,12 +82,12 @@ fn sign(order: Ordering) -> i32
     }
 }
 
-/// -1, 0 or 1: the first path comes before the second, is equal to it, or comes after it.
+/// Returns -1, 0 or 1 if the first path comes before the second, is equal to it, or comes after it.
 ///
-/// Paths are compared value by value: the root, `.`, `..`, and then names, by their bytes; a path
-/// comes before those that it begins. Does not allocate. As Rust's `Path::cmp`.
+/// Paths are compared component by component. The root comes first, then `.`, then `..`, and then
+/// names by their bytes. A path comes before the longer paths that start with it.
 ///
-/// `a/b` comes before `a.b`, and for `a//b` and `a/b` it is 0.
+/// `a/b` comes before `a.b`. For `a//b` and `a/b` it is 0.
 #[unsafe(no_mangle)]
 pub extern "C" fn unix_path_compare(a: &[u8], b: &[u8]) -> i32
     ensures value { result ≡ sign_of (values_cmp (values a.now) (values b.now)) }
@@ -98,12 +98,12 @@ pub extern "C" fn unix_path_compare(a: &[u8], b: &[u8]) -> i32
     sign(Path::from_bytes(a).cmp(&Path::from_bytes(b)))
 }
 
-/// A hash of the path's values, the same on every machine and in every run; equal paths have the
-/// same.
+/// Returns a hash of the path's components, which is the same on every machine and in every run.
+/// Equal paths have the same hash.
 ///
-/// It is SipHash-1-3 with both keys 0, so whoever chooses the paths can find many of the same hash.
-/// Does not allocate. As Rust's `DefaultHasher::new()` fed a `Path`, except that what a path feeds
-/// is this library's own.
+/// It is SipHash-1-3 with both keys 0, so whoever chooses the paths can find many with the same
+/// hash. Like Rust's `DefaultHasher::new()` fed with a `Path`, except that this library defines
+/// what a path feeds.
 ///
 /// For `a//b` and `a/b` it is the same.
 #[tactic(auto, unfolding(crate::specs::Queries::path_hash))]
@@ -118,9 +118,8 @@ pub extern "C" fn unix_path_hash(path: &[u8]) -> u64
     state.finish()
 }
 
-/// Whether the path's bytes are text in UTF-8, as RFC 3629 has it.
-///
-/// Does not allocate. As Rust's `Path::to_str`, which gives the text.
+/// Returns true if and only if the path is valid UTF-8 (RFC 3629). Like Rust's `Path::to_str`,
+/// which returns the string.
 ///
 /// For the bytes 61 C3 A9 it is true, and for 61 FF it is false.
 #[unsafe(no_mangle)]
@@ -130,54 +129,78 @@ pub extern "C" fn unix_path_is_utf8(path: &[u8]) -> bool
     Path::from_bytes(path).to_str().is_some()
 }
 
-/// Whether the path has a root or, read from the left, ever goes above where it starts: up to some
-/// part it then has more `..` than names, even if later names come down again.
+/// Returns true if and only if the path escapes: it has a root, or has more `..` than names in some
+/// prefix, even if later names come down again.
 ///
-/// It goes by names alone: if a part may be a link, only the system knows where `..` leads. Does
-/// not allocate. Not in Rust's std.
+/// Purely lexical: if a component may be a symbolic link, only the system knows where `..` leads.
 ///
 /// For `a/../../root/x` and `/a` it is true; for `a/../..foo` it is false.
 #[unsafe(no_mangle)]
-pub extern "C" fn unix_path_climbs(path: &[u8]) -> bool
-    ensures { IsTrue result ↔ Climbs (values path.now) }
+pub extern "C" fn unix_path_escapes(path: &[u8]) -> bool
+    ensures { IsTrue result ↔ Escapes (values path.now) }
 {
-    climbs(Path::from_bytes(path))
+    escapes(Path::from_bytes(path))
 }
 
-/// Why a path is no request from outside: 1 if it has a root, else 2 if it ever goes above where it
-/// starts, else 3 if it has a NUL byte. 0 if it is a request: joined to a root and resolved by
-/// names, it stays below that.
+/// Returns 0 if a path from outside is a request that stays beneath a root, and otherwise the
+/// reason why not: 1 if it has a root, otherwise 2 if it goes above where it starts, otherwise 3 if
+/// it has a NUL byte.
 ///
-/// What tells one is read before what tells the next. Does not allocate. Not in Rust's std.
+/// If it is 0, `unix_path_join_beneath` joins the path.
 ///
 /// For `a/../b` it is 0, for `/../a` it is 1, for `a/../..` it is 2, and for `a\0.png` it is 3.
 #[unsafe(no_mangle)]
 pub extern "C" fn unix_path_check_request(path: &[u8]) -> i32
     ensures rooted { (result ≡ pos 1) ↔ (is_rooted path.now ≡ true) }
-    ensures climbs { (result ≡ pos 2)
-        ↔ ((is_rooted path.now ≡ false) × Climbs (values path.now)) }
+    ensures escapes { (result ≡ pos 2)
+        ↔ ((is_rooted path.now ≡ false) × Escapes (values path.now)) }
     ensures nul { (result ≡ pos 3)
-        ↔ ((Climbs (values path.now) → ⊥) × (has_nul path.now ≡ true)) }
+        ↔ ((Escapes (values path.now) → ⊥) × (has_nul path.now ≡ true)) }
     ensures answers { (result ≡ pos 0)
         ⊎ ((result ≡ pos 1) ⊎ ((result ≡ pos 2) ⊎ (result ≡ pos 3))) }
 {
-    match Request::new(Path::from_bytes(path)) {
+    match Request::beneath(Path::from_bytes(path)) {
         Ok(_) => 0,
         Err(RequestError::Rooted) => 1,
-        Err(RequestError::Climbs) => 2,
+        Err(RequestError::Escapes) => 2,
         Err(RequestError::Nul) => 3,
     }
 }
 
-/// Whether the path begins with the root.
+/// Returns true if and only if a path from outside has no name after it is resolved as
+/// `unix_path_join_in_root` does. If such a path has no NUL, its join is the root itself. Like
+/// `path_within`'s `Request::is_root`.
 ///
-/// Does not allocate. As Rust's `Path::is_absolute` on Unix.
+/// For `a/..`, `/`, `..` and the empty path it is true; for `.foo` and `a/../b` it is false.
+#[unsafe(no_mangle)]
+pub extern "C" fn unix_path_request_is_root(path: &[u8]) -> bool
+    ensures { IsTrue result ↔ (names_below (values path.now) ≡ []) }
+{
+    request_is_root(Path::from_bytes(path))
+}
+
+/// Returns true if and only if the path's last component is a name and a slash or a `/.` follows
+/// it.
 ///
-/// `/tmp` is absolute, and `tmp` isn't.
+/// A system call then requires the name to be a directory. `unix_path_join_beneath` and
+/// `unix_path_join_in_root` drop what follows the names. Like `path_within`'s
+/// `Request::ends_in_slash`.
+///
+/// For `a/` and `a/.` it is true; for `a`, `a/..` and `/` it is false.
+#[unsafe(no_mangle)]
+pub extern "C" fn unix_path_ends_in_slash(path: &[u8]) -> bool
+    ensures { result ≡ ends_in_slash path.now }
+{
+    ends_in_slash(Path::from_bytes(path))
+}
+
+/// Returns true if and only if the path begins with the root.
+///
+/// `/tmp` is absolute, and `tmp` is not.
 #[unsafe(no_mangle)]
 pub extern "C" fn unix_path_is_absolute(path: &[u8]) -> bool
     ensures value { result ≡ is_rooted path.now }
-    ensures root { IsTrue result ↔ Begins (RootDir ∷ []) (values path.now) }
+    ensures root { IsTrue result ↔ IsPrefixOf (RootDir ∷ []) (values path.now) }
 {
     Path::from_bytes(path).is_absolute()
 }

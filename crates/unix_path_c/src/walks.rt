@@ -1,50 +1,51 @@
-//! Walks over a path's parts, which a caller keeps as two places.
+//! Walks over the components of a path. The caller keeps a walk as two indices.
 ghost use Rattle.std.specs.Prelude.{◌≡◌, ◌↔◌, ◌<◌, ◌≤◌, min, [], ◌∷◌, ◌++◌, length};
 ghost use Rattle.std.specs.Prelude.{IsFalse, IsTrue};
 ghost use Rattle.unix_path.specs.Parts.{parts, value_bytes, values};
 ghost use Rattle.unix_path.specs.Rest.{rest};
 ghost use Rattle.unix_path.specs.Views.{value_of};
-ghost use Rattle.unix_path_c.specs.Places.{span_bytes, span_end};
-ghost use Rattle.unix_path_c.specs.Steps.{TakenBehind, TakenInFront};
-ghost use Rattle.unix_path_c.specs.Walks.{InOrder, bytes_left, kind_of as kind_of_value};
-ghost use Rattle.unix_path_c.specs.Walks.{part_bytes, part_end, part_in, part_value, parts_left};
+ghost use Rattle.unix_path_c.specs.Spans.{span_bytes, span_end};
+ghost use Rattle.unix_path_c.specs.Steps.{TakenFromBack, TakenFromFront};
+ghost use Rattle.unix_path_c.specs.Walks.{InOrder, remaining, kind_of as kind_of_value};
+ghost use Rattle.unix_path_c.specs.Walks.{part_bytes, part_end, part_in, part_value};
+ghost use Rattle.unix_path_c.specs.Walks.{remaining_parts};
 
-use crate::firsts::{NORMAL, PARENT_DIR, first_part};
-use crate::names::last_name;
-use crate::places::Span;
+use crate::first_component::{NORMAL, PARENT_DIR, first_part};
+use crate::last_step::last_name;
+use crate::spans::Span;
 use unix_path::{Component, Path};
 
-/// A walk over the parts of a path, from both ends: what is left stands between two places.
+/// A walk over the components of a path, from both ends: the rest lies between two indices.
 ///
-/// The caller keeps the walk, and hands it in with the bytes of the same path. A walk has ended if
-/// its places are out of order or lie past the path's end. A copy of it goes on by itself. As
-/// Rust's `Components`.
+/// The caller keeps the walk, and passes it with the bytes of the same path. A walk has ended if
+/// its indices are equal, out of order or past the path's end. A copy of a walk goes on
+/// independently. Like Rust's `Components`.
 ///
 /// For `/tmp//foo/` a new walk is from 0 to 9.
 #[derive(Clone, Copy)]
 #[repr(C)]
 pub struct Walk {
-    /// Where what is left begins, in bytes from the beginning of the path.
+    /// The index at which the rest begins, counted from the beginning of the path.
     pub front: usize,
-    /// Where what is left ends, in bytes from the beginning of the path.
+    /// The index at which the rest ends, counted from the beginning of the path.
     pub back: usize,
 }
 
-/// A part of a path: where the part stands, and its kind. As Rust's `Component`.
+/// A component of a path: where it is, and its kind. Like Rust's `Component`.
 ///
-/// That of `foo` in `/tmp//foo/` starts at 6, and has 3 bytes and the kind 3.
+/// The component `foo` of `/tmp//foo/` starts at 6, and has 3 bytes and the kind 3.
 #[derive(Clone, Copy)]
 #[repr(C)]
 pub struct Part {
-    /// Where the part begins, in bytes from the beginning of the path.
+    /// The index of the component's first byte, counted from the beginning of the path.
     pub start: usize,
-    /// How many bytes the part has.
+    /// The number of bytes of the component.
     pub length: usize,
-    /// 0 for the root, 1 for a `.` that a path begins with, 2 for `..`, and 3 for a name.
+    /// 0 for the root, 1 for a leading `.`, 2 for `..`, and 3 for a name.
     pub kind: u32,
 }
 
-// The kind of a part.
+// Returns the kind of a component.
 #[inline]
 fn kind_of(part: Component<'_>) -> u32
     ensures { result ≡ kind_of_value (value_of part.entry) }
@@ -57,26 +58,28 @@ fn kind_of(part: Component<'_>) -> u32
     }
 }
 
-// The bytes that are left of a walk.
+// Returns the rest of a walk. It is empty if the walk's indices are out of order or past the path's
+// end.
 #[inline]
-fn left_of<'a>(path: &'a [u8], walk: &Walk) -> Path<'a>
-    ensures { result.bytes.now ≡ bytes_left path.now walk.now }
+fn rest_of<'a>(path: &'a [u8], walk: &Walk) -> Path<'a>
+    ensures { result.bytes.now ≡ remaining path.now walk.now }
 {
     match path.get(walk.front..walk.back) {
-        Some(left) => Path::from_bytes(left),
+        Some(remaining_bytes) => Path::from_bytes(remaining_bytes),
         None => Path::from_bytes(b""),
     }
 }
 
-// Takes the first part that is left, whatever its kind. Not inlined, so that most steps stay small.
+// Removes the first component, of any kind, from the rest of a walk, and writes it to `part`.
+// Returns false if no component remains. Not inlined, so that most steps stay small.
 #[inline(never)]
 fn take_first(path: &[u8], walk: &mut Walk, part: &mut Part) -> bool
-    ensures ended { IsFalse result → (bytes_left path.now walk.old ≡ []) }
-    ensures walk_stays { IsFalse result → walk.new ≡ walk.old }
-    ensures part_stays { IsFalse result → part.new ≡ part.old }
-    ensures taken { IsTrue result → TakenInFront path.now walk.old walk.new part.new }
+    ensures ended { IsFalse result → (remaining path.now walk.old ≡ []) }
+    ensures walk_unchanged { IsFalse result → walk.new ≡ walk.old }
+    ensures part_unchanged { IsFalse result → part.new ≡ part.old }
+    ensures taken { IsTrue result → TakenFromFront path.now walk.old walk.new part.new }
 {
-    let mut parts = left_of(path, walk).components();
+    let mut parts = rest_of(path, walk).components();
     let len = parts.as_path().bytes.len();
     let Some(first) = parts.next() else {
         return false;
@@ -94,15 +97,16 @@ fn take_first(path: &[u8], walk: &mut Walk, part: &mut Part) -> bool
     true
 }
 
-// Takes the last part that is left, whatever its kind. Not inlined, so that most steps stay small.
+// Removes the last component, of any kind, from the rest of a walk, and writes it to `part`.
+// Returns false if no component remains. Not inlined, so that most steps stay small.
 #[inline(never)]
 fn take_last(path: &[u8], walk: &mut Walk, part: &mut Part) -> bool
-    ensures ended { IsFalse result → (bytes_left path.now walk.old ≡ []) }
-    ensures walk_stays { IsFalse result → walk.new ≡ walk.old }
-    ensures part_stays { IsFalse result → part.new ≡ part.old }
-    ensures taken { IsTrue result → TakenBehind path.now walk.old walk.new part.new }
+    ensures ended { IsFalse result → (remaining path.now walk.old ≡ []) }
+    ensures walk_unchanged { IsFalse result → walk.new ≡ walk.old }
+    ensures part_unchanged { IsFalse result → part.new ≡ part.old }
+    ensures taken { IsTrue result → TakenFromBack path.now walk.old walk.new part.new }
 {
-    let mut parts = left_of(path, walk).components();
+    let mut parts = rest_of(path, walk).components();
     let len = parts.as_path().bytes.len();
     let Some(last) = parts.next_back() else {
         return false;
@@ -117,18 +121,17 @@ fn take_last(path: &[u8], walk: &mut Walk, part: &mut Part) -> bool
     true
 }
 
-/// Begins a walk over the parts of a path, all of which are left.
+/// Begins a walk over all components of a path.
 ///
-/// What is left stands between `front` and `back`, in bytes from the beginning of the path, and
-/// ends where the last part ends. What `walk` held before doesn't matter. Does not allocate. As
-/// Rust's `Path::components`.
+/// The rest lies between `front` and `back`, and ends where the last component ends. The previous
+/// contents of `walk` do not matter.
 ///
 /// For `/tmp//foo/` the walk is from 0 to 9.
 #[unsafe(no_mangle)]
 pub extern "C" fn unix_path_components(path: &[u8], walk: &mut Walk)
-    ensures parts { parts_left path.now walk.new ≡ parts path.now }
-    ensures values { values (bytes_left path.now walk.new) ≡ values path.now }
-    ensures left { bytes_left path.now walk.new ≡ rest path.now 0 0 }
+    ensures parts { remaining_parts path.now walk.new ≡ parts path.now }
+    ensures values { values (remaining path.now walk.new) ≡ values path.now }
+    ensures remaining_bytes { remaining path.now walk.new ≡ rest path.now 0 0 }
     ensures in_order { InOrder (walk.new.front ∷ walk.new.back ∷ length path.now ∷ []) }
 {
     let parts = Path::from_bytes(path).components();
@@ -138,36 +141,34 @@ pub extern "C" fn unix_path_components(path: &[u8], walk: &mut Walk)
     };
 }
 
-/// Takes the first part that is left, and gives it in `part`. False if none is left, and then walk
-/// and part stay as they were.
+/// Removes the first component from the rest of a walk, and writes it to `part`. Returns false if
+/// no component remains.
 ///
-/// The part's place is in bytes from the beginning of the path. No byte outside the path is read,
-/// whatever the walk's places are. Does not allocate. As Rust's `Components::next`.
-///
-/// For `/tmp//foo/` it gives the root at 0, then `tmp` at 1, then `foo` at 6, and then none.
+/// For `/tmp//foo/` the components are the root at 0, `tmp` at 1 and `foo` at 6.
 #[unsafe(no_mangle)]
 pub extern "C" fn unix_path_next(path: &[u8], walk: &mut Walk, part: &mut Part) -> bool
-    ensures ended { IsFalse result ↔ (bytes_left path.now walk.old ≡ []) }
-    ensures walk_stays { IsFalse result → walk.new ≡ walk.old }
-    ensures part_stays { IsFalse result → part.new ≡ part.old }
+    ensures ended { IsFalse result ↔ (remaining path.now walk.old ≡ []) }
+    ensures walk_unchanged { IsFalse result → walk.new ≡ walk.old }
+    ensures part_unchanged { IsFalse result → part.new ≡ part.old }
     ensures parts { IsTrue result →
-        parts_left path.now walk.old ≡ part_in path.now part.new ∷ parts_left path.now walk.new }
-    ensures values { IsTrue result → values (bytes_left path.now walk.old)
-        ≡ part_value path.now part.new ∷ values (bytes_left path.now walk.new) }
+        remaining_parts path.now walk.old ≡ part_in path.now part.new
+        ∷ remaining_parts path.now walk.new }
+    ensures values { IsTrue result → values (remaining path.now walk.old)
+        ≡ part_value path.now part.new ∷ values (remaining path.now walk.new) }
     ensures bytes { IsTrue result →
         part_bytes path.now part.new ≡ value_bytes (part_value path.now part.new) }
     ensures kind { IsTrue result → part.new.kind < 4 }
-    ensures left { IsTrue result
-        → bytes_left path.now walk.new ≡ rest (bytes_left path.now walk.old) 1 0 }
+    ensures remaining_bytes { IsTrue result
+        → remaining path.now walk.new ≡ rest (remaining path.now walk.old) 1 0 }
     ensures in_order { IsTrue result → InOrder (walk.old.front ∷ part.new.start
         ∷ part_end part.new ∷ walk.new.front ∷ walk.new.back ∷ walk.old.back
         ∷ length path.now ∷ []) }
 {
-    let left = left_of(path, walk).bytes;
-    if left.is_empty() {
+    let remaining_bytes = rest_of(path, walk).bytes;
+    if remaining_bytes.is_empty() {
         return false;
     }
-    let Some((length, step, kind)) = first_part(left) else {
+    let Some((length, step, kind)) = first_part(remaining_bytes) else {
         return take_first(path, walk, part);
     };
     *part = Part {
@@ -179,63 +180,59 @@ pub extern "C" fn unix_path_next(path: &[u8], walk: &mut Walk, part: &mut Part) 
     true
 }
 
-/// Takes the last part that is left, and gives it in `part`. False if none is left, and then walk
-/// and part stay as they were.
+/// Removes the last component from the rest of a walk, and writes it to `part`. Returns false if no
+/// component remains.
 ///
-/// The part's place is in bytes from the beginning of the path. No byte outside the path is read,
-/// whatever the walk's places are. Does not allocate. As Rust's `Components::next_back`.
-///
-/// For `/tmp//foo/` it gives `foo` at 6, then `tmp` at 1, then the root at 0, and then none.
+/// For `/tmp//foo/` the components are `foo` at 6, `tmp` at 1 and the root at 0.
 #[unsafe(no_mangle)]
 pub extern "C" fn unix_path_next_back(path: &[u8], walk: &mut Walk, part: &mut Part) -> bool
-    ensures ended { IsFalse result ↔ (bytes_left path.now walk.old ≡ []) }
-    ensures walk_stays { IsFalse result → walk.new ≡ walk.old }
-    ensures part_stays { IsFalse result → part.new ≡ part.old }
-    ensures parts { IsTrue result → parts_left path.now walk.old
-        ≡ parts_left path.now walk.new ++ part_in path.now part.new ∷ [] }
-    ensures values { IsTrue result → values (bytes_left path.now walk.old)
-        ≡ values (bytes_left path.now walk.new) ++ part_value path.now part.new ∷ [] }
+    ensures ended { IsFalse result ↔ (remaining path.now walk.old ≡ []) }
+    ensures walk_unchanged { IsFalse result → walk.new ≡ walk.old }
+    ensures part_unchanged { IsFalse result → part.new ≡ part.old }
+    ensures parts { IsTrue result → remaining_parts path.now walk.old
+        ≡ remaining_parts path.now walk.new ++ part_in path.now part.new ∷ [] }
+    ensures values { IsTrue result → values (remaining path.now walk.old)
+        ≡ values (remaining path.now walk.new) ++ part_value path.now part.new ∷ [] }
     ensures bytes { IsTrue result →
         part_bytes path.now part.new ≡ value_bytes (part_value path.now part.new) }
     ensures kind { IsTrue result → part.new.kind < 4 }
-    ensures left { IsTrue result
-        → bytes_left path.now walk.new ≡ rest (bytes_left path.now walk.old) 0 1 }
+    ensures remaining_bytes { IsTrue result
+        → remaining path.now walk.new ≡ rest (remaining path.now walk.old) 0 1 }
     ensures in_order { IsTrue result → InOrder (walk.old.front ∷ walk.new.front ∷ walk.new.back
         ∷ part.new.start ∷ part_end part.new ∷ walk.old.back ∷ length path.now ∷ []) }
 {
-    let left = left_of(path, walk).bytes;
-    if left.is_empty() {
+    let remaining_bytes = rest_of(path, walk).bytes;
+    if remaining_bytes.is_empty() {
         return false;
     }
-    let Some((before, start)) = last_name(left) else {
+    let Some((before, start)) = last_name(remaining_bytes) else {
         return take_last(path, walk, part);
     };
     *part = Part {
         start: walk.front + start,
-        length: left.len() - start,
+        length: remaining_bytes.len() - start,
         kind: NORMAL,
     };
     walk.back = walk.front + before;
     true
 }
 
-/// Where the bytes that are left stand, from the first part not yet taken to the end of the last.
+/// Writes the span of the rest of a walk to `span`: from the first remaining component to the end
+/// of the last.
 ///
-/// The place is in bytes from the beginning of the path. If no part is left, its length is 0. No
-/// byte outside the path is read, whatever the walk's places are. Does not allocate. As Rust's
-/// `Components::as_path`.
+/// If no component remains, the span's length is 0.
 ///
-/// For `/tmp//foo/` after one `unix_path_next` it is 8 bytes from 1 on, `tmp//foo`.
+/// For `/tmp//foo/` after one `unix_path_next` the span starts at 1 and has 8 bytes: `tmp//foo`.
 #[unsafe(no_mangle)]
 pub extern "C" fn unix_path_as_path(path: &[u8], walk: &Walk, span: &mut Span)
-    ensures bytes { span_bytes path.now span.new ≡ rest (bytes_left path.now walk.now) 0 0 }
+    ensures bytes { span_bytes path.now span.new ≡ rest (remaining path.now walk.now) 0 0 }
     ensures values { values (span_bytes path.now span.new)
-        ≡ values (bytes_left path.now walk.now) }
+        ≡ values (remaining path.now walk.now) }
     ensures start { span.new.start ≡ min walk.now.front (length path.now) }
     ensures in_range { span_end span.new ≤ length path.now }
 {
     *span = Span {
         start: walk.front.min(path.len()),
-        length: left_of(path, walk).components().as_path().bytes.len(),
+        length: rest_of(path, walk).components().as_path().bytes.len(),
     };
 }

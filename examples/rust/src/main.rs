@@ -1,32 +1,36 @@
-//! Looks files up below a folder that no request can leave, as a server does.
+//! Looks files up below a directory that no request can leave, as a server does.
 //!
-//! `lookup FOLDER` reads requests from standard input, one a line, such as `docs/guide.txt`. It
-//! prints each with the file that it names, that there is none, or that it was refused. Requests
-//! are taken by names alone: no link below the folder may lead out of it.
+//! `lookup FOLDER` reads requests from standard input, one per line, such as `docs/guide.txt`. It
+//! prints each request with the file that it names, or that there is none, or that the request is
+//! refused. Requests are resolved lexically: no link below the directory may lead out of it.
 use std::env;
+use std::ffi::OsStr;
 use std::fs;
 use std::io::{self, BufRead, Write};
+use std::os::unix::ffi::OsStrExt;
 use std::path::Path;
 use std::process::ExitCode;
-use unix_path_rattle::os::join_below;
-use unix_path_rattle::Request;
+use unix_path_rattle::os::join_beneath;
+use unix_path_rattle::{check_request, Error};
 
-/// The file that the request names below the folder, if there is one.
-fn look_up(folder: &Path, request: Request<'_>) -> io::Result<Option<Vec<u8>>> {
-    let path = join_below(folder, request)?;
-    Ok(fs::read(path).ok())
-}
-
-/// Writes the request, and the answer to it.
+/// Writes the request, and the file that it names beneath the directory.
 fn answer(folder: &Path, request: &[u8], output: &mut impl Write) -> io::Result<()> {
     output.write_all(&[b"== ", request, b"\n"].concat())?;
-    let request = match Request::new(request) {
-        Ok(request) => request,
-        Err(error) => return writeln!(output, "refused: {error}"),
+    let path = match join_beneath(folder, OsStr::from_bytes(request)) {
+        Ok(path) => path,
+        Err(error) => return refuse(request, error, output),
     };
-    match look_up(folder, request)? {
-        Some(bytes) => output.write_all(&bytes),
-        None => writeln!(output, "not found"),
+    match fs::read(path) {
+        Ok(bytes) => output.write_all(&bytes),
+        Err(_) => writeln!(output, "not found"),
+    }
+}
+
+/// Writes why the request is refused. Returns any other error.
+fn refuse(request: &[u8], error: Error, output: &mut impl Write) -> io::Result<()> {
+    match check_request(request) {
+        Err(why) => writeln!(output, "refused: {why}"),
+        Ok(()) => Err(error.into()),
     }
 }
 

@@ -1,10 +1,10 @@
 //! Answers to lists of edits.
 use unix_path_rattle::{self as paths, owned, Error};
 
-/// A call that makes a path with another extension.
+/// A function that makes a path with another extension.
 type Extend = fn(&[u8], &[u8]) -> Result<Vec<u8>, Error>;
 
-/// Edits the extension, and gives the word of the answer.
+/// Edits the extension, and returns the edit's answer, a word.
 fn edit_extension(
     edited: &mut Vec<u8>,
     extension: &[u8],
@@ -18,7 +18,7 @@ fn edit_extension(
     Ok(if is_named { "true" } else { "false" })
 }
 
-/// Takes the last part away, and gives the word of the answer.
+/// Removes the last component, and returns the edit's answer, a word.
 fn pop(edited: &mut Vec<u8>) -> &'static str {
     match paths::parent(edited).map(<[u8]>::len) {
         Some(length) => {
@@ -29,7 +29,7 @@ fn pop(edited: &mut Vec<u8>) -> &'static str {
     }
 }
 
-/// Makes the edit that the field names, and gives the word of the answer; `None` where the field
+/// Makes the edit that the field names. Returns the edit's answer, a word, or `None` if the field
 /// names no edit.
 fn edit(edited: &mut Vec<u8>, field: &[u8]) -> Result<Option<&'static str>, Error> {
     let mut cut = field.splitn(2, |byte| *byte == b':');
@@ -54,7 +54,8 @@ fn edit(edited: &mut Vec<u8>, field: &[u8]) -> Result<Option<&'static str>, Erro
     Ok(Some(word))
 }
 
-/// Adds the path after the edits, and the word of each; false where a field names no edit.
+/// Appends the path after the edits, and the answer of each edit. Returns false if a field names no
+/// edit.
 pub fn push_edited(path: &[u8], fields: &[&[u8]], answer: &mut Vec<u8>) -> Result<bool, Error> {
     let mut edited = path.to_vec();
     let mut words = vec![];

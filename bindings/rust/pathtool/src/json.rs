@@ -1,7 +1,7 @@
 //! Paths as JSON strings.
 use unix_path_rattle as paths;
 
-/// Adds a byte of a JSON string, escaped where it has to be (RFC 8259, section 7).
+/// Appends a byte of a JSON string, escaped where that is required (RFC 8259, section 7).
 fn push_escaped(byte: u8, answer: &mut Vec<u8>) {
     match byte {
         b'"' | b'\\' => answer.extend([b'\\', byte]),
@@ -15,7 +15,7 @@ fn push_escaped(byte: u8, answer: &mut Vec<u8>) {
     }
 }
 
-/// Adds the path as a JSON string, or why it has none.
+/// Appends the path as a JSON string, or a message if it is not valid UTF-8.
 pub fn push_json(path: &[u8], answer: &mut Vec<u8>) {
     if !paths::is_utf8(path) {
         answer.extend(b"path contains invalid UTF-8 characters");

@@ -2,7 +2,7 @@
 use std::iter::once;
 use unix_path_rattle::{self as paths, owned, ByComponents, Component, Error};
 
-/// Adds the items, with a tab between two of them.
+/// Appends the items, with a tab between two of them.
 pub fn push_list<'a>(items: impl Iterator<Item = &'a [u8]>, answer: &mut Vec<u8>) {
     for (place, item) in items.enumerate() {
         if place > 0 {
@@ -12,17 +12,18 @@ pub fn push_list<'a>(items: impl Iterator<Item = &'a [u8]>, answer: &mut Vec<u8>
     }
 }
 
-/// Adds the bytes of the parts as a list.
+/// Appends the bytes of the components as a list.
 pub fn push_parts<'a>(parts: impl Iterator<Item = Component<'a>>, answer: &mut Vec<u8>) {
     push_list(parts.map(Component::as_bytes), answer);
 }
 
-/// Adds the path and each path above it as a list.
+/// Appends the path and each of its ancestors as a list.
 pub fn push_ancestors(path: &[u8], answer: &mut Vec<u8>) {
     push_list(paths::ancestors(path), answer);
 }
 
-/// Adds what the turns take from both ends, and what is left; false where a letter is no turn.
+/// Appends the components that the turns take from both ends, and the rest; returns false if a
+/// letter is no turn.
 pub fn push_walk(path: &[u8], turns: &[u8], answer: &mut Vec<u8>) -> bool {
     let mut left = paths::components(path);
     let (mut front, mut behind) = (vec![], vec![]);
@@ -41,8 +42,8 @@ pub fn push_walk(path: &[u8], turns: &[u8], answer: &mut Vec<u8>) -> bool {
     true
 }
 
-/// Adds what follows the base in those of the paths that start with it, in order, each once and
-/// spelled canonically.
+/// Appends what follows the base in the paths that start with it, in order, each once and in
+/// canonical form.
 pub fn push_under(base: &[u8], others: &[&[u8]], answer: &mut Vec<u8>) -> Result<(), Error> {
     let mut others: Vec<_> = others.iter().copied().map(ByComponents).collect();
     others.sort();

@@ -1,4 +1,4 @@
-//! Answers the lines of `pathtool` by the calls of `unix_path_rattle`.
+//! Answers the lines of `pathtool` with the functions of `unix_path_rattle`.
 mod edits;
 mod json;
 mod lists;
@@ -7,7 +7,7 @@ use std::cmp::Ordering;
 use std::io::{self, BufWriter, Read, Write};
 use unix_path_rattle::{self as paths, owned, Error};
 
-/// Adds `+` and the item, or `-` for none.
+/// Appends `+` and the item, or `-` if there is none.
 fn push_option(item: Option<&[u8]>, answer: &mut Vec<u8>) {
     match item {
         Some(item) => {
@@ -18,7 +18,8 @@ fn push_option(item: Option<&[u8]>, answer: &mut Vec<u8>) {
     }
 }
 
-/// Adds what follows the base in the path, or that the base doesn't begin the path.
+/// Appends what follows the base in the path, or a message that the path does not start with the
+/// base.
 fn push_stripped(path: &[u8], base: &[u8], answer: &mut Vec<u8>) {
     match paths::strip_prefix(path, base) {
         Some(rest) => push_option(Some(rest), answer),
@@ -26,12 +27,12 @@ fn push_stripped(path: &[u8], base: &[u8], answer: &mut Vec<u8>) {
     }
 }
 
-/// Adds `true` or `false`.
+/// Appends `true` or `false`.
 fn push_truth(is_so: bool, answer: &mut Vec<u8>) {
     answer.extend_from_slice(if is_so { b"true" } else { b"false" });
 }
 
-/// Adds `less`, `equal` or `greater`.
+/// Appends `less`, `equal` or `greater`.
 fn push_order(order: Ordering, answer: &mut Vec<u8>) {
     answer.extend_from_slice(match order {
         Ordering::Less => b"less",
@@ -40,7 +41,7 @@ fn push_order(order: Ordering, answer: &mut Vec<u8>) {
     });
 }
 
-/// Adds the answer to a line with these fields; false for an unknown command.
+/// Appends the answer to a line with these fields; returns false for an unknown command.
 fn push_answer(fields: &[&[u8]], answer: &mut Vec<u8>) -> Result<bool, Error> {
     match fields {
         [b"parts", p] => lists::push_parts(paths::components(p), answer),

@@ -3,6 +3,15 @@
 // Each macro passes the names of the calls of its shape to another macro, with the types of
 // the answers of questions.
 #[allow(unused_macros)]
+macro_rules! ask_nothing {
+    ($each:ident) => {
+        $each! {
+            version -> u32;
+        }
+    };
+}
+
+#[allow(unused_macros)]
 macro_rules! begin {
     ($each:ident) => {
         $each! {
@@ -31,7 +40,7 @@ macro_rules! left {
 }
 
 #[allow(unused_macros)]
-macro_rules! next_place {
+macro_rules! next_span {
     ($each:ident) => {
         $each! {
             next_ancestor;
@@ -91,8 +100,10 @@ macro_rules! ask {
             is_utf8 -> bool;
             is_canonical -> bool;
             is_absolute -> bool;
-            climbs -> bool;
+            escapes -> bool;
             check_request -> i32;
+            request_is_root -> bool;
+            ends_in_slash -> bool;
         }
     };
 }
@@ -105,8 +116,10 @@ macro_rules! make_of_two {
             with_file_name;
             with_extension;
             with_added_extension;
+            join_beneath;
+            join_in_root;
             join_verbatim;
-            way;
+            relative_path;
         }
     };
 }
@@ -120,16 +133,7 @@ macro_rules! make {
             resolved;
             key;
             from_key;
-            key_end;
-        }
-    };
-}
-
-#[allow(unused_macros)]
-macro_rules! make_of_two_as {
-    ($each:ident) => {
-        $each! {
-            join_below;
+            key_range_end;
         }
     };
 }

@@ -4,48 +4,48 @@ use super::*;
 
 pub type Start = *const u8;
 
-/// A walk over the parts of a path, from both ends: what is left stands between two places.
+/// A walk over the components of a path, from both ends: the rest lies between two indices.
 #[repr(C)]
 #[derive(Clone, Copy, Debug)]
 pub struct Walk {
-    /// Where what is left begins, in bytes from the beginning of the path.
+    /// The index at which the rest begins, counted from the beginning of the path.
     pub(super) front: usize,
-    /// Where what is left ends, in bytes from the beginning of the path.
+    /// The index at which the rest ends, counted from the beginning of the path.
     pub(super) back: usize,
 }
 
-/// A part of a path: where the part stands, and its kind. As Rust's `Component`.
+/// A component of a path: where it is, and its kind. Like Rust's `Component`.
 #[repr(C)]
 #[derive(Clone, Copy, Debug)]
 pub struct Part {
-    /// Where the part begins, in bytes from the beginning of the path.
+    /// The index of the component's first byte, counted from the beginning of the path.
     pub(super) start: usize,
-    /// How many bytes the part has.
+    /// The number of bytes of the component.
     pub(super) length: usize,
-    /// 0 for the root, 1 for a `.` that a path begins with, 2 for `..`, and 3 for a name.
+    /// 0 for the root, 1 for a leading `.`, 2 for `..`, and 3 for a name.
     pub kind: u32,
 }
 
-/// A stretch of a path: `length` bytes, the first of them at place `start`. Both count bytes.
+/// A run of bytes in a path: `length` bytes from index `start` on.
 #[repr(C)]
 #[derive(Clone, Copy, Debug)]
 pub struct Span {
-    /// The place of the first byte.
+    /// The index of the first byte.
     pub(super) start: usize,
-    /// How many bytes there are.
+    /// The number of bytes.
     pub(super) length: usize,
 }
 
-/// A chunk of a path: text, and behind it bytes that are no UTF-8. As Rust's `Utf8Chunk`.
+/// A chunk of a path: valid UTF-8 and the invalid bytes after it. Like Rust's `Utf8Chunk`.
 #[repr(C)]
 #[derive(Clone, Copy, Debug)]
 pub struct Chunk {
-    /// Where the text begins, in bytes from the beginning of the path.
+    /// The index at which the valid UTF-8 begins.
     pub(super) start: usize,
-    /// How many bytes of text there are; none if the chunk begins with the others.
+    /// The number of bytes of valid UTF-8. It is 0 if the chunk begins with invalid bytes.
     pub(super) valid_length: usize,
-    /// How many bytes stand behind the text that begin a sequence but are none, or begin none: at
-    /// most 3. Only in the last chunk there may be none.
+    /// The number of invalid bytes after the valid ones, at most 3: an incomplete UTF-8 sequence,
+    /// or a single byte with which no UTF-8 sequence begins. Only the last chunk can have 0.
     pub(super) broken_length: usize,
 }
 
@@ -57,29 +57,30 @@ impl Part {
     pub const NORMAL: u32 = 3;
 }
 
-/// What calls answer in place of a length.
+/// The error codes, which calls return instead of a length.
 #[allow(dead_code)]
 pub mod errors {
-    /// The answer if an extension has a slash.
+    /// The error code if an extension has a slash.
     pub const SEPARATOR: usize = usize::MAX - 6;
-    /// The answer if bytes are the key of no path.
+    /// The error code if bytes are the key of no path.
     pub const NOT_A_KEY: usize = usize::MAX - 4;
-    /// The answer if the range of a key has no end.
+    /// The error code if the range of a key has no end.
     pub const NO_END: usize = usize::MAX - 5;
-    /// The answer if there is no way.
-    pub const NO_WAY: usize = usize::MAX - 7;
-    /// The answer if a request would leave its root.
-    pub const ESCAPES: usize = usize::MAX - 1;
-    /// The answer if a request has a NUL byte.
-    pub const NUL_IN_REQUEST: usize = usize::MAX - 3;
-    /// The answer in place of a length that no buffer has. It is one byte more than the longest
-    /// buffer has.
+    /// The error code for a length that no buffer has. It is one more than the greatest length of a
+    /// buffer.
     pub const TOO_LONG: usize = 1 << 63;
+    /// The error code if there is no relative path.
+    pub const NO_RELATIVE_PATH: usize = usize::MAX - 7;
+    /// The error code if a request escapes.
+    pub const ESCAPES: usize = usize::MAX - 1;
+    /// The error code if a request has a NUL byte.
+    pub const NUL_IN_REQUEST: usize = usize::MAX - 3;
 }
 
 #[rustfmt::skip]
 #[allow(dead_code)]
 extern "C" {
+    pub fn unix_path_version() -> u32;
     pub fn unix_path_components(path: Start, path_length: usize, walk: *mut Walk);
     pub fn unix_path_next(path: Start, path_length: usize, walk: *mut Walk, part: *mut Part)
         -> bool;
@@ -107,8 +108,10 @@ extern "C" {
     pub fn unix_path_is_utf8(path: Start, path_length: usize) -> bool;
     pub fn unix_path_is_canonical(path: Start, path_length: usize) -> bool;
     pub fn unix_path_is_absolute(path: Start, path_length: usize) -> bool;
-    pub fn unix_path_climbs(path: Start, path_length: usize) -> bool;
+    pub fn unix_path_escapes(path: Start, path_length: usize) -> bool;
     pub fn unix_path_check_request(path: Start, path_length: usize) -> i32;
+    pub fn unix_path_request_is_root(path: Start, path_length: usize) -> bool;
+    pub fn unix_path_ends_in_slash(path: Start, path_length: usize) -> bool;
     pub fn unix_path_common_dir(a: Start, a_length: usize, b: Start, b_length: usize) -> usize;
     pub fn unix_path_join(base: Start, base_length: usize, path: Start, path_length: usize,
         out: *mut u8, out_length: usize) -> usize;
@@ -124,16 +127,18 @@ extern "C" {
         out_length: usize) -> usize;
     pub fn unix_path_resolved(path: Start, path_length: usize, out: *mut u8, out_length: usize)
         -> usize;
+    pub fn unix_path_join_beneath(root: Start, root_length: usize, request: Start,
+        request_length: usize, out: *mut u8, out_length: usize) -> usize;
+    pub fn unix_path_join_in_root(root: Start, root_length: usize, request: Start,
+        request_length: usize, out: *mut u8, out_length: usize) -> usize;
     pub fn unix_path_join_verbatim(root: Start, root_length: usize, request: Start,
         request_length: usize, out: *mut u8, out_length: usize) -> usize;
-    pub fn unix_path_join_below(root: Start, root_length: usize, request: Start,
-        request_length: usize, as_url: bool, out: *mut u8, out_length: usize) -> usize;
-    pub fn unix_path_way(from: Start, from_length: usize, to: Start, to_length: usize, out: *mut u8,
-        out_length: usize) -> usize;
+    pub fn unix_path_relative_path(from: Start, from_length: usize, to: Start, to_length: usize,
+        out: *mut u8, out_length: usize) -> usize;
     pub fn unix_path_key(path: Start, path_length: usize, out: *mut u8, out_length: usize) -> usize;
     pub fn unix_path_from_key(key: Start, key_length: usize, out: *mut u8, out_length: usize)
         -> usize;
-    pub fn unix_path_key_end(key: Start, key_length: usize, out: *mut u8, out_length: usize)
+    pub fn unix_path_key_range_end(key: Start, key_length: usize, out: *mut u8, out_length: usize)
         -> usize;
 }
 
@@ -172,7 +177,9 @@ impl Ask<bool> {
     pub const IS_UTF8: Self = Self(unix_path_is_utf8);
     pub const IS_CANONICAL: Self = Self(unix_path_is_canonical);
     pub const IS_ABSOLUTE: Self = Self(unix_path_is_absolute);
-    pub const CLIMBS: Self = Self(unix_path_climbs);
+    pub const ESCAPES: Self = Self(unix_path_escapes);
+    pub const REQUEST_IS_ROOT: Self = Self(unix_path_request_is_root);
+    pub const ENDS_IN_SLASH: Self = Self(unix_path_ends_in_slash);
 }
 
 impl Ask<i32> {
@@ -188,8 +195,10 @@ impl MakeOfTwo {
     pub const WITH_FILE_NAME: Self = Self(unix_path_with_file_name);
     pub const WITH_EXTENSION: Self = Self(unix_path_with_extension);
     pub const WITH_ADDED_EXTENSION: Self = Self(unix_path_with_added_extension);
+    pub const JOIN_BENEATH: Self = Self(unix_path_join_beneath);
+    pub const JOIN_IN_ROOT: Self = Self(unix_path_join_in_root);
     pub const JOIN_VERBATIM: Self = Self(unix_path_join_verbatim);
-    pub const WAY: Self = Self(unix_path_way);
+    pub const RELATIVE_PATH: Self = Self(unix_path_relative_path);
 }
 
 impl Make {
@@ -198,5 +207,5 @@ impl Make {
     pub const RESOLVED: Self = Self(unix_path_resolved);
     pub const KEY: Self = Self(unix_path_key);
     pub const FROM_KEY: Self = Self(unix_path_from_key);
-    pub const KEY_END: Self = Self(unix_path_key_end);
+    pub const KEY_RANGE_END: Self = Self(unix_path_key_range_end);
 }

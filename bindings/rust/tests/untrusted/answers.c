@@ -13,7 +13,7 @@ static uint64_t any(void)
     return state;
 }
 
-/* A small number, or one near those where sums wrap. */
+/* Returns a small number, or a number near one at which a sum overflows. */
 static size_t any_size_t(void)
 {
     switch (any() % 4) {
@@ -36,15 +36,20 @@ static int32_t any_int32_t(void)
     return (int32_t)any();
 }
 
+static uint32_t any_uint32_t(void)
+{
+    return (uint32_t)any();
+}
+
 static uint64_t any_uint64_t(void)
 {
     return any();
 }
 
-static bool any_place(unix_path_place *place)
+static bool any_span(unix_path_span *span)
 {
-    place->start = any_size_t();
-    place->length = any_size_t();
+    span->start = any_size_t();
+    span->length = any_size_t();
     return any() % 4 > 0;
 }
 
@@ -88,28 +93,26 @@ static size_t any_bytes(void *room, size_t out_length)
         walk->back = any_size_t(); \
     }
 #define LEFT(name) \
-    void unix_path_##name(ONE, const unix_path_walk *walk, unix_path_place *place) \
-    { NONE_OF_ONE, (void)walk, any_place(place); }
+    void unix_path_##name(ONE, const unix_path_walk *walk, unix_path_span *span) \
+    { NONE_OF_ONE, (void)walk, any_span(span); }
 #define STEP(name) \
     bool unix_path_##name(ONE, unix_path_walk *walk, unix_path_part *part) \
     { return NONE_OF_ONE, any_part(walk, part); }
-#define NEXT_PLACE(name) \
-    bool unix_path_##name(ONE, size_t *next, unix_path_place *place) \
-    { return NONE_OF_ONE, *next = any_size_t(), any_place(place); }
+#define NEXT_SPAN(name) \
+    bool unix_path_##name(ONE, size_t *next, unix_path_span *span) \
+    { return NONE_OF_ONE, *next = any_size_t(), any_span(span); }
 #define NEXT_CHUNK(name) \
     bool unix_path_##name(ONE, size_t *next, unix_path_chunk *chunk) \
     { return NONE_OF_ONE, *next = any_size_t(), any_chunk(chunk); }
 #define FIND(name) \
-    bool unix_path_##name(ONE, unix_path_place *place) { return NONE_OF_ONE, any_place(place); }
+    bool unix_path_##name(ONE, unix_path_span *span) { return NONE_OF_ONE, any_span(span); }
 #define FIND_OF_TWO(name) \
-    bool unix_path_##name(TWO, unix_path_place *place) { return NONE_OF_TWO, any_place(place); }
+    bool unix_path_##name(TWO, unix_path_span *span) { return NONE_OF_TWO, any_span(span); }
+#define ASK_NOTHING(answer, name) answer unix_path_##name(void) { return any_##answer(); }
 #define ASK(answer, name) answer unix_path_##name(ONE) { return NONE_OF_ONE, any_##answer(); }
 #define ASK_TWO(answer, name) answer unix_path_##name(TWO) { return NONE_OF_TWO, any_##answer(); }
 #define MAKE(name) \
     size_t unix_path_##name(ONE, OUT) { return NONE_OF_ONE, any_bytes(out, out_length); }
 #define MAKE_OF_TWO(name) \
     size_t unix_path_##name(TWO, OUT) { return NONE_OF_TWO, any_bytes(out, out_length); }
-#define MAKE_OF_TWO_AS(name) \
-    size_t unix_path_##name(TWO, bool as, OUT) \
-    { return NONE_OF_TWO, (void)as, any_bytes(out, out_length); }
 #include "../../../../tests/calls.inc"

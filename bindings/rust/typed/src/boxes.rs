@@ -1,4 +1,4 @@
-//! Paths and texts in a `Box`, an `Rc`, an `Arc` and a `Cow`.
+//! Paths and text in a `Box`, an `Rc`, an `Arc` and a `Cow`.
 use crate::path::Path;
 use crate::path_buf::PathBuf;
 use crate::unix_str::UnixStr;
@@ -9,11 +9,11 @@ use alloc::rc::Rc;
 #[cfg(target_has_atomic = "ptr")]
 use alloc::sync::Arc;
 
-/// What a view and the type that owns one are in the other owners: of `$view`, with its bytes by
-/// `$bytes`, and `$buffer`, made into a box by `$into_box`.
+/// Implements the conversions to the other owners: of the view `$view`, whose bytes `$bytes`
+/// returns, and of its owning type `$buffer`, which `$into_box` converts to a box.
 macro_rules! owners {
     ($view:ident, $bytes:ident, $buffer:ident, $into_box:ident) => {
-        /// A copy.
+        /// Copies the bytes.
         impl From<&$view> for Box<$view> {
             #[inline]
             fn from(view: &$view) -> Box<$view> {
@@ -21,7 +21,8 @@ macro_rules! owners {
             }
         }
 
-        /// In the same memory if that has no room for more, else in less.
+        /// Converts in the same memory if there is no spare capacity. Otherwise the bytes may move
+        /// to a smaller allocation.
         impl From<$buffer> for Box<$view> {
             #[inline]
             fn from(buffer: $buffer) -> Box<$view> {
@@ -29,7 +30,8 @@ macro_rules! owners {
             }
         }
 
-        /// As it is if it has memory of its own, else a copy.
+        /// Converts an owned value as if it were not in a `Cow`, and copies the bytes of a borrowed
+        /// one.
         impl From<Cow<'_, $view>> for Box<$view> {
             #[inline]
             fn from(cow: Cow<'_, $view>) -> Box<$view> {
@@ -47,7 +49,7 @@ macro_rules! owners {
             }
         }
 
-        /// A copy.
+        /// Copies the bytes.
         impl From<&$view> for Rc<$view> {
             #[inline]
             fn from(view: &$view) -> Rc<$view> {
@@ -55,7 +57,7 @@ macro_rules! owners {
             }
         }
 
-        /// A copy.
+        /// Copies the bytes.
         impl From<$buffer> for Rc<$view> {
             #[inline]
             fn from(buffer: $buffer) -> Rc<$view> {
@@ -63,7 +65,7 @@ macro_rules! owners {
             }
         }
 
-        /// A copy.
+        /// Copies the bytes.
         #[cfg(target_has_atomic = "ptr")]
         impl From<&$view> for Arc<$view> {
             #[inline]
@@ -72,7 +74,7 @@ macro_rules! owners {
             }
         }
 
-        /// A copy.
+        /// Copies the bytes.
         #[cfg(target_has_atomic = "ptr")]
         impl From<$buffer> for Arc<$view> {
             #[inline]
@@ -108,7 +110,7 @@ owners!(Path, bytes, PathBuf, into_boxed_path);
 owners!(UnixStr, as_bytes, UnixString, into_boxed_unix_str);
 
 impl Default for Box<UnixStr> {
-    /// No bytes.
+    /// Returns the empty string.
     #[inline]
     fn default() -> Box<UnixStr> {
         UnixStr::in_box(Box::default())

@@ -1,8 +1,9 @@
-//! Bytes seen as a `UnixStr` or a `Path`, and back. All `unsafe` code of this crate is here.
+//! Conversions between bytes and `UnixStr` or `Path`. All `unsafe` code of this crate is in this
+//! module.
 //!
-//! Each `unsafe` block rests on the same: both types are `repr(transparent)` over `[u8]`, so that
-//! they are laid out as their bytes, with the same length beside the pointer; and any bytes are a
-//! value of each.
+//! Each `unsafe` block depends on the same facts. Both types are `repr(transparent)` over `[u8]`,
+//! so they have the layout of their bytes, with the same length next to the pointer. Any bytes are
+//! a value of either type.
 use crate::path::Path;
 use crate::unix_str::UnixStr;
 use alloc::boxed::Box;
@@ -13,39 +14,39 @@ use alloc::sync::Arc;
 macro_rules! views_of_bytes {
     ($view:ident) => {
         impl $view {
-            /// These bytes.
+            /// Returns a view of these bytes.
             #[inline]
             pub(crate) const fn of(bytes: &[u8]) -> &$view {
                 // SAFETY: the view is laid out as its bytes, and lives as long as they do.
                 unsafe { &*(bytes as *const [u8] as *const $view) }
             }
 
-            /// These bytes, in the same memory.
+            /// Converts these bytes to the view, in the same memory.
             #[inline]
             pub(crate) fn in_box(bytes: Box<[u8]>) -> Box<$view> {
-                // SAFETY: the view is laid out as its bytes, and the box is made of one.
+                // SAFETY: the view is laid out as its bytes, and the pointer comes from a box.
                 unsafe { Box::from_raw(Box::into_raw(bytes) as *mut $view) }
             }
 
-            /// The bytes, in the same memory.
+            /// Converts the view to its bytes, in the same memory.
             #[inline]
             pub(crate) fn out_of_box(boxed: Box<$view>) -> Box<[u8]> {
-                // SAFETY: the bytes are laid out as the view, and the box is made of one.
+                // SAFETY: the bytes are laid out as the view, and the pointer comes from a box.
                 unsafe { Box::from_raw(Box::into_raw(boxed) as *mut [u8]) }
             }
 
-            /// These bytes, in the same memory.
+            /// Converts these bytes to the view, in the same memory.
             #[inline]
             pub(crate) fn in_rc(bytes: Rc<[u8]>) -> Rc<$view> {
-                // SAFETY: the view is laid out as its bytes, and the `Rc` is made of one.
+                // SAFETY: the view is laid out as its bytes, and the pointer comes from an `Rc`.
                 unsafe { Rc::from_raw(Rc::into_raw(bytes) as *const $view) }
             }
 
-            /// These bytes, in the same memory.
+            /// Converts these bytes to the view, in the same memory.
             #[cfg(target_has_atomic = "ptr")]
             #[inline]
             pub(crate) fn in_arc(bytes: Arc<[u8]>) -> Arc<$view> {
-                // SAFETY: the view is laid out as its bytes, and the `Arc` is made of one.
+                // SAFETY: the view is laid out as its bytes, and the pointer comes from an `Arc`.
                 unsafe { Arc::from_raw(Arc::into_raw(bytes) as *const $view) }
             }
         }

@@ -1,5 +1,5 @@
-//! Comparisons between different types: by parts if one of the two is a path, else by bytes. The
-//! pairs are those of Rust's std, with `UnixStr` for `OsStr`.
+//! Comparisons between different types: by components if one of the two is a path, and otherwise by
+//! bytes. The pairs of types are those of Rust's std, with `UnixStr` for `OsStr`.
 use crate::path::Path;
 use crate::path_buf::PathBuf;
 use crate::unix_str::UnixStr;
@@ -8,7 +8,7 @@ use alloc::borrow::Cow;
 use alloc::string::String;
 use core::cmp::Ordering;
 
-/// Both types are compared for equality as views of that type, whichever stands first.
+/// Implements equality of both types as views of the given type, in either order.
 macro_rules! equal_as {
     ($view:ident: $($one:ty, $other:ty;)*) => {$(
         impl<'a, 'b> PartialEq<$other> for $one {
@@ -27,7 +27,7 @@ macro_rules! equal_as {
     )*};
 }
 
-/// Both types are also ordered as views of that type.
+/// Implements equality and ordering of both types as views of the given type.
 macro_rules! ordered_as {
     ($view:ident: $($one:ty, $other:ty;)*) => {
         equal_as!($view: $($one, $other;)*);

@@ -1,12 +1,12 @@
-//! The parts of a path.
+//! The components of a path.
 use crate::path::Path;
 use crate::unix_str::UnixStr;
 use core::hash::{Hash, Hasher};
 use unix_path_rattle as calls;
 
-/// A part of a path. The order of parts is that of the variants, and that of names is by bytes.
+/// A component of a path. Components are ordered by variant, and names by their bytes.
 ///
-/// As Rust's `std::path::Component`, without prefixes.
+/// Like `std::path::Component`, without prefixes.
 ///
 /// ```
 /// use unix_path_typed::{Component, Path};
@@ -18,7 +18,7 @@ use unix_path_rattle as calls;
 pub enum Component<'a> {
     /// The root: the path begins with `/`.
     RootDir,
-    /// A `.` that stands first. Others are dropped.
+    /// A leading `.`; any other is dropped.
     CurDir,
     /// A `..`, which is kept.
     ParentDir,
@@ -27,7 +27,7 @@ pub enum Component<'a> {
 }
 
 impl<'a> Component<'a> {
-    /// The part's bytes: `/`, `.`, `..` or the name. As Rust's `Component::as_os_str`.
+    /// Returns the component's bytes: `/`, `.`, `..` or the name.
     ///
     /// ```
     /// use unix_path_typed::{Component, UnixStr};
@@ -45,7 +45,7 @@ impl<'a> Component<'a> {
         }
     }
 
-    /// The part that a part of slices is.
+    /// Converts a component of `unix_path_rattle`.
     #[inline]
     pub(crate) fn of(part: calls::Component<'a>) -> Component<'a> {
         match part {
@@ -57,8 +57,8 @@ impl<'a> Component<'a> {
     }
 }
 
-/// The hasher is fed the part's bytes, and a slash behind them, which no name of a path has: the
-/// parts of two paths feed it the same bytes only if the paths are equal.
+/// Feeds the hasher the component's bytes and then a slash, which no name contains. The components
+/// of two paths feed it the same bytes only if the paths are equal.
 impl Hash for Component<'_> {
     #[inline]
     fn hash<H: Hasher>(&self, state: &mut H) {

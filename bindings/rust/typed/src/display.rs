@@ -3,10 +3,10 @@ use crate::path::Path;
 use crate::unix_str::UnixStr;
 use core::fmt::{self, Write};
 
-/// A path that is printed as text; [`Path::display`](crate::Path::display) gives it.
+/// A path that is printed as text, returned by [`Path::display`](crate::Path::display).
 ///
-/// Prints U+FFFD for each stretch that isn't UTF-8; the text is then allocated once. Width, fill
-/// and alignment work as for a `str`, and a precision is ignored. As Rust's `std::path::Display`.
+/// Prints invalid bytes as U+FFFD, like `to_string_lossy`, and allocates the text only if there are
+/// some. Width, fill and alignment work as for a `str`, and a precision is ignored.
 ///
 /// ```
 /// use unix_path_typed::{Path, UnixStr};
@@ -47,7 +47,7 @@ impl fmt::Display for Display<'_> {
     }
 }
 
-/// Writes the character as it stands between quotes in a debug text.
+/// Writes the character as it appears between quotes in debug text.
 fn write_escaped(c: char, f: &mut fmt::Formatter<'_>) -> fmt::Result {
     match c {
         '\'' => f.write_char(c),
@@ -55,8 +55,8 @@ fn write_escaped(c: char, f: &mut fmt::Formatter<'_>) -> fmt::Result {
     }
 }
 
-/// The bytes between quotes: text with Rust's escapes, and what isn't UTF-8 as `\xFF`. As the debug
-/// text of Rust's `OsStr`.
+/// Writes the bytes between quotes: text with Rust's escapes, and invalid bytes as `\xFF`, like the
+/// debug text of Rust's `OsStr`.
 impl fmt::Debug for UnixStr {
     fn fmt(&self, f: &mut fmt::Formatter<'_>) -> fmt::Result {
         f.write_char('"')?;
@@ -74,7 +74,7 @@ impl fmt::Debug for UnixStr {
     }
 }
 
-/// As the debug text of its bytes as a [`UnixStr`].
+/// Writes the debug text of its bytes as a [`UnixStr`].
 impl fmt::Debug for Path {
     fn fmt(&self, f: &mut fmt::Formatter<'_>) -> fmt::Result {
         fmt::Debug::fmt(self.as_unix_str(), f)

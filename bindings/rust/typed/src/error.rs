@@ -1,10 +1,8 @@
-//! Why a path has no rest.
+//! The error of `Path::strip_prefix`.
 use core::fmt;
 
-/// The path doesn't start with the base; [`Path::strip_prefix`](crate::Path::strip_prefix) fails
-/// with it.
-///
-/// As Rust's `std::path::StripPrefixError`.
+/// The error that [`Path::strip_prefix`](crate::Path::strip_prefix) returns if the path does not
+/// start with the base.
 ///
 /// ```
 /// let error = unix_path_typed::Path::new("/a").strip_prefix("b").unwrap_err();
@@ -28,7 +26,7 @@ impl fmt::Display for StripPrefixError {
 
 impl core::error::Error for StripPrefixError {}
 
-/// The error of a program that reads and writes: `InvalidInput`, with the error itself in it.
+/// Converts to an I/O error: `InvalidInput` with the error itself inside.
 ///
 /// ```
 /// use std::io;

@@ -1,10 +1,17 @@
-//! `Path` and `PathBuf` for Unix paths on every platform, over `libunix_path`, a static library
-//! whose calls are proved.
+//! `Path` and `PathBuf` for Unix paths, over a library that is proved and compiled to assembly.
 //!
 //! The types and methods have the names of Rust's std, and of the crate `unix_path` 1.0.1: a
-//! program that uses that crate names this one in its place. A path may hold any byte, is compared,
-//! ordered and hashed by its parts, and is never asked of the system. Text is a [`UnixStr`], where
-//! std has an `OsStr`.
+//! program that uses that crate can name this one instead. A path may contain any byte, is
+//! compared, ordered and hashed by its components, and is never looked up in the file system. Text
+//! is a [`UnixStr`], where std has an `OsStr`.
+//!
+//! Unless stated otherwise:
+//!
+//! - Types and methods behave as those of the same names in std do on Unix, with `UnixStr` and
+//!   `unix_str` for `OsStr` and `os_str`.
+//! - Methods that return a reference or an iterator do not allocate.
+//! - If an allocation fails, the program ends as it does when a `Vec` cannot grow.
+//! - Lengths and capacities count bytes.
 //!
 //! ```
 //! use unix_path_typed::{Component, Path, PathBuf};
@@ -22,21 +29,22 @@
 //!
 //! # What is proved
 //!
-//! That each call of the library returns what its contract says, on all bytes; the contracts stand
-//! in `crates/unix_path_c`. This crate isn't proved, nor is `unix_path_rattle`, by whose calls it
-//! answers: it gives their slices and vectors the types of paths. Without a call of the library it
-//! only shows the bytes it has: as another type, as UTF-8 if Rust's `str` finds that they are, in
-//! debug texts, and compared or hashed byte by byte as a `UnixStr`. A wrong library would give
-//! wrong answers, and could do no more harm than `unix_path_rattle` says.
+//! The source of the assembly: each call of the library returns what its contract says, on all
+//! bytes. This crate is not proved, and neither is `unix_path_rattle`, whose functions it calls: it
+//! wraps their slices and vectors in the types of paths. Some methods do not call the library. They
+//! show the bytes as another type, as UTF-8 if Rust's `str` accepts them, or in debug text, or they
+//! compare or hash the bytes of a `UnixStr`. A wrong library would return wrong results, and could
+//! do no more harm than `unix_path_rattle` says.
 //!
 //! # Memory
 //!
-//! What makes or changes a path ends as a growing `Vec` does if memory is lacking. The calls of
-//! `unix_path_rattle::owned` and `edits` answer an error instead.
+//! A method that makes or changes a path ends the program if an allocation fails. The functions of
+//! `unix_path_rattle::owned` and `edits` return an error instead.
 //!
-//! # Building
+//! # Targets
 //!
-//! The library is found as `unix_path_rattle` says: `make lib` in the repository builds it.
+//! The targets of `unix_path_rattle`, which contains the assembly: Linux on x86-64 and aarch64, and
+//! Windows on x86-64. Its feature `system` links an installed library instead.
 #![no_std]
 #![deny(
     missing_docs,
@@ -72,14 +80,10 @@ pub use unix_str::UnixStr;
 pub use unix_string::UnixString;
 pub use walks::{Ancestors, Components, Iter};
 
-/// What stands between two parts of a path: `/`.
-///
-/// As Rust's `std::path::MAIN_SEPARATOR` on Unix.
+/// The separator of a path's components: `/`.
 pub const MAIN_SEPARATOR: char = '/';
 
-/// Whether the character is a slash.
-///
-/// As Rust's `std::path::is_separator` on Unix.
+/// Returns true if the character is a slash.
 ///
 /// ```
 /// assert!(unix_path_typed::is_separator('/'));

@@ -11,11 +11,10 @@ use core::cmp::Ordering;
 use core::hash::{Hash, Hasher};
 use unix_path_rattle as calls;
 
-/// A path: any bytes, read as parts between slashes.
+/// A path: any bytes, read as components between slashes.
 ///
-/// It is compared, ordered and hashed by its parts, so that `a//b/.` equals `a/b`. It has no size
-/// of its own and stands behind a reference or a `Box`; [`PathBuf`] has memory of its own. As
-/// Rust's `std::path::Path` on Unix.
+/// It is compared, ordered and hashed by its components, so `a//b/.` equals `a/b`. It is unsized
+/// and used behind a reference or a `Box`; [`PathBuf`] owns its bytes.
 ///
 /// ```
 /// use unix_path_typed::Path;
@@ -28,9 +27,7 @@ use unix_path_rattle as calls;
 pub struct Path(UnixStr);
 
 impl Path {
-    /// The path that these bytes or this text are, without a copy.
-    ///
-    /// As Rust's `Path::new`.
+    /// Returns the path with these bytes or this text, without copying.
     ///
     /// ```
     /// use unix_path_typed::{Path, UnixStr};
@@ -42,13 +39,13 @@ impl Path {
         Path::of(s.as_ref().as_bytes())
     }
 
-    /// The bytes.
+    /// Returns the path's bytes.
     #[inline]
     pub(crate) fn bytes(&self) -> &[u8] {
         self.0.as_bytes()
     }
 
-    /// The path's text, byte for byte. As Rust's `Path::as_os_str`.
+    /// Returns the path's text, byte for byte, like `Path::as_os_str` of Rust.
     ///
     /// ```
     /// assert_eq!(unix_path_typed::Path::new("a//b").as_unix_str(), "a//b");
@@ -59,9 +56,9 @@ impl Path {
         &self.0
     }
 
-    /// The path as text, or `None` if it isn't UTF-8.
+    /// Returns the path as text, or `None` if it is not valid UTF-8.
     ///
-    /// Rust's own check answers, since a `str` rests on it. As Rust's `Path::to_str`.
+    /// Rust's own check decides this, since a `str` depends on it.
     ///
     /// ```
     /// assert_eq!(unix_path_typed::Path::new("/é").to_str(), Some("/é"));
@@ -72,9 +69,9 @@ impl Path {
         self.0.to_str()
     }
 
-    /// The path as text, with U+FFFD for what isn't UTF-8.
+    /// Returns the path as text, with U+FFFD in place of invalid bytes.
     ///
-    /// Allocates only if something isn't. As Rust's `Path::to_string_lossy`.
+    /// Allocates only if some bytes are invalid.
     ///
     /// ```
     /// assert_eq!(unix_path_typed::Path::new("/é").to_string_lossy(), "/é");
@@ -85,7 +82,7 @@ impl Path {
         self.0.to_string_lossy()
     }
 
-    /// The path, to be printed. Does not allocate. As Rust's `Path::display`.
+    /// Returns a value that prints the path. Does not allocate.
     ///
     /// ```
     /// assert_eq!(unix_path_typed::Path::new("/é").display().to_string(), "/é");
@@ -120,8 +117,9 @@ impl Ord for Path {
     }
 }
 
-/// Feeds the hasher each part, and an end after the last, as [`Components`] does: equal paths feed
-/// it the same, and if it has a key, that decides which other paths, or lists of paths, collide.
+/// Feeds the hasher each component, and then an end, as [`Components`] does. Equal paths feed it
+/// the same bytes. If the hasher is keyed, its key determines which different paths, or lists of
+/// paths, collide.
 impl Hash for Path {
     #[inline]
     fn hash<H: Hasher>(&self, state: &mut H) {

@@ -16,10 +16,9 @@ use core::ops::Deref;
 use core::str::FromStr;
 use unix_path_rattle::edits;
 
-/// A [`Path`] that has memory of its own and can be edited.
+/// A [`Path`] that owns its bytes and can be edited.
 ///
-/// It is compared, ordered and hashed as the path that it holds. What allocates ends as a `Vec`
-/// does if memory is lacking. As Rust's `std::path::PathBuf` on Unix.
+/// It is compared, ordered and hashed as its path.
 ///
 /// ```
 /// use unix_path_typed::PathBuf;
@@ -36,13 +35,13 @@ pub struct PathBuf {
 }
 
 impl PathBuf {
-    /// These bytes.
+    /// Creates a path from these bytes.
     #[inline]
     pub(crate) const fn of(bytes: Vec<u8>) -> PathBuf {
         PathBuf { bytes }
     }
 
-    /// The empty path. Does not allocate. As Rust's `PathBuf::new`.
+    /// Creates an empty path. Does not allocate.
     ///
     /// ```
     /// use unix_path_typed::PathBuf;
@@ -54,7 +53,7 @@ impl PathBuf {
         PathBuf::of(Vec::new())
     }
 
-    /// The empty path, with room for this many bytes. As Rust's `PathBuf::with_capacity`.
+    /// Creates an empty path with at least this capacity.
     ///
     /// ```
     /// let mut path = unix_path_typed::PathBuf::with_capacity(10);
@@ -68,7 +67,7 @@ impl PathBuf {
         PathBuf::of(Vec::with_capacity(capacity))
     }
 
-    /// The path that it holds. As Rust's `PathBuf::as_path`.
+    /// Returns the path.
     ///
     /// ```
     /// use unix_path_typed::{Path, PathBuf};
@@ -80,10 +79,10 @@ impl PathBuf {
         self
     }
 
-    /// Joins another path to this one, which becomes the other if that has a root.
+    /// Joins another path to this one, or replaces this one if the other has a root.
     ///
-    /// A slash goes between them if one is missing. Takes as long as the other path, and not as
-    /// this one. As Rust's `PathBuf::push`.
+    /// A slash is added between them if one is missing. The running time depends on the length of
+    /// the other path, not of this one.
     ///
     /// ```
     /// use unix_path_typed::{Path, PathBuf};
@@ -101,10 +100,8 @@ impl PathBuf {
         }
     }
 
-    /// Takes the last part away, with what stands behind the part before it; false, and nothing
-    /// changes, if there is none or it is the root.
-    ///
-    /// Does not allocate. As Rust's `PathBuf::pop`.
+    /// Shortens the path to its parent, which removes the last component. Returns false and changes
+    /// nothing if the path has no component, or only the root. Does not allocate.
     ///
     /// ```
     /// use unix_path_typed::PathBuf;
@@ -118,10 +115,10 @@ impl PathBuf {
         edits::pop(&mut self.bytes)
     }
 
-    /// Puts another name in the place of the file name, or joins it to the path if that has none.
+    /// Replaces the file name, or joins the name to the path if it has no file name.
     ///
-    /// The parent stays if the name is one plain name, and need not for another, such as `..` or
-    /// `/a`. As Rust's `PathBuf::set_file_name`.
+    /// The parent is unchanged if `file_name` is one name. It may change for any other `file_name`,
+    /// such as `..` or `/a`.
     ///
     /// ```
     /// use unix_path_typed::{Path, PathBuf};
@@ -137,10 +134,8 @@ impl PathBuf {
         }
     }
 
-    /// Puts another extension in the place of the file name's, or adds it if there is none; an
-    /// empty one takes the old one away. False, and nothing changes, if there is no file name.
-    ///
-    /// As Rust's `PathBuf::set_extension`.
+    /// Replaces the extension of the file name, or adds one if there is none. An empty extension
+    /// removes the old one. Returns false and changes nothing if there is no file name.
     ///
     /// ```
     /// use unix_path_typed::{Path, PathBuf};
@@ -152,8 +147,8 @@ impl PathBuf {
     ///
     /// # Panics
     ///
-    /// If the extension has a slash, as Rust's does, with or without a file name; in `unix_path`
-    /// 1.0.1 it adds parts. The path stays as it was.
+    /// Panics if the extension contains a slash, with or without a file name, as in Rust; in
+    /// `unix_path` 1.0.1 it adds components. The path is then unchanged.
     #[inline]
     pub fn set_extension<S: AsRef<UnixStr>>(&mut self, extension: S) -> bool {
         let extension = extension.as_ref().as_bytes();
@@ -163,12 +158,12 @@ impl PathBuf {
         }
     }
 
-    /// How many bytes this path may have with the others behind it.
+    /// Returns the most bytes that this path can have once the others are joined to it.
     fn room_beside(&self, others: &[u8]) -> usize {
         self.bytes.len() + 1 + others.len()
     }
 
-    /// The path's text, in the same memory. As Rust's `PathBuf::into_os_string`.
+    /// Converts to the path's text, in the same memory, like `PathBuf::into_os_string` of Rust.
     ///
     /// ```
     /// assert_eq!(unix_path_typed::PathBuf::from("a//b").into_unix_string(), "a//b");
@@ -179,7 +174,7 @@ impl PathBuf {
         UnixString::from_vec(self.bytes)
     }
 
-    /// The same path, in memory that has no room for more. As Rust's `PathBuf::into_boxed_path`.
+    /// Converts to a boxed path, without spare capacity.
     ///
     /// ```
     /// use unix_path_typed::{Path, PathBuf};
@@ -191,7 +186,7 @@ impl PathBuf {
         Path::in_box(self.bytes.into_boxed_slice())
     }
 
-    /// For how many bytes there is room in all. As Rust's `PathBuf::capacity`.
+    /// Returns the capacity.
     ///
     /// ```
     /// assert_eq!(unix_path_typed::PathBuf::new().capacity(), 0);
@@ -202,7 +197,7 @@ impl PathBuf {
         self.bytes.capacity()
     }
 
-    /// Makes this the empty path, and keeps the room. As Rust's `PathBuf::clear`.
+    /// Makes the path empty, and keeps its capacity.
     ///
     /// ```
     /// use unix_path_typed::PathBuf;
@@ -215,7 +210,7 @@ impl PathBuf {
         self.bytes.clear();
     }
 
-    /// Makes room for this many bytes more, or for more than these. As Rust's `PathBuf::reserve`.
+    /// Reserves capacity for at least this many more bytes.
     ///
     /// ```
     /// let mut path = unix_path_typed::PathBuf::from("a");
@@ -227,7 +222,7 @@ impl PathBuf {
         self.bytes.reserve(additional);
     }
 
-    /// Makes room for this many bytes more. As Rust's `PathBuf::reserve_exact`.
+    /// Reserves capacity for this many more bytes, without asking for more than that.
     ///
     /// ```
     /// let mut path = unix_path_typed::PathBuf::from("a");
@@ -239,7 +234,7 @@ impl PathBuf {
         self.bytes.reserve_exact(additional);
     }
 
-    /// Gives up room that isn't used. As Rust's `PathBuf::shrink_to_fit`.
+    /// Releases spare capacity.
     ///
     /// ```
     /// let mut path = unix_path_typed::PathBuf::with_capacity(100);
@@ -251,8 +246,7 @@ impl PathBuf {
         self.bytes.shrink_to_fit();
     }
 
-    /// Gives up room that isn't used, but for this many bytes in all. As Rust's
-    /// `PathBuf::shrink_to`.
+    /// Releases spare capacity, down to this capacity.
     ///
     /// ```
     /// let mut path = unix_path_typed::PathBuf::with_capacity(100);
@@ -304,7 +298,7 @@ impl Ord for PathBuf {
     }
 }
 
-/// As the path that it holds, as [`Borrow`] asks for.
+/// Hashes the path, as [`Borrow`] requires.
 impl Hash for PathBuf {
     #[inline]
     fn hash<H: Hasher>(&self, state: &mut H) {
@@ -342,7 +336,7 @@ impl<'a> IntoIterator for &'a PathBuf {
     }
 }
 
-/// Pushes each path, one after the other.
+/// Pushes each path in order.
 impl<P: AsRef<Path>> Extend<P> for PathBuf {
     #[inline]
     fn extend<I: IntoIterator<Item = P>>(&mut self, paths: I) {
@@ -350,8 +344,8 @@ impl<P: AsRef<Path>> Extend<P> for PathBuf {
     }
 }
 
-/// The paths, pushed one after the other: of all parts of a path it is the shortest path with
-/// these.
+/// Pushes the paths in order onto an empty path. For all components of a path, the result is its
+/// canonical form.
 impl<P: AsRef<Path>> FromIterator<P> for PathBuf {
     #[inline]
     fn from_iter<I: IntoIterator<Item = P>>(paths: I) -> PathBuf {
@@ -361,7 +355,7 @@ impl<P: AsRef<Path>> FromIterator<P> for PathBuf {
     }
 }
 
-/// A copy of the text.
+/// Copies the text.
 impl<T: AsRef<UnixStr> + ?Sized> From<&T> for PathBuf {
     #[inline]
     fn from(s: &T) -> PathBuf {
@@ -369,7 +363,7 @@ impl<T: AsRef<UnixStr> + ?Sized> From<&T> for PathBuf {
     }
 }
 
-/// In the same memory.
+/// Converts in the same memory.
 impl From<UnixString> for PathBuf {
     #[inline]
     fn from(s: UnixString) -> PathBuf {
@@ -377,7 +371,7 @@ impl From<UnixString> for PathBuf {
     }
 }
 
-/// In the same memory.
+/// Converts in the same memory.
 impl From<PathBuf> for UnixString {
     #[inline]
     fn from(path: PathBuf) -> UnixString {
@@ -385,7 +379,7 @@ impl From<PathBuf> for UnixString {
     }
 }
 
-/// In the same memory.
+/// Converts in the same memory.
 impl From<String> for PathBuf {
     #[inline]
     fn from(s: String) -> PathBuf {
@@ -393,7 +387,7 @@ impl From<String> for PathBuf {
     }
 }
 
-/// In the same memory.
+/// Converts in the same memory.
 impl From<Box<Path>> for PathBuf {
     #[inline]
     fn from(boxed: Box<Path>) -> PathBuf {
@@ -401,7 +395,7 @@ impl From<Box<Path>> for PathBuf {
     }
 }
 
-/// In the same memory if it has its own, else a copy.
+/// Converts in the same memory if the path is owned, and otherwise copies it.
 impl From<Cow<'_, Path>> for PathBuf {
     #[inline]
     fn from(cow: Cow<'_, Path>) -> PathBuf {

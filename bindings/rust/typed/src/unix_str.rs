@@ -1,4 +1,4 @@
-//! Text of any bytes.
+//! Byte strings as text.
 use crate::memory::fail;
 use crate::path::Path;
 use crate::unix_string::UnixString;
@@ -8,10 +8,10 @@ use alloc::string::String;
 use core::str;
 use unix_path_rattle::owned;
 
-/// Bytes that may be a name or a path, as Unix has them: any bytes, most often UTF-8.
+/// A name or a path as on Unix: any bytes, most often UTF-8.
 ///
-/// It is compared, ordered and hashed by its bytes. As Rust's `OsStr` on Unix, and the `UnixStr` of
-/// the crate `unix_str`.
+/// It is compared, ordered and hashed by its bytes. Like `OsStr` of Rust's std on Unix, and
+/// `UnixStr` of the crate `unix_str`.
 ///
 /// ```
 /// use unix_path_typed::{Path, UnixStr};
@@ -23,9 +23,7 @@ use unix_path_rattle::owned;
 pub struct UnixStr([u8]);
 
 impl UnixStr {
-    /// The text of something that has some, without a copy.
-    ///
-    /// As Rust's `OsStr::new`.
+    /// Returns the text of a value, without copying.
     ///
     /// ```
     /// assert_eq!(unix_path_typed::UnixStr::new("a/b").as_bytes(), b"a/b");
@@ -35,9 +33,7 @@ impl UnixStr {
         s.as_ref()
     }
 
-    /// These bytes, without a copy.
-    ///
-    /// As Rust's `OsStrExt::from_bytes`.
+    /// Returns the text with these bytes, without copying. Like `OsStrExt::from_bytes` of Rust.
     ///
     /// ```
     /// use unix_path_typed::UnixStr;
@@ -49,7 +45,7 @@ impl UnixStr {
         UnixStr::of(bytes)
     }
 
-    /// The bytes. As Rust's `OsStrExt::as_bytes`.
+    /// Returns the bytes, like `OsStrExt::as_bytes` of Rust.
     ///
     /// ```
     /// assert_eq!(unix_path_typed::UnixStr::new("é").as_bytes(), b"\xC3\xA9");
@@ -60,9 +56,9 @@ impl UnixStr {
         &self.0
     }
 
-    /// The text, or `None` if the bytes aren't UTF-8.
+    /// Returns the text as a `str`, or `None` if it is not valid UTF-8.
     ///
-    /// Rust's own check answers, since a `str` rests on it. As Rust's `OsStr::to_str`.
+    /// Rust's own check decides this, since a `str` depends on it.
     ///
     /// ```
     /// use unix_path_typed::UnixStr;
@@ -75,9 +71,9 @@ impl UnixStr {
         str::from_utf8(&self.0).ok()
     }
 
-    /// The text, with U+FFFD for what isn't UTF-8.
+    /// Returns the text, with U+FFFD in place of invalid bytes.
     ///
-    /// Allocates only if something isn't. As Rust's `OsStr::to_string_lossy`.
+    /// Allocates only if some bytes are invalid.
     ///
     /// ```
     /// use unix_path_typed::UnixStr;
@@ -93,12 +89,12 @@ impl UnixStr {
     }
 
     fn lossy(&self) -> String {
-        // Each byte gives at most three.
+        // Each byte becomes at most three.
         let most = self.0.len().saturating_mul(3);
         owned::to_string_lossy(&self.0).unwrap_or_else(|error| fail(error, most))
     }
 
-    /// A copy of its own. As Rust's `OsStr::to_os_string`.
+    /// Copies the text to a new [`UnixString`].
     ///
     /// ```
     /// use unix_path_typed::{UnixStr, UnixString};
@@ -110,7 +106,7 @@ impl UnixStr {
         UnixString::from_vec(self.0.to_vec())
     }
 
-    /// Whether there are no bytes. As Rust's `OsStr::is_empty`.
+    /// Returns true if there are no bytes.
     ///
     /// ```
     /// assert!(unix_path_typed::UnixStr::new("").is_empty());
@@ -121,7 +117,7 @@ impl UnixStr {
         self.0.is_empty()
     }
 
-    /// How many bytes there are. As Rust's `OsStr::len`.
+    /// Returns the number of bytes.
     ///
     /// ```
     /// assert_eq!(unix_path_typed::UnixStr::new("é").len(), 2);
@@ -132,8 +128,7 @@ impl UnixStr {
         self.0.len()
     }
 
-    /// The same bytes as text that can grow, in the same memory. As Rust's
-    /// `OsStr::into_os_string`.
+    /// Converts to a [`UnixString`], in the same memory.
     ///
     /// ```
     /// use unix_path_typed::{UnixStr, UnixString};
@@ -162,7 +157,7 @@ impl ToOwned for UnixStr {
 }
 
 impl<'a> Default for &'a UnixStr {
-    /// No bytes.
+    /// Returns the empty string.
     #[inline]
     fn default() -> &'a UnixStr {
         UnixStr::of(&[])

@@ -1,4 +1,4 @@
-//! Text of any bytes that can grow.
+//! Byte strings as text that can grow.
 use crate::path::Path;
 use crate::unix_str::UnixStr;
 use alloc::borrow::{Borrow, Cow};
@@ -11,10 +11,9 @@ use core::hash::{Hash, Hasher};
 use core::ops::{Deref, Index, RangeFull};
 use core::str::FromStr;
 
-/// A [`UnixStr`] that has memory of its own and can grow.
+/// A [`UnixStr`] that owns its bytes and can grow.
 ///
-/// What allocates ends as a `Vec` does if memory is lacking. As Rust's `OsString` on Unix, and the
-/// `UnixString` of the crate `unix_str`.
+/// Like `OsString` of Rust's std on Unix, and `UnixString` of the crate `unix_str`.
 ///
 /// ```
 /// use unix_path_typed::UnixString;
@@ -28,7 +27,7 @@ pub struct UnixString {
 }
 
 impl UnixString {
-    /// No bytes. Does not allocate. As Rust's `OsString::new`.
+    /// Creates an empty string. Does not allocate.
     ///
     /// ```
     /// assert!(unix_path_typed::UnixString::new().is_empty());
@@ -39,7 +38,7 @@ impl UnixString {
         UnixString { bytes: Vec::new() }
     }
 
-    /// No bytes, with room for this many. As Rust's `OsString::with_capacity`.
+    /// Creates an empty string with at least this capacity.
     ///
     /// ```
     /// assert!(unix_path_typed::UnixString::with_capacity(10).capacity() >= 10);
@@ -50,7 +49,7 @@ impl UnixString {
         UnixString::from_vec(Vec::with_capacity(capacity))
     }
 
-    /// These bytes, in the same memory. As Rust's `OsStringExt::from_vec`.
+    /// Creates a string from these bytes, in the same memory. Like `OsStringExt::from_vec` of Rust.
     ///
     /// ```
     /// use unix_path_typed::UnixString;
@@ -62,7 +61,7 @@ impl UnixString {
         UnixString { bytes }
     }
 
-    /// The bytes, in the same memory. As Rust's `OsStringExt::into_vec`.
+    /// Returns the bytes, in the same memory. Like `OsStringExt::into_vec` of Rust.
     ///
     /// ```
     /// assert_eq!(unix_path_typed::UnixString::from("a").into_vec(), b"a");
@@ -73,7 +72,7 @@ impl UnixString {
         self.bytes
     }
 
-    /// The text that it holds. As Rust's `OsString::as_os_str`.
+    /// Returns the text.
     ///
     /// ```
     /// use unix_path_typed::{UnixStr, UnixString};
@@ -85,8 +84,8 @@ impl UnixString {
         self
     }
 
-    /// The same bytes as a `String`, in the same memory. Fails, with the text itself as the error,
-    /// if they aren't UTF-8. As Rust's `OsString::into_string`.
+    /// Converts to a `String`, in the same memory. If the bytes are not valid UTF-8, fails with the
+    /// string itself as the error.
     ///
     /// ```
     /// use unix_path_typed::UnixString;
@@ -99,7 +98,7 @@ impl UnixString {
         String::from_utf8(self.bytes).map_err(|error| UnixString::from_vec(error.into_bytes()))
     }
 
-    /// Adds the text behind. Adds no slash. As Rust's `OsString::push`.
+    /// Appends the text, without a slash.
     ///
     /// ```
     /// let mut text = unix_path_typed::UnixString::from("a");
@@ -111,7 +110,7 @@ impl UnixString {
         self.bytes.extend_from_slice(s.as_ref().as_bytes());
     }
 
-    /// For how many bytes there is room in all. As Rust's `OsString::capacity`.
+    /// Returns the capacity.
     ///
     /// ```
     /// assert_eq!(unix_path_typed::UnixString::new().capacity(), 0);
@@ -122,7 +121,7 @@ impl UnixString {
         self.bytes.capacity()
     }
 
-    /// Takes all bytes away, and keeps the room. As Rust's `OsString::clear`.
+    /// Removes all bytes, and keeps the capacity.
     ///
     /// ```
     /// let mut text = unix_path_typed::UnixString::from("a");
@@ -134,8 +133,7 @@ impl UnixString {
         self.bytes.clear();
     }
 
-    /// Makes room for this many bytes more, or for more than these. As Rust's
-    /// `OsString::reserve`.
+    /// Reserves capacity for at least this many more bytes.
     ///
     /// ```
     /// let mut text = unix_path_typed::UnixString::from("a");
@@ -147,7 +145,7 @@ impl UnixString {
         self.bytes.reserve(additional);
     }
 
-    /// Makes room for this many bytes more. As Rust's `OsString::reserve_exact`.
+    /// Reserves capacity for this many more bytes, without asking for more than that.
     ///
     /// ```
     /// let mut text = unix_path_typed::UnixString::from("a");
@@ -159,7 +157,7 @@ impl UnixString {
         self.bytes.reserve_exact(additional);
     }
 
-    /// Gives up room that isn't used. As Rust's `OsString::shrink_to_fit`.
+    /// Releases spare capacity.
     ///
     /// ```
     /// let mut text = unix_path_typed::UnixString::with_capacity(100);
@@ -171,8 +169,7 @@ impl UnixString {
         self.bytes.shrink_to_fit();
     }
 
-    /// Gives up room that isn't used, but for this many bytes in all. As Rust's
-    /// `OsString::shrink_to`.
+    /// Releases spare capacity, down to this capacity.
     ///
     /// ```
     /// let mut text = unix_path_typed::UnixString::with_capacity(100);
@@ -184,8 +181,7 @@ impl UnixString {
         self.bytes.shrink_to(min_capacity);
     }
 
-    /// The same bytes, in memory that has no room for more. As Rust's
-    /// `OsString::into_boxed_os_str`.
+    /// Converts to boxed text, without spare capacity.
     ///
     /// ```
     /// use unix_path_typed::UnixString;
@@ -223,7 +219,7 @@ impl Borrow<UnixStr> for UnixString {
     }
 }
 
-/// As its text, as [`Borrow`] asks for.
+/// Hashes the text, as [`Borrow`] requires.
 impl Hash for UnixString {
     #[inline]
     fn hash<H: Hasher>(&self, state: &mut H) {
@@ -251,7 +247,7 @@ impl AsRef<Path> for UnixString {
     }
 }
 
-/// A copy of the text.
+/// Copies the text.
 impl<T: AsRef<UnixStr> + ?Sized> From<&T> for UnixString {
     #[inline]
     fn from(s: &T) -> UnixString {
@@ -259,7 +255,7 @@ impl<T: AsRef<UnixStr> + ?Sized> From<&T> for UnixString {
     }
 }
 
-/// In the same memory.
+/// Converts in the same memory.
 impl From<String> for UnixString {
     #[inline]
     fn from(s: String) -> UnixString {
@@ -267,7 +263,7 @@ impl From<String> for UnixString {
     }
 }
 
-/// In the same memory.
+/// Converts in the same memory.
 impl From<Box<UnixStr>> for UnixString {
     #[inline]
     fn from(boxed: Box<UnixStr>) -> UnixString {
@@ -275,7 +271,7 @@ impl From<Box<UnixStr>> for UnixString {
     }
 }
 
-/// In the same memory if it has its own, else a copy.
+/// Converts in the same memory if the text is owned, and otherwise copies it.
 impl From<Cow<'_, UnixStr>> for UnixString {
     #[inline]
     fn from(cow: Cow<'_, UnixStr>) -> UnixString {
@@ -292,7 +288,7 @@ impl FromStr for UnixString {
     }
 }
 
-/// Adds each text behind the one before.
+/// Appends each text in order.
 impl<S: AsRef<UnixStr>> Extend<S> for UnixString {
     #[inline]
     fn extend<I: IntoIterator<Item = S>>(&mut self, texts: I) {
@@ -300,7 +296,7 @@ impl<S: AsRef<UnixStr>> Extend<S> for UnixString {
     }
 }
 
-/// The texts, one behind the other.
+/// Concatenates the texts.
 impl<S: AsRef<UnixStr>> FromIterator<S> for UnixString {
     #[inline]
     fn from_iter<I: IntoIterator<Item = S>>(texts: I) -> UnixString {

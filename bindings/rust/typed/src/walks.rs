@@ -1,4 +1,4 @@
-//! Walks over the parts of a path, and over the paths above it.
+//! Iterators over the components of a path, and over its ancestors.
 use crate::component::Component;
 use crate::path::Path;
 use crate::unix_str::UnixStr;
@@ -7,7 +7,7 @@ use core::hash::{Hash, Hasher};
 use core::iter::FusedIterator;
 use unix_path_rattle as calls;
 
-/// What is left of a walk, as a list in debug texts.
+/// The rest of a walk, as a list in debug text.
 struct Left<I>(I);
 
 impl<I: Iterator<Item: fmt::Debug> + Clone> fmt::Debug for Left<I> {
@@ -16,10 +16,10 @@ impl<I: Iterator<Item: fmt::Debug> + Clone> fmt::Debug for Left<I> {
     }
 }
 
-/// A walk over the parts of a path, from either end; [`Path::components`] begins one.
+/// An iterator over the components of a path, from either end, returned by [`Path::components`].
 ///
-/// Two walks are compared by the parts that they have left, and a walk is hashed by those. No
-/// method allocates. As Rust's `std::path::Components`.
+/// Two walks are compared, and a walk is hashed, by the components that remain. No method
+/// allocates.
 ///
 /// ```
 /// use unix_path_typed::{Component, Path};
@@ -41,9 +41,8 @@ impl<'a> Components<'a> {
         }
     }
 
-    /// What is left of the path, from the start of the first part left to the end of the last.
-    ///
-    /// As Rust's `Components::as_path`.
+    /// Returns the rest of the path, from the start of the first remaining component to the end of
+    /// the last.
     ///
     /// ```
     /// use unix_path_typed::Path;
@@ -77,7 +76,8 @@ impl DoubleEndedIterator for Components<'_> {
 
 impl FusedIterator for Components<'_> {}
 
-/// Feeds the hasher each part that is left, and then a slash and a NUL, with which no part begins.
+/// Feeds the hasher each remaining component, and then a slash and a NUL, with which the bytes of
+/// no component begin.
 impl Hash for Components<'_> {
     #[inline]
     fn hash<H: Hasher>(&self, state: &mut H) {
@@ -107,9 +107,9 @@ impl AsRef<UnixStr> for Components<'_> {
     }
 }
 
-/// A walk over the parts of a path as text, from either end; [`Path::iter`] begins one.
+/// An iterator over the components of a path as text, from either end, returned by [`Path::iter`].
 ///
-/// No method allocates. As Rust's `std::path::Iter`.
+/// No method allocates.
 ///
 /// ```
 /// use unix_path_typed::Path;
@@ -130,9 +130,8 @@ impl<'a> Iter<'a> {
         }
     }
 
-    /// What is left of the path, from the start of the first part left to the end of the last.
-    ///
-    /// As Rust's `Iter::as_path`.
+    /// Returns the rest of the path, from the start of the first remaining component to the end of
+    /// the last.
     ///
     /// ```
     /// use unix_path_typed::Path;
@@ -147,7 +146,7 @@ impl<'a> Iter<'a> {
     }
 }
 
-/// The part as text.
+/// Returns the component as text.
 #[inline]
 fn text_of(part: calls::Component<'_>) -> &UnixStr {
     UnixStr::of(part.as_bytes())
@@ -191,9 +190,10 @@ impl AsRef<UnixStr> for Iter<'_> {
     }
 }
 
-/// A path, its parent, the parent of that, and so on; [`Path::ancestors`] begins one.
+/// An iterator over a path, its parent, that parent's parent, and so on, returned by
+/// [`Path::ancestors`].
 ///
-/// No method allocates. As Rust's `std::path::Ancestors`.
+/// No method allocates.
 ///
 /// ```
 /// let mut above = unix_path_typed::Path::new("a/b").ancestors();

@@ -1,13 +1,14 @@
-//! Whatever the library answers, these calls don't panic, and what they give lies in its path.
+//! Whatever the library returns, these calls do not panic, and each result is in its path.
 //!
-//! This holds with any library; `answers.c` beside the tests of the crate over slices makes one
-//! that answers at random. What makes or edits a path is tried there: here it may end the program.
+//! This is true of any library; `answers.c` next to the tests of the crate over slices makes one
+//! that returns random results. Calls that make or edit a path are tested there: here they may end
+//! the program.
 use std::hash::{DefaultHasher, Hash};
 use unix_path_typed::{Path, UnixStr};
 
 const ROUNDS: usize = 20_000;
 
-/// Whether the text lies in the path; an empty one lies anywhere.
+/// Returns true if the text is in the path; an empty one is anywhere.
 fn lies_in(text: &UnixStr, path: &Path) -> bool {
     let inner = text.as_bytes().as_ptr_range();
     let outer = path.as_unix_str().as_bytes().as_ptr_range();
@@ -38,7 +39,7 @@ fn walks() {
 }
 
 #[test]
-fn places() {
+fn spans() {
     let path = Path::new("/a//b.c");
     for _ in 0..ROUNDS {
         let rest = path.strip_prefix("/a").ok();

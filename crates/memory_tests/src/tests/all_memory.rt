@@ -1,19 +1,19 @@
-//! What a `Drought` promises: no request is granted while it is held.
+//! What `Exhausted` promises: no allocation succeeds while it exists.
 use super::is_refused;
-use memory_drought::Drought;
+use memory_pressure::Exhausted;
 use std::test::Fail;
 
-// With another allocator than the C library's, such as a memory checker's, this test and all others
-// that take a `Drought` fail.
+// With an allocator other than the C library's, such as a memory checker's, this test and all
+// others that use `Exhausted` fail.
 #[test]
 fn all_memory_is_taken_and_given_back(rt: HostRuntime) -> Result<(), Fail> {
     let alloc = rt.alloc();
-    let mut drought = Drought::begin(alloc)?.ok_or("more memory than can be held")?;
+    let mut exhausted = Exhausted::begin(alloc)?.ok_or("more memory than can be held")?;
     for len in [1, 40, 1000, 2048, 4096] {
         assert!(rt; is_refused(alloc, len), "{len}");
     }
-    assert!(rt; drought.ease() && !is_refused(alloc, 2048) && is_refused(alloc, 4096));
-    drop(drought);
+    assert!(rt; exhausted.release() && !is_refused(alloc, 2048) && is_refused(alloc, 4096));
+    drop(exhausted);
     assert!(rt; !is_refused(alloc, 4096));
     Ok(())
 }

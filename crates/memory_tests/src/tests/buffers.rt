@@ -1,11 +1,11 @@
 //! Buffers of paths while allocations fail.
-use super::{drought, fails, holds, path};
+use super::{exhaust, fails, holds, path};
 use std::alloc::Global;
 use std::test::Fail;
 use unix_path::bytes::{UnixStr, UnixString};
 use unix_path::{ExtensionError, Path, PathBuf};
 
-// Pushes the paths until one is refused, and says whether none was.
+// Pushes the paths until a push fails, and returns true if none fails.
 fn pushes_all(buffer: &mut PathBuf, paths: &[Path<'_>]) -> bool {
     for path in paths {
         if buffer.push(*path).is_err() {
@@ -25,7 +25,7 @@ fn after_reserve_pushes_do_not_allocate(rt: HostRuntime) -> Result<(), Fail> {
     let mut buffer = PathBuf::from_text(alloc, "foo")?;
     let has_room = buffer.reserve(6).is_ok();
     let parts = [path("a"), path("bc"), path("")];
-    let _dry = drought(alloc)?;
+    let _exhausted = exhaust(alloc)?;
     assert!(rt; has_room && pushes_all(&mut buffer, &parts) && holds(&buffer, "foo/a/bc/"));
     Ok(())
 }
@@ -36,12 +36,12 @@ fn after_reserve_an_extend_does_not_allocate(rt: HostRuntime) -> Result<(), Fail
     let mut buffer = PathBuf::from_text(alloc, "foo")?;
     let has_room = buffer.reserve(6).is_ok();
     let parts = [path("a"), path("bc"), path("")];
-    let _dry = drought(alloc)?;
+    let _exhausted = exhaust(alloc)?;
     assert!(rt; has_room && extends(&mut buffer, &parts) && holds(&buffer, "foo/a/bc/"));
     Ok(())
 }
 
-// Whether a request for more bytes than there can be is refused, and leaves `foo`.
+// Returns true if reserving more bytes than a buffer can have fails, and leaves `foo`.
 fn refuses_all_memory(buffer: &mut PathBuf) -> bool {
     buffer.reserve(usize::MAX).is_err()
         && buffer.reserve_exact(usize::MAX).is_err()
@@ -58,7 +58,7 @@ fn a_path_longer_than_memory_is_an_error(rt: HostRuntime) -> Result<(), Fail> {
     Ok(())
 }
 
-// Whether edits turn an empty path into `/foo.a.c` without a change of its capacity.
+// Returns true if edits turn an empty path into `/foo.a.c` without changing its capacity.
 fn fits_edits(buffer: &mut PathBuf) -> bool {
     let capacity = buffer.capacity();
     buffer.push(path("/")).is_ok()
@@ -70,7 +70,7 @@ fn fits_edits(buffer: &mut PathBuf) -> bool {
         && buffer.capacity() == capacity
 }
 
-// Whether calls that need no other capacity leave it as it is.
+// Returns true if calls that need no other capacity leave it unchanged.
 fn keeps_its_capacity(buffer: &mut PathBuf) -> bool {
     let capacity = buffer.capacity();
     buffer.shrink_to(capacity).is_ok()
@@ -84,13 +84,13 @@ fn keeps_its_capacity(buffer: &mut PathBuf) -> bool {
 fn within_the_capacity_edits_do_not_allocate(rt: HostRuntime) -> Result<(), Fail> {
     let alloc = rt.alloc();
     let mut buffer = PathBuf::with_capacity(alloc, 10)?;
-    let _dry = drought(alloc)?;
+    let _exhausted = exhaust(alloc)?;
     let is_kept = keeps_its_capacity(&mut buffer);
     assert!(rt; is_kept && fits_edits(&mut buffer) && keeps_its_capacity(&mut buffer));
     Ok(())
 }
 
-// Whether each call that makes `ab` longer is refused, and leaves it.
+// Returns true if each call that makes `ab` longer fails, and leaves it unchanged.
 fn refuses_pushes(buffer: &mut PathBuf, long: Path<'_>, rooted: Path<'_>) -> bool {
     buffer.push(rooted).is_err()
         && holds(buffer, "ab")
@@ -109,9 +109,9 @@ fn a_failed_push_keeps_the_bytes(rt: HostRuntime) -> Result<(), Fail> {
     let long = [b'x'; 4096];
     let long = Path::new(UnixStr::from_bytes(long.as_slice()));
     let mut buffer = PathBuf::from_text(alloc, "ab")?;
-    let dry = drought(alloc)?;
+    let exhausted = exhaust(alloc)?;
     assert!(rt; refuses_pushes(&mut buffer, long, rooted));
-    drop(dry);
+    drop(exhausted);
     let is_made = buffer.push(rooted).is_ok();
     assert!(rt; is_made && buffer.as_path().as_unix_str() == rooted.as_unix_str());
     Ok(())
@@ -127,14 +127,15 @@ fn a_failed_name_keeps_the_bytes(rt: HostRuntime) -> Result<(), Fail> {
     let long = [b'x'; 4096];
     let name = UnixStr::from_bytes(long.as_slice());
     let mut buffer = PathBuf::from_text(alloc, "a/bb")?;
-    let dry = drought(alloc)?;
+    let exhausted = exhaust(alloc)?;
     assert!(rt; buffer.set_file_name(name).is_err() && holds(&buffer, "a/bb"));
-    drop(dry);
+    drop(exhausted);
     assert!(rt; buffer.set_file_name(name).is_ok() && has_len(&buffer, 4098));
     Ok(())
 }
 
-// Whether each call that makes the extension of `foo/.` longer is refused, and leaves it.
+// Returns true if each call that makes the extension of `foo/.` longer fails, and leaves it
+// unchanged.
 fn refuses_extensions(buffer: &mut PathBuf, long: UnixStr<'_>) -> bool {
     fails(buffer.set_extension(long)) && fails(buffer.add_extension(long)) && holds(buffer, "foo/.")
 }
@@ -145,9 +146,9 @@ fn a_failed_extension_keeps_the_bytes(rt: HostRuntime) -> Result<(), Fail> {
     let long = [b'x'; 4096];
     let name = UnixStr::from_bytes(long.as_slice());
     let mut buffer = PathBuf::from_text(alloc, "foo/.")?;
-    let dry = drought(alloc)?;
+    let exhausted = exhaust(alloc)?;
     assert!(rt; refuses_extensions(&mut buffer, name));
-    drop(dry);
+    drop(exhausted);
     let is_made = matches!(buffer.set_extension(name), Ok(true));
     assert!(rt; is_made && has_len(&buffer, 4100));
     Ok(())
@@ -158,13 +159,13 @@ fn gives_its_parts(buffer: &PathBuf) -> bool {
     parts.next() == Some(UnixStr::new("/")) && parts.next_back() == Some(UnixStr::new("b.c"))
 }
 
-// Whether a path without a file name takes no extension.
+// Returns true if no extension is set on a path without a file name.
 fn takes_no_extension(buffer: &mut PathBuf) -> bool {
     matches!(buffer.set_extension(UnixStr::new("d")), Ok(false))
         && matches!(buffer.add_extension(UnixStr::new("d")), Ok(false))
 }
 
-// Whether `/a/b.c` loses its extension, and then its names.
+// Returns true if `/a/b.c` loses its extension, and then its names.
 fn is_shortened(buffer: &mut PathBuf) -> bool {
     matches!(buffer.set_extension(UnixStr::new("")), Ok(true))
         && matches!(buffer.add_extension(UnixStr::new("")), Ok(true))
@@ -185,7 +186,7 @@ fn promised_edits_do_not_allocate(rt: HostRuntime) -> Result<(), Fail> {
     let alloc = rt.alloc();
     let text = UnixStr::new("/a/b.c").to_unix_string(alloc)?;
     let none: [Path<'_>; 0] = [];
-    let _dry = drought(alloc)?;
+    let _exhausted = exhaust(alloc)?;
     let mut buffer = PathBuf::from(text);
     assert!(rt; extends(&mut buffer, &none) && gives_its_parts(&buffer));
     assert!(rt; is_shortened(&mut buffer) && takes_no_extension(&mut buffer));
@@ -198,7 +199,7 @@ fn promised_edits_do_not_allocate(rt: HostRuntime) -> Result<(), Fail> {
 fn a_path_of_a_string_does_not_allocate(rt: HostRuntime) -> Result<(), Fail> {
     let alloc = rt.alloc();
     let word = String::from_str(alloc, "..")?;
-    let _dry = drought(alloc)?;
+    let _exhausted = exhaust(alloc)?;
     let mut up = PathBuf::from(word);
     let is_refused = takes_no_extension(&mut up);
     let back: UnixString = up.into();
@@ -210,7 +211,8 @@ fn is_separator<T: Drop>(given: Result<T, ExtensionError>) -> bool {
     matches!(given, Err(ExtensionError::Separator))
 }
 
-// Whether an extension is refused for its separator, in place and in copies, and the path is left.
+// Returns true if an extension is rejected for its separator, in place and in copies, and the path
+// is unchanged.
 fn refuses_separator(alloc: Global, buffer: &mut PathBuf, text: &str) -> bool {
     let extension = UnixStr::new("x/y");
     is_separator(buffer.as_path().with_extension(alloc, extension))
@@ -225,7 +227,7 @@ fn separators_are_refused_without_memory(rt: HostRuntime) -> Result<(), Fail> {
     let alloc = rt.alloc();
     let mut named = PathBuf::from_text(alloc, "foo.rs/.")?;
     let mut nameless = PathBuf::from_text(alloc, "..")?;
-    let _dry = drought(alloc)?;
+    let _exhausted = exhaust(alloc)?;
     assert!(rt;
         refuses_separator(alloc, &mut named, "foo.rs/.")
             && refuses_separator(alloc, &mut nameless, "..")
@@ -233,9 +235,9 @@ fn separators_are_refused_without_memory(rt: HostRuntime) -> Result<(), Fail> {
     Ok(())
 }
 
-// Extends an empty path by these three, and marks in `seen` how many of them it holds then, told by
-// its length. False for any other length, or if `extend` gives an error though it holds all, or no
-// error though it doesn't.
+// Extends an empty path by these three paths, and marks in `seen` how many of them it then has,
+// which its length shows. Returns false for any other length, if `extend` returns an error although
+// the path has all three, or if it returns no error although the path does not.
 fn extends_so_far(alloc: Global, paths: &[Path<'_>], seen: &mut [bool; 4]) -> bool {
     let mut buffer = PathBuf::new(alloc);
     let is_made = extends(&mut buffer, paths);
@@ -250,11 +252,11 @@ fn extends_so_far(alloc: Global, paths: &[Path<'_>], seen: &mut [bool; 4]) -> bo
     is_made == (pushed == 3)
 }
 
-// Each allocation of `extend` fails in some round, and what was pushed before it stays.
+// Makes each allocation of `extend` fail in some round. What was pushed before it stays.
 #[test]
 fn a_failed_extend_keeps_the_pushes_before(rt: HostRuntime) -> Result<(), Fail> {
     let alloc = rt.alloc();
-    let mut dry = drought(alloc)?;
+    let mut exhausted = exhaust(alloc)?;
     let long = [b'x'; 4096];
     let long = Path::new(UnixStr::from_bytes(long.as_slice()));
     let items = [path("c"), long, long];
@@ -264,14 +266,14 @@ fn a_failed_extend_keeps_the_pushes_before(rt: HostRuntime) -> Result<(), Fail> 
         if seen[3] {
             break;
         }
-        assert!(rt; dry.ease());
+        assert!(rt; exhausted.release());
     }
-    drop(dry);
+    drop(exhausted);
     assert!(rt; seen == [true; 4]);
     Ok(())
 }
 
-// The second push fails: the third isn't made, and the first stays.
+// Makes the second push fail. The third is not made, and the first stays.
 #[test]
 fn extend_stops_at_the_failed_push(rt: HostRuntime) -> Result<(), Fail> {
     let alloc = rt.alloc();
@@ -280,9 +282,9 @@ fn extend_stops_at_the_failed_push(rt: HostRuntime) -> Result<(), Fail> {
     let items = [path("c"), long, path("d")];
     let mut buffer = PathBuf::from_text(alloc, "ab")?;
     let has_room = buffer.reserve(4).is_ok();
-    let dry = drought(alloc)?;
+    let exhausted = exhaust(alloc)?;
     assert!(rt; has_room && !extends(&mut buffer, &items) && holds(&buffer, "ab/c"));
-    drop(dry);
+    drop(exhausted);
     assert!(rt; extends(&mut buffer, &items) && has_len(&buffer, 4105));
     Ok(())
 }

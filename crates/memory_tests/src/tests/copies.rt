@@ -1,11 +1,11 @@
 //! Copies of paths while allocations fail.
-use super::{drought, fails, is_borrowed, path, succeeds};
+use super::{exhaust, fails, is_borrowed, path, succeeds};
 use std::alloc::{AllocError, Global};
 use std::test::Fail;
 use unix_path::bytes::UnixStr;
 use unix_path::{BoxedPath, CowPath, Path, PathBuf, RcPath};
 
-// Whether each call that copies the path, or makes another, is refused.
+// Returns true if each call that copies the path, or creates another, fails.
 fn refuses_copies(alloc: Global, buffer: &PathBuf) -> bool {
     let view = buffer.as_path();
     let name = UnixStr::new("bar");
@@ -25,7 +25,7 @@ fn refuses_copies(alloc: Global, buffer: &PathBuf) -> bool {
 fn a_failed_copy_gives_no_path(rt: HostRuntime) -> Result<(), Fail> {
     let alloc = rt.alloc();
     let buffer = PathBuf::from_text(alloc, "foo")?;
-    let _dry = drought(alloc)?;
+    let _exhausted = exhaust(alloc)?;
     assert!(rt; refuses_copies(alloc, &buffer));
     Ok(())
 }
@@ -38,13 +38,13 @@ fn is_empty(buffer: &PathBuf) -> bool {
 fn a_new_path_does_not_allocate(rt: HostRuntime) -> Result<(), Fail> {
     let alloc = rt.alloc();
     let none: [Path<'_>; 0] = [];
-    let _dry = drought(alloc)?;
+    let _exhausted = exhaust(alloc)?;
     assert!(rt; succeeds(PathBuf::from_iter(alloc, none.iter().copied())));
     assert!(rt; is_empty(&PathBuf::new(alloc)));
     Ok(())
 }
 
-// Whether each copy of no bytes is made.
+// Returns true if each copy of no bytes succeeds.
 fn copies_no_bytes(alloc: Global) -> bool {
     let empty = path("");
     let none = UnixStr::new("");
@@ -68,11 +68,11 @@ fn is_boxed_and_copied(alloc: Global) -> Result<bool, AllocError> {
     Ok(succeeds(boxed.clone()))
 }
 
-// A copy of no bytes allocates nothing, but for the count of a shared path's owners.
+// Makes copies of no bytes, which do not allocate, except for the count of a shared path's owners.
 #[test]
 fn copies_of_no_bytes_do_not_allocate(rt: HostRuntime) -> Result<(), Fail> {
     let alloc = rt.alloc();
-    let _dry = drought(alloc)?;
+    let _exhausted = exhaust(alloc)?;
     assert!(rt; copies_no_bytes(alloc) && is_copied(&PathBuf::new(alloc)));
     assert!(rt; is_boxed_and_copied(alloc)? && fails(RcPath::from_path(alloc, path(""))));
     Ok(())
@@ -81,7 +81,7 @@ fn copies_of_no_bytes_do_not_allocate(rt: HostRuntime) -> Result<(), Fail> {
 #[test]
 fn owned_paths_of_no_bytes_do_not_allocate(rt: HostRuntime) -> Result<(), Fail> {
     let alloc = rt.alloc();
-    let _dry = drought(alloc)?;
+    let _exhausted = exhaust(alloc)?;
     let owned = CowPath::from(PathBuf::new(alloc));
     let is_copied = succeeds(owned.clone());
     let is_boxed = succeeds(BoxedPath::from_cow(alloc, owned));
@@ -92,7 +92,7 @@ fn owned_paths_of_no_bytes_do_not_allocate(rt: HostRuntime) -> Result<(), Fail> 
 #[test]
 fn a_text_is_borrowed_without_memory(rt: HostRuntime) -> Result<(), Fail> {
     let alloc = rt.alloc();
-    let _dry = drought(alloc)?;
+    let _exhausted = exhaust(alloc)?;
     assert!(rt; is_borrowed(path("ab").to_string_lossy(alloc), "ab"));
     Ok(())
 }

@@ -1,12 +1,12 @@
 //! Errors of JSON while allocations fail.
-use super::drought;
+use super::exhaust;
 use serde_json::Value;
 use std::alloc::Global;
 use std::test::Fail;
 use unix_path::Path;
 use unix_path::json::{JsonError, from_json, to_json};
 
-// Whether bytes that aren't text are refused before anything is requested.
+// Returns true if bytes that are not valid UTF-8 are rejected before anything is allocated.
 fn is_not_text(alloc: Global) -> bool {
     matches!(
         to_json(alloc, Path::from_bytes(b"f\xff")),
@@ -29,7 +29,7 @@ fn errors_of_json_without_memory(rt: HostRuntime) -> Result<(), Fail> {
     let alloc = rt.alloc();
     let number = Value::from_str(alloc, "7")?;
     let text = Value::from_str(alloc, "\"a\"")?;
-    let _dry = drought(alloc)?;
+    let _exhausted = exhaust(alloc)?;
     assert!(rt; is_not_text(alloc) && is_no_string(alloc, &number) && wants_memory(alloc, &text));
     Ok(())
 }

@@ -1,6 +1,6 @@
-//! One call a test, with ample memory here. `tools/check_requests` runs the tests with request
-//! number 1, 2, 3 and so on refused: then a test fails with `refused` if its call was refused and
-//! left what it should.
+//! One call per test, with ample memory here. `tools/check_requests` runs the tests while
+//! allocation number 1, 2, 3 and so on fails. A test then fails with `refused` if its call failed
+//! and left what it should.
 mod copies;
 mod edits;
 mod kept;
@@ -18,7 +18,7 @@ use std::test::Fail;
 use unix_bytes::bytes::{UnixStr, UnixString};
 use unix_path::PathBuf;
 
-// The path, with a capacity of 100 bytes.
+// Returns a buffer of this path with a capacity of at least 100 bytes.
 fn buffer_with_room(alloc: Global, text: &str) -> Result<PathBuf, AllocError> {
     let mut buffer = PathBuf::with_capacity(alloc, 100)?;
     buffer.push(path(text))?;
@@ -29,8 +29,8 @@ fn has_bytes(bytes: &UnixString, text: &str) -> bool {
     bytes.as_unix_str() == UnixStr::new(text)
 }
 
-// The result of a test: `refused` if its call was refused, and `wrong` if the call gave or left
-// anything else than it should.
+// Returns the result of a test: the error `refused` if its call failed, and the error `wrong` if
+// the call returned or left anything else than it should.
 fn report(is_made: bool, is_right: bool) -> Result<(), Fail> {
     if !is_right {
         return Err(Fail::new("wrong"));
@@ -41,7 +41,7 @@ fn report(is_made: bool, is_right: bool) -> Result<(), Fail> {
     Ok(())
 }
 
-// The result of a test whose call gives a path.
+// Returns the result of a test whose call returns a path.
 fn report_path(given: Result<PathBuf, AllocError>, text: &str) -> Result<(), Fail> {
     match given {
         Ok(buffer) => report(true, holds(&buffer, text)),

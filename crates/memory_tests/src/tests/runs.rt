@@ -1,5 +1,5 @@
-//! Edits, walks and spellings while allocations fail.
-use super::{drought, fails, holds, path};
+//! Edits, walks and canonical forms while allocations fail.
+use super::{exhaust, fails, holds, path};
 use path_runs::canonical::{canonical, collected};
 use path_runs::edits::{Edit, apply, rejoin};
 use path_runs::walk::{Turn, walk};
@@ -8,7 +8,7 @@ use std::test::Fail;
 use unix_path::bytes::UnixStr;
 use unix_path::{Path, PathBuf};
 
-// How many edits were made before one failed, if one did.
+// Returns the number of edits made before one failed; `None` if none failed.
 fn edits_before_failure(alloc: Global, buffer: &mut PathBuf, edits: &[Edit<'_>]) -> Option<usize> {
     match apply(alloc, buffer, edits) {
         Ok(_) => None,
@@ -16,12 +16,12 @@ fn edits_before_failure(alloc: Global, buffer: &mut PathBuf, edits: &[Edit<'_>])
     }
 }
 
-// Whether so many of these edits of `ab` are made before one needs more memory than for the
-// answers, and leave `ab/c`.
+// Returns true if the first `done` edits of `ab` leave `ab/c` and the next one fails, with memory
+// only for the answers.
 fn leave_done(alloc: Global, edits: &[Edit<'_>], done: usize) -> Result<bool, Fail> {
     let mut buffer = PathBuf::from_text(alloc, "ab")?;
-    let mut dry = drought(alloc)?;
-    dry.ease();
+    let mut exhausted = exhaust(alloc)?;
+    exhausted.release();
     let made = edits_before_failure(alloc, &mut buffer, edits);
     Ok(made == Some(done) && holds(&buffer, "ab/c"))
 }
@@ -48,15 +48,15 @@ fn a_failed_edit_leaves_those_before_it(rt: HostRuntime) -> Result<(), Fail> {
 fn answers_that_fail_leave_the_path(rt: HostRuntime) -> Result<(), Fail> {
     let alloc = rt.alloc();
     let mut buffer = PathBuf::from_text(alloc, "a/b")?;
-    let _dry = drought(alloc)?;
+    let _exhausted = exhaust(alloc)?;
     let made = edits_before_failure(alloc, &mut buffer, [Edit::Pop].as_slice());
     assert!(rt; made == Some(0) && holds(&buffer, "a/b"));
     assert!(rt; edits_before_failure(alloc, &mut buffer, [].as_slice()).is_none());
     Ok(())
 }
 
-// Whether a walk, a spelling and a `rejoin` are refused, and a `rejoin` of a path that doesn't
-// start with the base gives `None` without memory.
+// Returns true if a walk, a canonical form and a `rejoin` fail, and if `rejoin` returns `None`,
+// without allocating, for a path that doesn't start with the base.
 fn refuses_runs(alloc: Global) -> bool {
     fails(walk(alloc, path("/a"), [Turn::Back].as_slice()))
         && fails(canonical(alloc, path("/a")))
@@ -68,7 +68,7 @@ fn refuses_runs(alloc: Global) -> bool {
 #[test]
 fn walks_and_spellings_fail_without_memory(rt: HostRuntime) -> Result<(), Fail> {
     let alloc = rt.alloc();
-    let _dry = drought(alloc)?;
+    let _exhausted = exhaust(alloc)?;
     assert!(rt; refuses_runs(alloc));
     Ok(())
 }

@@ -1,10 +1,11 @@
 //! Byte strings while allocations fail.
-use super::{drought, fails, is_borrowed, succeeds};
+use super::{exhaust, fails, is_borrowed, succeeds};
 use std::alloc::{AllocError, Global};
 use std::test::Fail;
 use unix_bytes::bytes::{UnixStr, UnixString};
 
-// Whether pushes to `foo`, and calls that ask for no more room, are made within its room.
+// Returns true if pushes to `foo`, and calls that need no more capacity, succeed within its
+// capacity.
 fn fits_pushes(text: &mut UnixString) -> bool {
     let capacity = text.capacity();
     text.push(UnixStr::new("/a")).is_ok()
@@ -22,12 +23,12 @@ fn within_the_room_a_push_does_not_allocate(rt: HostRuntime) -> Result<(), Fail>
     let alloc = rt.alloc();
     let mut text = UnixStr::new("foo").to_unix_string(alloc)?;
     let has_room = text.reserve(6).is_ok();
-    let _dry = drought(alloc)?;
+    let _exhausted = exhaust(alloc)?;
     assert!(rt; has_room && fits_pushes(&mut text));
     Ok(())
 }
 
-// Whether each call that makes `foo` longer is refused, and leaves it.
+// Returns true if each call that makes `foo` longer fails, and leaves it unchanged.
 fn refuses_growth(text: &mut UnixString, long: UnixStr<'_>) -> bool {
     let foo = UnixStr::new("foo");
     text.push(long).is_err()
@@ -51,14 +52,14 @@ fn a_failed_push_keeps_the_bytes(rt: HostRuntime) -> Result<(), Fail> {
     let long = [b'x'; 4096];
     let long = UnixStr::from_bytes(long.as_slice());
     let mut text = UnixStr::new("foo").to_unix_string(alloc)?;
-    let dry = drought(alloc)?;
+    let exhausted = exhaust(alloc)?;
     assert!(rt; refuses_growth(&mut text, long) && refuses_copies(alloc, &text, long));
-    drop(dry);
+    drop(exhausted);
     assert!(rt; text.push(long).is_ok() && text.as_unix_str().len() == 4099);
     Ok(())
 }
 
-// Whether a request for more bytes than there can be is refused, and leaves `foo`.
+// Returns true if reserving more bytes than a string can have fails, and leaves `foo`.
 fn refuses_all_memory(text: &mut UnixString) -> bool {
     text.reserve(usize::MAX).is_err()
         && text.reserve_exact(usize::MAX).is_err()
@@ -80,7 +81,7 @@ fn makes_empty_strings(alloc: Global) -> bool {
     is_empty && succeeds(UnixString::with_capacity(alloc, 0))
 }
 
-// Whether a string of the bytes 1 and 2 has them and gives them back.
+// Returns true if a string of the bytes 1 and 2 has them and returns them.
 fn gives_back(bytes: Vec<u8>) -> bool {
     let text = UnixString::from(bytes);
     let has_bytes = text.as_unix_str().as_bytes() == [1u8, 2].as_slice();
@@ -93,7 +94,7 @@ fn becomes(word: String, text: &UnixString) -> bool {
     made == *text
 }
 
-// Whether `foo` is cut to its first byte, and then to none.
+// Returns true if `foo` is cut to its first byte, and then to no bytes.
 fn is_cut(text: &mut UnixString) -> bool {
     text.truncate(1);
     let is_first = text.as_unix_str() == UnixStr::new("f");
@@ -108,7 +109,7 @@ fn promised_calls_of_strings_do_not_allocate(rt: HostRuntime) -> Result<(), Fail
     let bytes = [1u8, 2].to_vec(alloc)?;
     let word = String::from_str(alloc, "foo")?;
     let mut text = foo.to_unix_string(alloc)?;
-    let _dry = drought(alloc)?;
+    let _exhausted = exhaust(alloc)?;
     let is_given_back = gives_back(bytes);
     let is_word = becomes(word, &text);
     assert!(rt; is_given_back && is_word && is_cut(&mut text));
@@ -116,7 +117,8 @@ fn promised_calls_of_strings_do_not_allocate(rt: HostRuntime) -> Result<(), Fail
     Ok(())
 }
 
-// Whether an empty string with a capacity of 10 grows and shrinks as it is told, to `foobar`.
+// Returns true if an empty string with a capacity of 10 grows and shrinks as requested, to
+// `foobar`.
 fn grows_and_shrinks(text: &mut UnixString) -> bool {
     text.capacity() >= 10
         && text.push(UnixStr::new("foo")).is_ok()
@@ -132,7 +134,7 @@ fn grows_and_shrinks(text: &mut UnixString) -> bool {
         && text.as_unix_str() == UnixStr::new("foobar")
 }
 
-// Whether a copy of `foobar` is equal to it, and less once that is longer.
+// Returns true if a copy of `foobar` is equal to it, and less once the original is longer.
 fn is_copied(alloc: Global, text: &mut UnixString) -> Result<bool, AllocError> {
     let copy = text.clone()?;
     let is_equal = copy == *text;

@@ -1,4 +1,4 @@
-//! Calls that promise to succeed without memory, while every request is refused.
+//! Calls that promise to succeed without memory, while every allocation fails.
 mod kept;
 mod keys;
 mod owned;
@@ -13,7 +13,7 @@ use std::hash::{DefaultHasher, Hash, Hasher};
 use unix_path::Path;
 use unix_path::bytes::UnixStr;
 
-// A writer that keeps only how many bytes were written.
+// A writer that keeps only the number of bytes written.
 #[derive(Drop)]
 struct Counter {
     len: usize,
@@ -26,19 +26,19 @@ impl Write for Counter {
     }
 }
 
-// Whether the debug form has `len` bytes.
+// Returns true if the debug form has `len` bytes.
 fn debug_has<T: fmt::Debug>(value: &T, len: usize) -> bool {
     let mut counter = Counter { len: 0 };
     write!(counter, "{value:?}").is_ok() && counter.len == len
 }
 
-// Whether the printed form has `len` bytes.
+// Returns true if the printed form has `len` bytes.
 fn display_has<T: fmt::Display>(value: &T, len: usize) -> bool {
     let mut counter = Counter { len: 0 };
     write!(counter, "{value}").is_ok() && counter.len == len
 }
 
-// Whether both values feed a hasher the same.
+// Returns true if both values feed the same input to a hasher.
 fn hash_same<A: Hash, B: Hash>(a: &A, b: &B) -> bool {
     let mut first = DefaultHasher::new();
     let mut second = DefaultHasher::new();

@@ -1,5 +1,3 @@
 -- Bytes of keys and paths, many at once.
 pub mod PutLemmas
-pub mod DecodedLaneLemmas
-pub mod SameLaneLemmas
-pub mod CodedLaneLemmas
+pub mod RecodedLaneLemmas

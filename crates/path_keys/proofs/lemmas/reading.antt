@@ -1,6 +1,6 @@
 -- Keys that are read code by code.
 pub mod FitLemmas
--- Of this crate alone.
+-- Used only in this crate.
 pub mod NameLemmas
 pub mod TextLemmas
 pub mod ReadLemmas

@@ -1,5 +1,5 @@
--- Paths that are written run by run, of a key.
-pub mod UpRunLemmas
+-- Keys read run by run, and their paths written run by run.
+pub mod ParentRunLemmas
 pub mod StartLemmas
 pub mod RunReadLemmas
 mod SpellLemmas

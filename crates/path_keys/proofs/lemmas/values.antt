@@ -7,7 +7,7 @@ pub mod RangeLemmas
 pub mod LastLemmas
 pub mod LoweredLemmas
 pub mod BeginLemmas
--- Of this crate alone.
+-- Used only in this crate.
 mod ByteLemmas
 pub mod JoinLemmas
 pub mod MarkLemmas

@@ -1,7 +1,5 @@
--- Keys that are written run by run, of a path.
+-- Keys written run by run.
 pub mod StretchLemmas
 pub mod LeadLemmas
 pub mod RunLemmas
-pub mod UpLemmas
 pub mod WrittenLemmas
-pub mod NamesLemmas

@@ -1,37 +1,38 @@
 //! The range of the keys of all paths under a base.
 ghost use Rattle.std.specs.Prelude.{◌≡◌, [], IfOk, IsOk, option_map};
 ghost use Rattle.path_keys.specs.Held.{key_bytes};
-ghost use Rattle.path_keys.specs.Ranges.{end_of};
+ghost use Rattle.path_keys.specs.Ranges.{end_of, IsRangeEnd};
 
 use crate::key::PathKey;
 use std::alloc::AllocError;
 
-/// The keys of all paths that start with a base: the bounds of a store's scan.
-///
-/// Not in Rust's std.
+/// The range of the byte strings that begin with a key: the bounds for a scan of a store.
 ///
 /// For the base `a` they are 61 00 and 61 01.
 #[derive(Debug, Drop)]
 pub struct KeyRange<'a> {
-    /// The base's key, with which the range begins.
+    /// The start of the range, which is in the range: the key of the base.
     pub first: &'a [u8],
-    /// The least bytes that lie behind all keys of the range; `None` if no bytes do.
+    /// The end of the range, which is not in the range. `None` if the range has no end.
     pub end: Option<Vec<u8>>,
 }
 
 impl PathKey {
-    /// The range of the keys of all paths that start with the path of this key.
+    /// Returns the range of the keys of all paths that start with the path of this key.
     ///
-    /// It begins with this key, and ends before this key with its last byte raised by one; that of
-    /// the empty path has all keys, and no end. Allocates once, as many bytes as the key has, or
-    /// not at all for the empty path; fails if the allocation fails. Not in Rust's std.
+    /// Any byte string, also one that is not a key, is in the range if and only if it begins with
+    /// this key. The range of the empty path contains all byte strings and has no end; otherwise
+    /// the end is this key with its last byte raised by one. Allocates once, the length of the key,
+    /// or not at all for the empty path. Fails if the allocation fails.
     ///
-    /// For the key of `a` it is from 61 00 up to 61 01, and for that of `/..` from 00 01 00 03 up
-    /// to 00 01 00 04.
+    /// For the key of `a` the range is from 61 00 up to 61 01. For the key of `/..` it is from
+    /// 00 01 00 03 up to 00 01 00 04.
     pub fn range_under(&self) -> Result<KeyRange<'_>, AllocError>
         ensures first { IfOk result (λ range. range.first.now ≡ key_bytes self.now) }
         ensures end { IfOk result (λ range. option_map (λ end. end.items) range.end
             ≡ end_of (key_bytes self.now)) }
+        ensures covers { IfOk result (λ range.
+            IsRangeEnd (key_bytes self.now) (option_map (λ end. end.items) range.end)) }
         ensures succeeds { key_bytes self.now ≡ [] → IsOk result }
     {
         let first = self.as_bytes();

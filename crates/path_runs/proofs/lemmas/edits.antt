@@ -1,7 +1,7 @@
--- Edits, what they know of a path, and what equal paths answer alike.
+-- Edits, what they cache of a path, and queries with the same result for equal paths.
 pub mod EditListLemmas
 pub mod CongruenceLemmas
 pub mod ExtensionLemmas
-pub mod AlikeLemmas
-pub mod KnownLemmas
+pub mod EqualPathLemmas
+pub mod ScanCacheLemmas
 pub mod EditStepLemmas

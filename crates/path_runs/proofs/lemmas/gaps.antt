@@ -1,7 +1,7 @@
--- The gaps, which the canonical spelling leaves out.
-pub mod KeptLemmas
-pub mod StretchLemmas
--- Of this crate alone.
+-- The gaps, which the canonical form leaves out.
+pub mod FirstGapLemmas
+pub mod GapSpellingLemmas
+-- Used only in this crate.
 pub mod GaplessLemmas
 pub mod GapLaneLemmas
-pub mod CopyLemmas
+pub mod GaplessRunLemmas

@@ -1,9 +1,9 @@
--- Joins, their values, and what is taken off again.
+-- Joins, their components, and what removing a base or a last component leaves.
 pub mod AssociativeLemmas
 pub mod ValueLemmas
 pub mod LeadLemmas
 pub mod ExtendLemmas
 pub mod StripLemmas
 pub mod SiblingLemmas
--- Of this crate alone.
-pub mod BehindLemmas
+-- Used only in this crate.
+pub mod AppendedLemmas

@@ -1,4 +1,4 @@
--- Lists of any items, and bytes put in a buffer.
+-- Lists of any items, and bytes that are written to a buffer.
 pub mod AllLemmas
 pub mod OverlayLemmas
 pub mod WritingLemmas

@@ -1,4 +1,4 @@
--- Names, cut at their last dots.
+-- Names, split at their last dots.
 pub mod DotLemmas
 pub mod ExtensionCutLemmas
 pub mod StemNameLemmas

@@ -1,7 +1,7 @@
--- The order of value lists, tables by them, and what they feed a hasher.
+-- The order of lists of components, tables keyed by them, and the bytes that they feed a hasher.
 pub mod OrderLemmas
 pub mod IntervalLemmas
-mod FeedLemmas
+mod HashInputLemmas
 pub mod HashInjectiveLemmas
 pub mod ParentBeforeLemmas
 pub mod AncestorPrefixLemmas

@@ -1,4 +1,4 @@
--- The values of a path by its pieces, and their canonical spelling.
+-- The components of a path from its pieces, and their canonical form.
 pub mod PieceValueLemmas
 pub mod SpellLemmas
 pub mod LeanLemmas
@@ -6,5 +6,5 @@ pub mod ReadBackLemmas
 pub mod OwnSpellingLemmas
 pub mod UnslashedLemmas
 pub mod JoinAllLemmas
--- Of this crate alone.
+-- Used only in this crate.
 pub mod FitLemmas

@@ -1,4 +1,4 @@
 -- Walks by turns.
 pub mod WalkLemmas
--- Of this crate alone.
+-- Used only in this crate.
 pub mod WalkStepLemmas

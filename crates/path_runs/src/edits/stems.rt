@@ -1,39 +1,40 @@
-//! Places of a path where stems end, so that a long name without a dot isn't searched for one
-//! again.
+//! Indices of a path at which stems end, so that a long name without an extension isn't searched
+//! for a dot again.
 ghost use Rattle.std.specs.Prelude.{◌≡◌, ℕ, ◌<◌, ◌≤◌, List, length, take, IsTrue};
-ghost use Rattle.path_runs.specs.Known.{IsStack, KnowsStem, KnowsStems};
+ghost use Rattle.path_runs.specs.ScanCache.{IsStack, CachesStem, CachesStems};
 
-// Places up to which a path ends in a stem: 0, and those up to `last`, which rise.
+// Lengths of prefixes of the path, in ascending order: 0, and at `offsets[1..=last]` those of
+// prefixes that end in a name without an extension.
 #[derive(Drop)]
 pub(super) struct Stems {
-    places: [usize; 32],
+    offsets: [usize; 32],
     last: usize,
 }
 
 impl Stems {
-    // No place but 0.
+    // Returns the list with no index except 0.
     #[inline]
     pub(super) fn new() -> Stems
         ensures stack { IsStack result }
-        ensures known { (s : List ℕ) → KnowsStems s result }
+        ensures cache { (s : List ℕ) → CachesStems s result }
     {
         Stems {
-            places: [0; 32],
+            offsets: [0; 32],
             last: 0,
         }
     }
 
-    // Drops all places but 0.
+    // Drops all indices except 0.
     #[inline]
     pub(super) fn clear(&mut self)
         requires { IsStack self.old }
         ensures stack { IsStack self.new }
-        ensures known { (s : List ℕ) → KnowsStems s self.new }
+        ensures cache { (s : List ℕ) → CachesStems s self.new }
     {
         self.last = 0;
     }
 
-    // Whether there is no place but 0.
+    // Returns true if there is no index except 0.
     #[inline]
     pub(super) fn is_empty(&self) -> bool
         ensures { IsTrue result → self.now.last ≡ 0 }
@@ -41,59 +42,61 @@ impl Stems {
         self.last == 0
     }
 
-    // The last place.
+    // Returns the last index.
     #[inline]
-    pub(super) fn last_place(&self) -> usize
+    pub(super) fn last_offset(&self) -> usize
         requires { IsStack self.now }
-        ensures { (s : List ℕ) → KnowsStems s self.now → KnowsStem s result }
+        ensures { (s : List ℕ) → CachesStems s self.now → CachesStem s result }
     {
-        self.places[self.last]
+        self.offsets[self.last]
     }
 
-    // Drops the places behind `kept`.
+    // Drops the indices greater than `unchanged`.
     #[inline]
-    pub(super) fn cut(&mut self, kept: usize)
+    pub(super) fn truncate(&mut self, unchanged: usize)
         requires { IsStack self.old }
         ensures stack { IsStack self.new }
-        ensures known { (s t : List ℕ) → KnowsStems s self.old → kept ≤ length t
-            → take kept s ≡ take kept t → KnowsStems t self.new }
+        ensures cache { (s t : List ℕ) → CachesStems s self.old → unchanged ≤ length t
+            → take unchanged s ≡ take unchanged t → CachesStems t self.new }
     {
-        while kept < self.places[self.last] {
+        while unchanged < self.offsets[self.last] {
             self.last -= 1;
         }
     }
 
-    // Whether the last place stands less than four times as far behind the one before it as this
-    // place would stand behind it.
+    // Returns true if the distance between the last two indices is less than four times the
+    // distance from the last index to `offset`.
     #[inline]
-    fn is_near(&self, place: usize) -> bool
+    fn last_gap_is_small(&self, offset: usize) -> bool
         requires stack { IsStack self.now }
-        requires some { 0 < self.now.last }
+        requires non_empty { 0 < self.now.last }
     {
-        let last = self.places[self.last];
-        let before = self.places[self.last - 1];
-        last.saturating_sub(before) / 4 < place.saturating_sub(last)
+        let last = self.offsets[self.last];
+        let before = self.offsets[self.last - 1];
+        last.saturating_sub(before) / 4 < offset.saturating_sub(last)
     }
 
-    // Keeps the place, too, if it stands far enough behind the last one. Drops those before it that
-    // don't stand four times as far behind theirs: to come back to one of these, as many bytes have
-    // to go as a fourth of what is read again then.
-    pub(super) fn add(&mut self, place: usize)
+    // Records `offset` if it is at least 64 bytes after the last index. First drops the last index
+    // while the distance to the index before it is less than four times the distance to `offset`.
+    // The bytes before a dropped index are read again only after edits have removed more than a
+    // quarter as many bytes. Each distance between neighbours is then at least four times the next
+    // distance, so the list never becomes full.
+    pub(super) fn add(&mut self, offset: usize)
         requires { IsStack self.old }
         ensures stack { IsStack self.new }
-        ensures known { (s : List ℕ) → KnowsStems s self.old → KnowsStem s place
-            → KnowsStems s self.new }
+        ensures cache { (s : List ℕ) → CachesStems s self.old → CachesStem s offset
+            → CachesStems s self.new }
     {
-        let last = self.places[self.last];
-        if place < last || place - last < 64 {
+        let last = self.offsets[self.last];
+        if offset < last || offset - last < 64 {
             return;
         }
-        while self.last > 0 && self.is_near(place) {
+        while self.last > 0 && self.last_gap_is_small(offset) {
             self.last -= 1;
         }
         if self.last < 31 {
             self.last += 1;
-            self.places[self.last] = place;
+            self.offsets[self.last] = offset;
         }
     }
 }

@@ -1,14 +1,13 @@
-//! Laws of what a path feeds a hasher.
-ghost use Rattle.path_runs.specs.HashLaws.{InputsTell, InputsBegin};
+//! Laws of the bytes that a path feeds a hasher.
+ghost use Rattle.path_runs.specs.HashLaws.{InputsInjective, InputsReflectPrefixes};
 
 /// Paths that feed a hasher the same bytes are equal.
 ///
-/// That holds however the bytes are cut into writes. The bytes that one path feeds are a prefix of
-/// another's only if its values are a prefix of the other's. Calling it does nothing. Not in Rust's
-/// std.
+/// This holds however the bytes are split into writes. The bytes that one path feeds are a prefix
+/// of another's only if its components are a prefix of the other's.
 ///
 /// `ab` and `a/b` feed different bytes, and so do `/a`, `./a` and `a`.
-pub fn hash_inputs_tell()
-    ensures equal { InputsTell }
-    ensures begins { InputsBegin }
+pub fn hash_input_injective()
+    ensures equal { InputsInjective }
+    ensures begins { InputsReflectPrefixes }
 {}

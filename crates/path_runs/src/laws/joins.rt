@@ -1,31 +1,30 @@
 //! Laws of joins.
-ghost use Rattle.path_runs.specs.JoinLaws.{JoinsAssociate, EmptyJoins, JoinsEmpty};
+ghost use Rattle.path_runs.specs.JoinLaws.{JoinsAssociate, EmptyJoinIsPath, JoinEmptyKeepsValues};
 ghost use Rattle.path_runs.specs.JoinLaws.{JoinAddsValues, SlashAddsValues, StripThenJoin};
 ghost use Rattle.path_runs.specs.JoinLaws.{values_added};
 ghost use Rattle.std.specs.Prelude.{◌≡◌, ◌++◌, ℕ, List, false};
 ghost use Rattle.unix_path.specs.Joins.{join_of};
-ghost use Rattle.unix_path.specs.Prefixes.{Begins};
+ghost use Rattle.unix_path.specs.Prefixes.{IsPrefixOf};
 ghost use Rattle.unix_path.specs.Parts.{is_rooted, values};
 
 /// Joins are associative, byte for byte, and the empty path joined with any path is that path.
 ///
-/// A path joined with the empty one keeps its values, but may end in one slash more. Calling it
-/// does nothing. Not in Rust's std.
+/// A path joined with the empty path keeps its components, but may get a trailing slash.
 ///
 /// `a` joined with `b` and then with `c/` is `a/b/c/`, and so is `a` joined with `b/c/`.
 pub fn join_associative()
     ensures bytes { JoinsAssociate }
-    ensures left { EmptyJoins }
-    ensures right { JoinsEmpty }
+    ensures empty_first { EmptyJoinIsPath }
+    ensures empty_second { JoinEmptyKeepsValues }
 {}
 
-/// A join has the values of the first path, and then those of the second.
+/// A join has the components of the first path, followed by the components of the second.
 ///
-/// That holds if the first isn't empty and the second is rootless; a leading dot of the second is
-/// lost. Bytes that are appended behind a slash add their values too, without a leading root or
-/// dot. Calling it does nothing. Not in Rust's std.
+/// This holds if the first path isn't empty and the second is rootless. A leading `.` of the second
+/// is lost. Bytes appended after a slash also add their components, without a leading root or `.`.
 ///
-/// `/a` joined with `./b` has the values of `/a` and then `b`, and so has `/a/` followed by `/b`.
+/// `/a` joined with `./b` has the components of `/a` and then `b`, and so has `/a/` followed by
+/// `/b`.
 pub fn join_values()
     ensures join { JoinAddsValues }
     ensures slash { SlashAddsValues }
@@ -33,23 +32,22 @@ pub fn join_values()
 
 /// A join with a rootless path starts with the path that it was joined to.
 ///
-/// That holds for a join to the empty path too. Behind the first path's values come those of the
-/// second, without a leading dot unless the first is empty. Calling it does nothing. Not in Rust's
-/// std.
+/// This holds even if the first path is empty. The components of the second path follow those of
+/// the first, without a leading `.` unless the first path is empty.
 ///
 /// `/srv` joined with `./a` is `/srv/./a`, which starts with `/srv`.
 pub fn join_starts_with()
     ensures begins { (a b : List ℕ) → is_rooted b ≡ false
-        → Begins (values a) (values (join_of a b)) }
+        → IsPrefixOf (values a) (values (join_of a b)) }
     ensures values { (a b : List ℕ) → is_rooted b ≡ false
         → values (join_of a b) ≡ values a ++ values_added a b }
 {}
 
 /// A path without its base, joined to that base, is equal to the path.
 ///
-/// The spelling may change; the values don't. Calling it does nothing. Not in Rust's std.
+/// The bytes may change. The components don't.
 ///
-/// `/a//b` stripped of `/a` is `b`, and `/a` joined with `b` has the values of `/a//b`.
+/// `/a//b` stripped of `/a` is `b`, and `/a` joined with `b` has the components of `/a//b`.
 pub fn strip_then_join()
     ensures { StripThenJoin }
 {}

@@ -1,39 +1,40 @@
-//! Laws of parts and of rests.
+//! Laws of a path's components, and of what remains of a path after some are taken.
 ghost use Rattle.std.specs.Prelude.{◌≡◌, ◌≤◌, ℕ, List, [], length, map};
 ghost use Rattle.std.specs.List.{sum_by};
 ghost use Rattle.unix_path.specs.Parts.{values, value_bytes};
 ghost use Rattle.path_runs.specs.PartLaws.{NoPartNoByte, RestHasValues, RestOfRest};
 
-/// A path has no part exactly if it has no byte.
+/// A path has no component if and only if it has no byte.
 ///
-/// Each path of a byte or more has a part: its root, a `.`, a `..` or a name. Calling it does
-/// nothing. Not in Rust's std.
+/// Every path that isn't empty has a component: its root, a `.`, a `..` or a name.
 ///
-/// The empty path has no part, `/` has the root, and `.` has `.`.
+/// The empty path has no component, `/` has the root, and `.` has `.`.
 pub fn no_part_no_byte()
-    ensures exactly { NoPartNoByte }
+    ensures iff { NoPartNoByte }
     ensures empty { values [] ≡ [] }
 {}
 
-/// A path has no more parts than bytes, and the parts together have no more bytes than the path.
+/// A path has at most as many components as bytes, and the components together have at most as many
+/// bytes as the path.
 ///
-/// So a count of the parts, or a sum of their lengths, fits an integer that the path's length fits.
-/// Calling it does nothing. Not in Rust's std.
+/// A count of the components, or a sum of their lengths, therefore fits any integer type that the
+/// path's length fits.
 ///
-/// `/a//bc` has three parts of 1, 1 and 2 bytes, and 6 bytes.
+/// `/a//bc` has three components of 1, 1 and 2 bytes, and 6 bytes.
 pub fn parts_fit()
     ensures count { (s : List ℕ) → length (values s) ≤ length s }
     ensures bytes { (s : List ℕ) → sum_by (λ v. length (value_bytes v)) (values s) ≤ length s }
     ensures items { (s : List ℕ) → sum_by length (map value_bytes (values s)) ≤ length s }
 {}
 
-/// The rest of a path without some parts in front and some behind has the values that are left.
+/// The rest of a path, without some leading and trailing components, has the remaining components.
 ///
-/// The rest of a rest is the rest of the path without all of these parts, byte for byte. Calling it
-/// does nothing. Not in Rust's std.
+/// Taking more components from the rest leaves the same bytes as taking all of them from the path
+/// at once.
 ///
-/// `/a/./b//c` without one part in front and one behind is `a/./b`, with the values `a` and `b`.
-/// `a/./b` without one in front is `b`, and so is `/a/./b//c` without two in front and one behind.
+/// `/a/./b//c` without one leading and one trailing component is `a/./b`, with the components `a`
+/// and `b`. `a/./b` without one leading component is `b`, and so is `/a/./b//c` without two leading
+/// components and one trailing.
 pub fn rest_reads_again()
     ensures values { RestHasValues }
     ensures rest { RestOfRest }

@@ -1,4 +1,4 @@
-//! Laws of what is asked of a path.
+//! Laws of queries of a path.
 ghost use Rattle.std.specs.Prelude.{List, map, option_map, ℕ};
 ghost use Rattle.unix_path.specs.Edits.{with_extension_of, with_name_of};
 ghost use Rattle.unix_path.specs.Extensions.{added_extension_of};
@@ -6,19 +6,19 @@ ghost use Rattle.unix_path.specs.Hashed.{hash_input_of};
 ghost use Rattle.unix_path.specs.Joins.{join_of};
 ghost use Rattle.unix_path.specs.Parents.{ancestors_of, parent_of};
 ghost use Rattle.unix_path.specs.Names.{extension_of, file_name_of, file_prefix_of, stem_of};
-ghost use Rattle.unix_path.specs.Prefixes.{stripped_of, Begins, Ends};
+ghost use Rattle.unix_path.specs.Prefixes.{stripped_of, IsPrefixOf, IsSuffixOf};
 ghost use Rattle.unix_path.specs.Order.{values_cmp};
 ghost use Rattle.unix_path.specs.Parts.{is_rooted, value_bytes, values, SameValues};
 ghost use Rattle.unix_path.specs.Rest.{rest};
 ghost use Rattle.path_runs.specs.QueryLaws.{NameFromStem, FileNameFromStem};
 ghost use Rattle.path_runs.specs.QueryLaws.{ParentIsBefore, ParentJoinsName};
 ghost use Rattle.path_runs.specs.QueryLaws.{AncestorsEnd, AncestorsStep, AncestorsArePrefixes};
-ghost use Rattle.path_runs.specs.AlikeLaws.{SameOnEqual, SameOnEqualPairs, HoldsOnEqualPairs};
+ghost use Rattle.path_runs.specs.EqualPathLaws.{SameOnEqual, SameOnEqualPairs, HoldsOnEqualPairs};
 
-/// A stem, a dot and the extension make up the file name; without an extension it is the stem.
+/// The stem, a dot and the extension make up a file name. Without an extension, the name is the
+/// stem.
 ///
-/// That holds for every name, and for the file name of every path that has a stem. Calling it does
-/// nothing. Not in Rust's std.
+/// This holds for every name, and for the file name of every path that has a stem.
 ///
 /// `a.tar.gz` is `a.tar`, a dot and `gz`; `.gz` is its own stem.
 pub fn name_rejoined()
@@ -28,8 +28,8 @@ pub fn name_rejoined()
 
 /// A path's parent is less than the path, and joined with the file name it is equal to the path.
 ///
-/// The first holds for paths that have a parent, the second for those that have a file name too.
-/// The join may be another spelling of the path. Calling it does nothing. Not in Rust's std.
+/// The first holds for paths that have a parent, the second for paths that also have a file name.
+/// The join may have other bytes than the path.
 ///
 /// The parent of `/a//b` is `/a`, which is less; joined with `b` it is `/a/b`.
 pub fn parent_before()
@@ -40,7 +40,6 @@ pub fn parent_before()
 /// A path's ancestors are the path itself and the ancestors of its parent.
 ///
 /// A path without a parent is its only ancestor. Each ancestor is a prefix of the path's bytes.
-/// Calling it does nothing. Not in Rust's std.
 ///
 /// The ancestors of `/a//b/` are `/a//b/`, `/a` and `/`.
 pub fn ancestors_step()
@@ -49,15 +48,15 @@ pub fn ancestors_step()
     ensures prefixes { AncestorsArePrefixes }
 {}
 
-/// Equal paths give the same answer to each query about parts, or equal paths if the answer is a
-/// path.
+/// For equal paths, each query about components has equal results: the same value, or equal paths
+/// if the result is a path.
 ///
-/// The other path of a query, as a base or a path to compare with, may be replaced by an equal one
-/// too. Queries for the bytes themselves, and `common_dir`, which counts bytes, are no part of the
-/// law. Calling it does nothing. Not in Rust's std.
+/// If the query has a second path, such as a base or a path to compare with, that path may be
+/// replaced by an equal one. The law does not cover queries for the bytes themselves, nor
+/// `common_dir`, which counts bytes.
 ///
 /// `//a//b` and `/a/b` have the file name `b`, and the equal parents `//a` and `/a`. But the
-/// `common_dir` of `a//b` and `a//c` is 3, and that of the equal `a/b` and `a/c` is 2.
+/// `common_dir` of `a//b` and `a//c` is 3, and the `common_dir` of the equal `a/b` and `a/c` is 2.
 pub fn queries_congruent()
     ensures has_root { SameOnEqual is_rooted }
     ensures file_name { SameOnEqual (λ s. file_name_of (values s)) }
@@ -65,8 +64,8 @@ pub fn queries_congruent()
     ensures extension { SameOnEqual (λ s. extension_of (values s)) }
     ensures file_prefix { SameOnEqual (λ s. file_prefix_of (values s)) }
     ensures items { SameOnEqual (λ s. map value_bytes (values s)) }
-    ensures starts_with { HoldsOnEqualPairs (λ s base. Begins (values base) (values s)) }
-    ensures ends_with { HoldsOnEqualPairs (λ s child. Ends (values child) (values s)) }
+    ensures starts_with { HoldsOnEqualPairs (λ s base. IsPrefixOf (values base) (values s)) }
+    ensures ends_with { HoldsOnEqualPairs (λ s child. IsSuffixOf (values child) (values s)) }
     ensures equality { HoldsOnEqualPairs SameValues }
     ensures order { SameOnEqualPairs (λ s u. values_cmp (values s) (values u)) }
     ensures hash { SameOnEqual (λ s. hash_input_of (values s)) }

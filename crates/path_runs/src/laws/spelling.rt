@@ -1,34 +1,34 @@
-//! Laws of the canonical spelling.
+//! Laws of the canonical form.
 ghost use Rattle.path_runs.specs.SpellingLaws.{SpellingReadsBack, SpellingIsShortest};
-ghost use Rattle.path_runs.specs.SpellingLaws.{SpellingFits, SpellingsTell, JoinsAreSpelling};
+ghost use Rattle.path_runs.specs.SpellingLaws.{SpellingFits, SpellingDeterminesValues};
+ghost use Rattle.path_runs.specs.SpellingLaws.{JoinsAreSpelling};
 
-/// The canonical spelling of a path's values is the one shortest path with these values.
+/// The canonical form of a path has the same components, and every other path that has them is
+/// longer.
 ///
-/// It has these values, and each other path that has them has more bytes. So two paths are equal
-/// exactly if their spellings are the same bytes. Calling it does nothing. Not in Rust's std.
+/// Two paths are therefore equal if and only if their canonical forms are the same bytes.
 ///
 /// For `.//a/./b/` it is `./a/b`, and no other path of 5 bytes or fewer is equal to it.
 pub fn canonical_form()
     ensures reads_back { SpellingReadsBack }
     ensures shortest { SpellingIsShortest }
-    ensures tells { SpellingsTell }
+    ensures determines { SpellingDeterminesValues }
 {}
 
-/// The canonical spelling of a path has at most as many bytes as the path.
+/// The canonical form of a path has at most as many bytes as the path.
 ///
-/// A caller can size a buffer by it. Calling it does nothing. Not in Rust's std.
+/// A caller can size a buffer by this.
 ///
-/// `.//a/./b/` has 9 bytes, and its spelling `./a/b` has 5.
+/// `.//a/./b/` has 9 bytes, and its canonical form `./a/b` has 5.
 pub fn canonical_is_short()
     ensures { SpellingFits }
 {}
 
-/// A path's parts, each joined to those before it, are the canonical spelling of the path.
+/// A path's components, each joined to those before it, are the canonical form of the path.
 ///
-/// That holds byte for byte, of whole paths and of what a walk leaves. Calling it does nothing. Not
-/// in Rust's std.
+/// This holds byte for byte, and also for the rest of a walk, which is a path.
 ///
-/// The parts of `.//a/./b/` are `.`, `a` and `b`; joined one after the other they are `./a/b`.
+/// The components of `.//a/./b/` are `.`, `a` and `b`; joined one after the other they are `./a/b`.
 pub fn spelling_joined()
     ensures { JoinsAreSpelling }
 {}

@@ -1,21 +1,22 @@
-//! Keys that own their bytes, beside those that are written to buffers: of all short strings, as
-//! paths and as keys, and of random ones.
+//! Keys that own their bytes, compared with keys written to buffers: for all short strings, as
+//! paths and as keys, and for random strings.
 use path_keys::{KeyError, PathKey, is_key, key_len, path_of, write_key, write_path_of};
 use std::alloc::{AllocError, Global};
 use std::test::Fail;
 use test_inputs::{Random, strings_over};
 use unix_path::Path;
 
-// How many strings of at most 4 letters there are over six letters.
+// The number of strings of at most 4 letters over an alphabet of six.
 const SHORTER_PATHS: usize = 1555;
 
-// How many strings of at most 3 letters there are over eight letters.
+// The number of strings of at most 3 letters over an alphabet of eight.
 const SHORTER_KEYS: usize = 585;
 
 const RANDOM_STRINGS: u32 = 10_000;
 
-// Whether the key of the path, of at most 66 bytes, is counted, is written where there is just
-// enough room, and not if there is a byte less.
+// Returns true if `key` is the path's key and has at most 66 bytes: `key_len` returns its length,
+// and `write_key` writes it to a buffer of that length, but nothing to a buffer that is one byte
+// shorter.
 fn is_as_written(path: Path<'_>, key: &[u8]) -> bool {
     let mut buffer = [0xEE_u8; 67];
     let len = key.len();
@@ -29,8 +30,8 @@ fn is_as_written(path: Path<'_>, key: &[u8]) -> bool {
     key_len(path) == len && needed == len && written == len && is_untouched && is_exact
 }
 
-// Whether the path of the key, of at most 99 bytes, is written where there is just enough room, and
-// not if there is a byte less.
+// Returns true if `path` is the key's path and has at most 99 bytes: `write_path_of` writes it to a
+// buffer of its length, but nothing to a buffer that is one byte shorter.
 fn is_path_written(key: &[u8], path: &[u8]) -> bool {
     let mut buffer = [0xEE_u8; 100];
     let len = path.len();
@@ -44,8 +45,8 @@ fn is_path_written(key: &[u8], path: &[u8]) -> bool {
     needed == Some(len) && written == Some(len) && is_untouched && is_exact
 }
 
-// Whether bytes are a key, and read back as the path that is written; or are refused, and nothing
-// is written.
+// Returns true if the bytes are a key and read back as the path that is written, or if they are not
+// a key and nothing is written.
 fn is_read(alloc: Global, bytes: &[u8]) -> bool {
     match path_of(alloc, bytes) {
         Ok(path) => is_key(bytes) && is_path_written(bytes, path.as_path().bytes),
@@ -57,7 +58,7 @@ fn is_read(alloc: Global, bytes: &[u8]) -> bool {
     }
 }
 
-// Whether the key's parent is the key of the path's parent.
+// Returns true if the key's parent is the key of the path's parent.
 fn has_parent(alloc: Global, path: Path<'_>, key: &PathKey) -> Result<bool, AllocError> {
     match (path.parent(), key.parent()) {
         (Some(parent), Some(bytes)) => Ok(PathKey::from_path(alloc, parent)?.as_bytes() == bytes),
@@ -66,23 +67,25 @@ fn has_parent(alloc: Global, path: Path<'_>, key: &PathKey) -> Result<bool, Allo
     }
 }
 
-// Whether the bytes are those of the name, each that is less than a slash one more.
-fn stands_for(bytes: &[u8], name: &[u8]) -> bool {
+// Returns true if the bytes are the bytes of the name, with each byte less than a slash raised by
+// one.
+fn is_escaped_name(bytes: &[u8], name: &[u8]) -> bool {
     bytes.len() == name.len()
         && bytes.iter().zip(name.iter()).all(|(b, n)| *b
             == if *n < b'/' { n.saturating_add(1) } else { *n })
 }
 
-// Whether the key's name is the path's file name.
+// Returns true if the key's name is the path's file name.
 fn has_name(path: Path<'_>, key: &PathKey) -> bool {
     match (path.file_name(), key.name()) {
-        (Some(name), Some(bytes)) => stands_for(bytes, name.as_bytes()),
+        (Some(name), Some(bytes)) => is_escaped_name(bytes, name.as_bytes()),
         (None, None) => true,
         _ => false,
     }
 }
 
-// Whether all this holds of the path's key.
+// Returns true if the path's key is written and read as it should be, and has the right name and
+// parent.
 fn is_keyed(alloc: Global, bytes: &[u8]) -> Result<bool, AllocError> {
     let path = Path::from_bytes(bytes);
     let key = PathKey::from_path(alloc, path)?;

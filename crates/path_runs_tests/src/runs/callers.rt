@@ -1,4 +1,4 @@
-//! What a caller can prove of chains and loops over a walk that was passed in.
+//! What a caller can prove about chains and loops over a walk that was passed in.
 ghost use Rattle.std.specs.Prelude.{◌≡◌, IfOk, length, map, reverse};
 ghost use Rattle.unix_path.specs.Cursor.{cursor_values, iter_bytes};
 ghost use Rattle.unix_path.specs.Parts.{value_bytes};

@@ -1,4 +1,4 @@
-//! What a caller can prove of chains over a path's parts, names and ancestors.
+//! What a caller can prove about chains over a path's components, names and ancestors.
 ghost use Rattle.std.specs.Prelude.{◌≡◌, ◌≢◌, ◌↔◌, ◌<◌, ◌≤◌, ◌+◌, ◌-◌, ℕ, IfNone, IfOk, IfSome};
 ghost use Rattle.std.specs.Prelude.{IsSome, IsTrue, Some, count_by, drop, is_some, length, map};
 ghost use Rattle.std.specs.Prelude.{option_map, reverse, slice_get, slice_index_or, take};
@@ -53,7 +53,7 @@ fn list_back<'a>(alloc: Global, path: Path<'a>) -> Result<Vec<Component<'a>>, Al
     path.components().rev().collect(alloc)
 }
 
-// The parts behind the first one.
+// Returns the components after the first one.
 fn after_first<'a>(alloc: Global, path: Path<'a>) -> Result<Vec<Component<'a>>, AllocError>
     ensures { IfOk result (λ list. map value_of list.items
         ≡ drop 1 (values path.entry.bytes.now)) }
@@ -124,7 +124,7 @@ fn all_names(path: Path<'_>) -> bool
     path.components().all(|part| is_name(part))
 }
 
-fn goes_up(path: Path<'_>) -> bool
+fn has_parent_dir(path: Path<'_>) -> bool
     ensures { IsTrue result ↔ Any (λ v. v ≡ ParentDir) (values path.entry.bytes.now) }
 {
     walks_in_order();
@@ -151,7 +151,7 @@ fn names<'a>(alloc: Global, path: Path<'a>) -> Result<Vec<Component<'a>>, AllocE
         .collect(alloc)
 }
 
-fn first_up<'a>(path: Path<'a>) -> Option<Component<'a>>
+fn first_parent_dir<'a>(path: Path<'a>) -> Option<Component<'a>>
     ensures some { IsSome result ↔ Any (λ v. v ≡ ParentDir) (values path.entry.bytes.now) }
     ensures part { IfSome result (λ part. value_of part ≡ ParentDir) }
 {
@@ -159,7 +159,7 @@ fn first_up<'a>(path: Path<'a>) -> Option<Component<'a>>
     path.components().find(|part| *part == Component::ParentDir)
 }
 
-fn place_of_up(path: Path<'_>) -> Option<usize>
+fn parent_dir_index(path: Path<'_>) -> Option<usize>
     ensures none { IfNone result (All (λ v. v ≢ ParentDir) (values path.entry.bytes.now)) }
     ensures there { IfSome result (λ i.
         slice_get (values path.entry.bytes.now) i ≡ Some ParentDir) }
@@ -254,9 +254,9 @@ fn parts_by_number(rt: HostRuntime) {
 #[test]
 fn parts_that_are_sought(rt: HostRuntime) {
     let long = path("/a/../b//c/.");
-    assert!(rt; first_up(long) == Some(Component::ParentDir));
-    assert!(rt; place_of_up(long) == Some(2) && place_of_up(path("a/b")) == None);
-    assert!(rt; goes_up(long) && !goes_up(path("a/..b")));
+    assert!(rt; first_parent_dir(long) == Some(Component::ParentDir));
+    assert!(rt; parent_dir_index(long) == Some(2) && parent_dir_index(path("a/b")) == None);
+    assert!(rt; has_parent_dir(long) && !has_parent_dir(path("a/..b")));
     assert!(rt; all_names(path("a/b")) && !all_names(path("./a")));
 }
 

@@ -1,51 +1,52 @@
-//! What is collected of walks, and written of what they leave, beside its canonical spelling.
+//! The rests of walks, collected and written, compared with their canonical forms.
 use path_runs::canonical::{canonical, collected, write_canonical};
 use std::alloc::{AllocError, Global};
 use std::test::Fail;
 use test_inputs::{Random, strings_over};
 use unix_path::{Components, Path};
 
-// How many strings of at most 5 letters there are over three letters.
+// The number of strings of at most 5 letters over an alphabet of three.
 const SHORTER_STRINGS: usize = 364;
 
-// How many lists of at most 3 turns there are; below, of at most 4.
+// The number of lists of at most 3 turns, and of at most 4 turns.
 const SHORTER_LISTS: usize = 15;
 
 const LISTS: usize = 31;
 
 const RANDOM_STRINGS: u32 = 10_000;
 
-// What these turns leave of the walk: `f` is one in front, any other letter one behind.
-fn left_after<'a>(walk: Components<'a>, turns: &[u8]) -> Components<'a> {
-    let mut left = walk;
+// Returns what these turns leave of the walk. The letter `f` takes the first component, any other
+// letter the last one.
+fn rest_after<'a>(walk: Components<'a>, turns: &[u8]) -> Components<'a> {
+    let mut rest = walk;
     for turn in turns {
         let _part = if *turn == b'f' {
-            left.next()
+            rest.next()
         } else {
-            left.next_back()
+            rest.next_back()
         };
     }
-    left
+    rest
 }
 
-// Whether what is left of the walk is collected to the bytes of its canonical spelling, and these
-// are written to a buffer that has just the room for them.
-fn is_collected(alloc: Global, left: Components<'_>) -> Result<bool, AllocError> {
-    let spelled = canonical(alloc, left.as_path())?;
+// Returns true if the rest of the walk is collected to the bytes of its canonical form, and these
+// are written to a buffer of exactly their length.
+fn is_collected(alloc: Global, rest: Components<'_>) -> Result<bool, AllocError> {
+    let spelled = canonical(alloc, rest.as_path())?;
     let bytes = spelled.as_path().bytes;
-    let joined = collected(alloc, left)?;
+    let joined = collected(alloc, rest)?;
     let mut out = vec![in alloc; b'#'; bytes.len()]?;
-    let len = write_canonical(left.as_path(), out.as_mut_slice());
+    let len = write_canonical(rest.as_path(), out.as_mut_slice());
     Ok(joined.as_path().bytes == bytes && len == bytes.len() && out.as_slice() == bytes)
 }
 
-// For how many of the lists of turns the rest that they leave of the path is collected to its
-// spelling.
+// Returns the number of lists of turns after which the rest of the path is collected to its
+// canonical form.
 fn count_collected(alloc: Global, path: &[u8], lists: &[Vec<u8>]) -> Result<usize, AllocError> {
     let walk = Path::from_bytes(path).components();
     let mut count = 0_usize;
     for turns in lists {
-        if is_collected(alloc, left_after(walk, turns.as_slice()))? {
+        if is_collected(alloc, rest_after(walk, turns.as_slice()))? {
             count = count.saturating_add(1);
         }
     }

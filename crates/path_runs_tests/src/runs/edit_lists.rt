@@ -1,5 +1,5 @@
-//! Random lists of edits, beside the methods with their names called one by one, and beside those
-//! that edit a copy.
+//! Random lists of edits, compared with the methods of the same names, and with the methods that
+//! edit a copy.
 use path_runs::edits::{Answer, Edit, apply};
 use std::alloc::{AllocError, Global};
 use std::test::Fail;
@@ -11,7 +11,7 @@ const LISTS: u32 = 2_000;
 
 const EXTENSIONS: u32 = 10_000;
 
-// Edits that leave filler, `..`, and names with and without dots, of which some have 64 bytes and
+// Edits that leave filler, `..`, and names with and without dots, some of which have 64 bytes or
 // more.
 static EDITS: [Edit<'static>; 32] = [
     Edit::Push(Path { bytes: b"" }),
@@ -58,7 +58,7 @@ static EDITS: [Edit<'static>; 32] = [
     Edit::Clear,
 ];
 
-// At most 40 random edits.
+// Returns at most 40 random edits.
 fn edits_from(alloc: Global, random: &mut Random) -> Result<Vec<Edit<'static>>, AllocError> {
     let mut edits = Vec::new(alloc);
     for _ in 0..random.next() % 41 {
@@ -67,7 +67,7 @@ fn edits_from(alloc: Global, random: &mut Random) -> Result<Vec<Edit<'static>>, 
     Ok(edits)
 }
 
-fn answer_of(edited: Result<bool, ExtensionError>) -> Option<Answer> {
+fn extension_answer(edited: Result<bool, ExtensionError>) -> Option<Answer> {
     match edited {
         Ok(is_made) => Some(Answer::Flag(is_made)),
         Err(ExtensionError::Separator) => Some(Answer::Separator),
@@ -82,14 +82,14 @@ fn plain_answer(edited: Result<(), AllocError>) -> Option<Answer> {
     }
 }
 
-// What the method with the edit's name answers; `None` if an allocation failed.
-fn made(path: &mut PathBuf, edit: &Edit<'_>) -> Option<Answer> {
+// Calls the method with the edit's name, and returns its answer; `None` if an allocation fails.
+fn call_method(path: &mut PathBuf, edit: &Edit<'_>) -> Option<Answer> {
     match edit {
         Edit::Push(other) => plain_answer(path.push(*other)),
         Edit::Pop => Some(Answer::Flag(path.pop())),
         Edit::SetFileName(name) => plain_answer(path.set_file_name(*name)),
-        Edit::SetExtension(extension) => answer_of(path.set_extension(*extension)),
-        Edit::AddExtension(extension) => answer_of(path.add_extension(*extension)),
+        Edit::SetExtension(extension) => extension_answer(path.set_extension(*extension)),
+        Edit::AddExtension(extension) => extension_answer(path.add_extension(*extension)),
         Edit::Clear => {
             path.clear();
             Some(Answer::Plain)
@@ -97,7 +97,8 @@ fn made(path: &mut PathBuf, edit: &Edit<'_>) -> Option<Answer> {
     }
 }
 
-// The copy with the edit made, by the method for that; `None` if there is no such method.
+// Returns a copy with the edit made, by the method that edits a copy; `None` if there is no such
+// method.
 fn edited_copy(
     alloc: Global,
     path: Path<'_>,
@@ -117,9 +118,9 @@ fn edited_copy(
     }
 }
 
-// Whether the method that edits a copy, if there is one, gives this path, or refuses the extension
-// as the answer says.
-fn is_copied(
+// Returns true if the method that edits a copy, if there is one, returned this path, or rejected
+// the extension as the answer says.
+fn copy_matches(
     copied: Option<Result<PathBuf, ExtensionError>>,
     edited: Path<'_>,
     answer: Option<&Answer>,
@@ -133,27 +134,39 @@ fn is_copied(
     }
 }
 
-// Whether each edit has the answer of its method, and makes the path that a copy becomes.
-fn is_answered(alloc: Global, path: &mut PathBuf, edits: &[Edit<'_>], answers: &[Answer]) -> bool {
-    for (place, edit) in edits.iter().enumerate() {
+// Returns true if each edit has the answer of its method, and the path that it leaves is the edited
+// copy.
+fn answers_match(
+    alloc: Global,
+    path: &mut PathBuf,
+    edits: &[Edit<'_>],
+    answers: &[Answer],
+) -> bool {
+    for (index, edit) in edits.iter().enumerate() {
         let copied = edited_copy(alloc, path.as_path(), edit);
-        let answer = answers.get(place);
-        if made(path, edit).as_ref() != answer || !is_copied(copied, path.as_path(), answer) {
+        let answer = answers.get(index);
+        if call_method(path, edit).as_ref() != answer
+            || !copy_matches(copied, path.as_path(), answer)
+        {
             return false;
         }
     }
     edits.len() == answers.len()
 }
 
-// Whether the list leaves the bytes that the methods leave, and answers as they do.
-fn is_alike(alloc: Global, start: &[u8], edits: &[Edit<'_>]) -> Result<bool, AllocError> {
+// Returns true if the list leaves the bytes that the methods leave, and returns the same answers.
+fn list_matches_methods(
+    alloc: Global,
+    start: &[u8],
+    edits: &[Edit<'_>],
+) -> Result<bool, AllocError> {
     let mut path = PathBuf::from_unix_str(alloc, UnixStr::from_bytes(start))?;
-    let mut singly = path.clone()?;
+    let mut one_by_one = path.clone()?;
     let Ok(answers) = apply(alloc, &mut path, edits) else {
         return Err(AllocError);
     };
-    let answered = is_answered(alloc, &mut singly, edits, answers.as_slice());
-    Ok(answered && path.as_path().as_unix_str() == singly.as_path().as_unix_str())
+    let answers_are_same = answers_match(alloc, &mut one_by_one, edits, answers.as_slice());
+    Ok(answers_are_same && path.as_path().as_unix_str() == one_by_one.as_path().as_unix_str())
 }
 
 #[test]
@@ -162,13 +175,13 @@ fn lists_are_their_methods(rt: HostRuntime) -> Result<(), Fail> {
     for number in 0..LISTS {
         let start = random.string(rt.alloc())?;
         let edits = edits_from(rt.alloc(), &mut random)?;
-        let alike = is_alike(rt.alloc(), start.as_slice(), edits.as_slice());
-        assert!(rt; matches!(alike, Ok(true)), "{number}");
+        let is_match = list_matches_methods(rt.alloc(), start.as_slice(), edits.as_slice());
+        assert!(rt; matches!(is_match, Ok(true)), "{number}");
     }
     Ok(())
 }
 
-// A random extension; half of them have no slash.
+// Returns a random extension. Half of them have no slash.
 fn extension_from(alloc: Global, random: &mut Random) -> Result<Vec<u8>, AllocError> {
     let keeps_slashes = random.next() >> 32 & 1 == 0;
     let mut bytes = Vec::new(alloc);
@@ -180,12 +193,15 @@ fn extension_from(alloc: Global, random: &mut Random) -> Result<Vec<u8>, AllocEr
     Ok(bytes)
 }
 
-// Whether the extension is set and added alike.
-fn is_extended(alloc: Global, start: &[u8], extension: &[u8]) -> Result<bool, AllocError> {
+// Returns true if edits and methods set and add the extension in the same way.
+fn extension_matches(alloc: Global, start: &[u8], extension: &[u8]) -> Result<bool, AllocError> {
     let extension = UnixStr::from_bytes(extension);
     let set = [Edit::SetExtension(extension)];
     let added = [Edit::AddExtension(extension)];
-    Ok(is_alike(alloc, start, set.as_slice())? && is_alike(alloc, start, added.as_slice())?)
+    Ok(
+        list_matches_methods(alloc, start, set.as_slice())?
+            && list_matches_methods(alloc, start, added.as_slice())?,
+    )
 }
 
 #[test]
@@ -194,11 +210,11 @@ fn extensions_are_their_methods(rt: HostRuntime) -> Result<(), Fail> {
     for _ in 0..EXTENSIONS {
         let start = random.string(rt.alloc())?;
         let extension = extension_from(rt.alloc(), &mut random)?;
-        let alike = is_extended(rt.alloc(), &start, &extension)?;
-        assert!(rt; alike, "{start:?} {extension:?}");
+        let is_match = extension_matches(rt.alloc(), &start, &extension)?;
+        assert!(rt; is_match, "{start:?} {extension:?}");
     }
     // A name of many dots.
     let dots = vec![in rt.alloc(); b'.'; 100_000]?;
-    assert!(rt; is_extended(rt.alloc(), &dots, b"x")?);
+    assert!(rt; extension_matches(rt.alloc(), &dots, b"x")?);
     Ok(())
 }

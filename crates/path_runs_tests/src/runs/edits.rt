@@ -1,11 +1,11 @@
-//! Rows of paths joined again to a base, and the text of an error.
+//! Rows of paths that are joined to a base again, and the text of an error.
 use path_runs::edits::{ApplyError, rejoin};
 use std::alloc::{AllocError, Global};
 use unix_path::Path;
 use unix_path::bytes::UnixStr;
 
-// A path, a base, and the path without the base, joined to the base; `None` if it doesn't start
-// with the base.
+// A path, a base, and what follows the base in the path, joined to the base; `None` if the path
+// doesn't start with the base.
 type BaseRow = (&'static str, &'static str, Option<&'static str>);
 
 static JOINS_TO_A_BASE: [BaseRow; 6] = [
@@ -21,7 +21,7 @@ static JOINS_TO_A_BASE: [BaseRow; 6] = [
     ("foo/bar", "foo/bar/baz", None),
 ];
 
-// Whether `rejoin` gives what the row says.
+// Returns true if `rejoin` returns what the row says.
 fn is_rejoined(alloc: Global, row: &BaseRow) -> bool {
     match rejoin(alloc, Path::from_text(row.0), Path::from_text(row.1)) {
         Ok(Some(joined)) => match row.2 {
@@ -40,7 +40,7 @@ fn rows_of_joins_to_a_base(rt: HostRuntime) {
     }
 }
 
-// Whether the error is printed as its text, and padded to a width.
+// Returns true if the error is printed as its text, and padded to a width.
 fn is_printed(alloc: Global, error: &ApplyError) -> bool {
     match format!(in alloc; "{error}|{error:>15}") {
         Ok(text) => text.as_str() == "out of memory|  out of memory",

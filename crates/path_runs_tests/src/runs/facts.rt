@@ -1,4 +1,4 @@
-//! Callers of laws: a law that is called in a body is a fact there, and no function needs a proof.
+//! Callers of laws. A law that is called in a body is a fact there, and no function needs a proof.
 ghost use Rattle.std.specs.Prelude.{◌≡◌, ◌≤◌, ◌↔◌, ◌++◌, false, [], map, reverse, IfOk, IsTrue};
 ghost use Rattle.std.specs.Prelude.{IsFalse, length};
 ghost use Rattle.std.specs.Cmp.Lexicographic.{slice_cmp};
@@ -6,7 +6,7 @@ ghost use Rattle.std.specs.List.{sum_by};
 ghost use Rattle.std.specs.Option.{option_to_list};
 ghost use Rattle.std.specs.Ordering.{nat_cmp};
 ghost use Rattle.unix_path.specs.Buffers.{path_bytes};
-ghost use Rattle.unix_path.specs.Prefixes.{Begins};
+ghost use Rattle.unix_path.specs.Prefixes.{IsPrefixOf};
 ghost use Rattle.unix_path.specs.Cursor.{cursor_values};
 ghost use Rattle.unix_path.specs.Order.{value_cmp, values_cmp, IsBefore};
 ghost use Rattle.unix_path.specs.Parts.{is_rooted, value_bytes, values, SameValues};
@@ -20,15 +20,19 @@ use std::test::Fail;
 use unix_path::bytes::UnixStr;
 use unix_path::{Component, Components, Path, PathBuf};
 
-fn join_below(alloc: Global, root: Path<'_>, request: Path<'_>) -> Result<PathBuf, AllocError>
+fn join_under_root(alloc: Global, root: Path<'_>, request: Path<'_>) -> Result<PathBuf, AllocError>
     requires { is_rooted request.bytes.now ≡ false }
-    ensures { IfOk result (λ p. Begins (values root.entry.bytes.now) (values (path_bytes p))) }
+    ensures { IfOk result (λ p. IsPrefixOf (values root.entry.bytes.now) (values (path_bytes p))) }
 {
     laws::join_starts_with();
     root.join(alloc, request)
 }
 
-fn starts_again(alloc: Global, root: Path<'_>, request: Path<'_>) -> Result<bool, AllocError>
+fn join_starts_with_root(
+    alloc: Global,
+    root: Path<'_>,
+    request: Path<'_>,
+) -> Result<bool, AllocError>
     requires { is_rooted request.bytes.now ≡ false }
     ensures { IfOk result (λ b. IsTrue b) }
 {
@@ -45,14 +49,14 @@ fn bound_of_parts(path: Path<'_>) -> usize
     path.as_unix_str().len()
 }
 
-fn is_nothing(path: Path<'_>) -> bool
+fn has_no_component(path: Path<'_>) -> bool
     ensures { IsTrue result ↔ (values path.entry.bytes.now ≡ []) }
 {
     laws::no_part_no_byte();
     path == Path::new(UnixStr::new(""))
 }
 
-fn ties(a: Path<'_>, b: Path<'_>) -> bool
+fn compares_equal(a: Path<'_>, b: Path<'_>) -> bool
     ensures { IsTrue result ↔ SameValues a.entry.bytes.now b.entry.bytes.now }
 {
     laws::order_total();
@@ -66,15 +70,15 @@ fn reverse_order(a: Path<'_>, b: Path<'_>) -> Ordering
     b.cmp(&a).reverse()
 }
 
-fn equal_if_fed_alike(a: Path<'_>, b: Path<'_>) -> bool
+fn equal_if_same_input(a: Path<'_>, b: Path<'_>) -> bool
     requires { bytes_fed a.bytes.now ≡ bytes_fed b.bytes.now }
     ensures { IsTrue result }
 {
-    laws::hash_inputs_tell();
+    laws::hash_input_injective();
     a == b
 }
 
-fn comes_later(a: Path<'_>, b: Path<'_>) -> bool
+fn is_not_greater(a: Path<'_>, b: Path<'_>) -> bool
     requires { IsBefore (values a.bytes.now) (values b.bytes.now) }
     ensures { IsFalse result }
 {
@@ -82,7 +86,7 @@ fn comes_later(a: Path<'_>, b: Path<'_>) -> bool
     b < a || a == b
 }
 
-fn comes_first(a: Path<'_>, b: Path<'_>, c: Path<'_>) -> bool
+fn is_first_of_three(a: Path<'_>, b: Path<'_>, c: Path<'_>) -> bool
     requires first { IsBefore (values a.bytes.now) (values b.bytes.now) }
     requires second { IsBefore (values b.bytes.now) (values c.bytes.now) }
     ensures { IsTrue result }
@@ -120,8 +124,8 @@ fn order_of_names(a: UnixStr<'_>, b: UnixStr<'_>) -> Ordering
     a.cmp(&b)
 }
 
-// The first part that is left and then the last; with what stands between they are all that was
-// left.
+// Takes the first component of the rest, and then the last one. These two, with the new rest
+// between them, are the rest before.
 fn take_both<'a>(parts: &mut Components<'a>) -> (Option<Component<'a>>, Option<Component<'a>>)
     ensures { map value_of (option_to_list result.0) ++ cursor_values parts.new
         ++ reverse (map value_of (option_to_list result.1)) ≡ cursor_values parts.old }
@@ -138,18 +142,18 @@ fn laws_are_facts(rt: HostRuntime) -> Result<(), Fail> {
     let root = Path::new(UnixStr::new("/srv/"));
     let request = Path::new(UnixStr::new("./a//b"));
     let empty = Path::new(UnixStr::new(""));
-    let joined = join_below(alloc, root, request)?;
+    let joined = join_under_root(alloc, root, request)?;
     assert_eq!(rt; joined.as_path().as_unix_str(), UnixStr::new("/srv/./a//b"));
-    assert!(rt; starts_again(alloc, empty, request)?);
+    assert!(rt; join_starts_with_root(alloc, empty, request)?);
     assert_eq!(rt; bound_of_parts(request), 6);
-    assert!(rt; is_nothing(empty));
-    assert!(rt; ties(request, Path::new(UnixStr::new("./a/b/."))));
+    assert!(rt; has_no_component(empty));
+    assert!(rt; compares_equal(request, Path::new(UnixStr::new("./a/b/."))));
     assert_eq!(rt; reverse_order(root, request), Ordering::Less);
-    assert!(rt; equal_if_fed_alike(request, request));
+    assert!(rt; equal_if_same_input(request, request));
     Ok(())
 }
 
-// Whether these names and parts are told apart, and in which order.
+// Returns true if these names and components are distinguished, and have this order.
 fn are_in_order() -> bool {
     let (a, b) = (UnixStr::new("a"), UnixStr::new("ab"));
     is_same_name(a, a)

@@ -1,7 +1,7 @@
-//! Callers of `extend` and `from_iter`: what fits the capacity is never refused.
+//! Callers of `extend` and `from_iter`: pushing paths that fit into the capacity never fails.
 ghost use Rattle.std.specs.Prelude.{◌≡◌, ◌≤◌, ◌+◌, false, [], fold, length, IsOk};
 ghost use Rattle.std.specs.List.{AllByRecursion};
-ghost use Rattle.unix_path.specs.Buffers.{capacity, path_bytes, room, bytes_of_each};
+ghost use Rattle.unix_path.specs.Buffers.{capacity, path_bytes, spare_capacity, bytes_of_each};
 ghost use Rattle.unix_path.specs.Joins.{join_all_of};
 ghost use Rattle.unix_path.specs.Parts.{is_rooted};
 
@@ -31,8 +31,9 @@ fn extend_by_these(buffer: &mut PathBuf, paths: &[Path<'_>]) -> Result<(), Alloc
     buffer.extend(paths.iter().copied())
 }
 
-fn extend_in_room(buffer: &mut PathBuf, paths: &[Path<'_>]) -> Result<(), AllocError>
-    ensures { fold (λ sum path. sum + (1 + length path.bytes.now)) 0 paths.now ≤ room buffer.old
+fn extend_in_spare_capacity(buffer: &mut PathBuf, paths: &[Path<'_>]) -> Result<(), AllocError>
+    ensures { fold (λ sum path. sum + (1 + length path.bytes.now)) 0 paths.now
+        ≤ spare_capacity buffer.old
         → IsOk result }
 {
     buffer.extend(paths.iter().copied())
@@ -65,7 +66,7 @@ fn what_fits_the_room_is_joined(rt: HostRuntime) -> Result<(), Fail> {
     let mut buffer = path_of_none(rt.alloc())?;
     buffer.reserve(7)?;
     let paths = [Path::from_text("/a"), Path::from_text("bcd")];
-    extend_in_room(&mut buffer, paths.as_slice())?;
+    extend_in_spare_capacity(&mut buffer, paths.as_slice())?;
     assert!(rt; buffer.as_path().as_unix_str() == UnixStr::new("/a/bcd"));
     Ok(())
 }

@@ -1,4 +1,4 @@
-//! What a caller can prove of loops over a path's parts, by their invariants alone.
+//! What a caller can prove about loops over a path's components, by their invariants only.
 ghost use Rattle.std.specs.Prelude.{◌≡◌, IfOk, is_some, map, reverse, filter};
 ghost use Rattle.std.specs.List.{position_or_len};
 ghost use Rattle.unix_path.specs.Names.{name_of};
@@ -66,10 +66,15 @@ fn loops_over_parts(rt: HostRuntime) {
     let a = UnixStr::new("a");
     let b = UnixStr::new("b");
     let dot = UnixStr::new(".");
-    let up = UnixStr::new("..");
+    let parent_dir = UnixStr::new("..");
     assert!(rt; first_name(path) == 2);
     let names = [Component::Normal(a), Component::Normal(b)];
-    assert!(rt; is_list(push_reversed(alloc, path), [b, a, up, dot].as_slice()));
+    assert!(rt;
+        is_list(
+            push_reversed(alloc, path),
+            [b, a, parent_dir, dot].as_slice()
+        )
+    );
     assert!(rt; is_list(push_names(alloc, path), names.as_slice()));
-    assert!(rt; is_list(push_all(alloc, path), [dot, up, a, b].as_slice()));
+    assert!(rt; is_list(push_all(alloc, path), [dot, parent_dir, a, b].as_slice()));
 }

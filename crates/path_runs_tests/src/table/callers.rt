@@ -5,7 +5,8 @@ ghost use Rattle.std.specs.Map.{set_value};
 ghost use Rattle.unix_path.specs.Buffers.{path_bytes};
 ghost use Rattle.unix_path.specs.Order.{values_cmp};
 ghost use Rattle.unix_path.specs.Parts.{values, SameValues};
-ghost use Rattle.path_table.specs.Table.{entries_under, table_of, value_at};
+ghost use Rattle.path_runs.specs.Rows.{value_at};
+ghost use Rattle.path_table.specs.Table.{entries_under, table_of};
 
 use path_table::PathTable;
 use std::alloc::{AllocError, Global};
@@ -45,7 +46,7 @@ fn write(table: &mut PathTable<u8>, path: &PathBuf, value: u8)
     }
 }
 
-// How many files are under the base.
+// Returns the number of files under the base.
 fn count_under<V>(table: &PathTable<V>, base: &PathBuf) -> usize
     ensures { result
         ≡ length (entries_under (values (path_bytes base.now)) (table_of table.now)) }
@@ -53,14 +54,15 @@ fn count_under<V>(table: &PathTable<V>, base: &PathBuf) -> usize
     table.walk_under(base).count()
 }
 
-// Whether the path `a/b` names what is inserted in its place, until it is removed.
+// Returns true if the path `a/b` has the value inserted at `a//b/`, then the value written, and no
+// value once it is removed.
 fn is_found(alloc: Global, table: &mut PathTable<u8>, path: &PathBuf) -> Result<bool, AllocError> {
     let found = insert_then_get(table, PathBuf::from_text(alloc, "a//b/")?, path, 7)?;
     write(table, path, 8);
     let written = table.get(path).copied();
     let count = count_under(table, &PathBuf::from_text(alloc, "a")?);
-    let left = remove_then_get(table, path);
-    Ok(found == Some(7) && written == Some(8) && count == 1 && left == None)
+    let after_removal = remove_then_get(table, path);
+    Ok(found == Some(7) && written == Some(8) && count == 1 && after_removal == None)
 }
 
 #[test]

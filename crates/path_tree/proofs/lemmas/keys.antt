@@ -2,7 +2,7 @@
 pub mod ReadLemmas
 pub mod RowLemmas
 pub mod PassLemmas
-pub mod MarkLemmas
+pub mod FilterLemmas
 pub mod UnderLemmas
 pub mod ChildKeyLemmas
 pub mod MovedKeyLemmas

@@ -1,11 +1,12 @@
--- Rows of a tree: put, removed, moved, sorted, and beside another tree's.
+-- Rows of a tree: inserted, removed, moved, sorted, and compared with another tree's.
 pub mod SortedLemmas
 pub mod SortedWalkLemmas
 pub mod WalkLemmas
 pub mod MovedLemmas
 pub mod PutLemmas
 pub mod ManyLemmas
+pub mod EntryLemmas
 pub mod DifferenceLemmas
 pub mod ChangedLemmas
-pub mod AheadLemmas
-pub mod BesideLemmas
+pub mod CursorLemmas
+pub mod MergeLemmas

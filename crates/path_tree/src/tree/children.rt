@@ -1,40 +1,42 @@
-//! The children of a base: what stands just below it in a tree.
+//! The children of a base: the paths in a tree that are one component longer.
 ghost use Rattle.std.specs.Prelude.{◌≡◌, ◌==◌, ◌<◌, ◌+◌, ℕ, true, Bool, List, [], ◌++◌};
 ghost use Rattle.std.specs.Prelude.{IfOk, IfSome, IsOk, OnOk, None, Some, false, length, map, take};
 ghost use Rattle.std.specs.Prelude.{if◌then◌else◌, eqb, option_map};
 ghost use Rattle.std.specs.List.{starts_with};
+ghost use Rattle.std.specs.List.Sorted.{IsStrictlySortedBy};
+ghost use Rattle.std.specs.Map.{keys_of};
 ghost use Rattle.unix_path.specs.Parts.{Value};
-ghost use Rattle.unix_path.specs.Prefixes.{Begins};
+ghost use Rattle.unix_path.specs.Prefixes.{IsPrefixOf};
 ghost use Rattle.path_keys.specs.Codes.{Fits};
 ghost use Rattle.path_keys.specs.Held.{key_bytes};
 ghost use Rattle.path_keys.specs.Keys.{code};
-ghost use Rattle.path_keys.specs.Ranges.{end_of};
-ghost use Rattle.path_tree.specs.Children.{children_of, lent_child};
+ghost use Rattle.path_keys.specs.Ranges.{bytes_cmp, end_of};
+ghost use Rattle.path_tree.specs.Children.{children_of, keyed, lent_child};
 ghost use Rattle.path_tree.specs.Read.{is_own, key_values};
 
 use super::PathTree;
-use crate::made::vec_of;
+use crate::lookup_key::vec_of;
 use path_keys::PathKey;
 use std::alloc::AllocError;
 use std::ops::Bound;
-use unix_bytes::search::first_place;
+use unix_bytes::search::find_byte;
 
-// How many bytes the first code has in what follows others in a key.
+// Returns the length of the first of the codes that end a key.
 #[inline]
 fn first_code_len(codes: &[u8]) -> usize
     ensures { (first : Bool) (v : Value) (rest : List ℕ) → Fits first v
         → codes.now ≡ code v ++ rest → result ≡ length (code v) }
 {
-    let len = first_place(codes, 0);
+    let len = find_byte(codes, 0);
     if len == 0 { 2 } else { len + 1 }
 }
 
-// The beginning of a key that has one code more than the base, which begins the key.
+// Returns the prefix of a key that has one code more than the base, which is a shorter prefix.
 #[inline]
 fn child_key<'a>(key: &'a [u8], base: &[u8]) -> &'a [u8]
     requires own { is_own key.now ≡ true }
     requires base_own { is_own base.now ≡ true }
-    requires below { Begins base.now key.now }
+    requires below { IsPrefixOf base.now key.now }
     requires longer { length base.now < length key.now }
     ensures own { is_own result.now ≡ true }
     ensures values { key_values result.now
@@ -44,12 +46,13 @@ fn child_key<'a>(key: &'a [u8], base: &[u8]) -> &'a [u8]
     ensures whole { (length result.now == length key.entry.now)
         ≡ (length (key_values key.entry.now) == length (key_values base.entry.now) + 1) }
     ensures some { 0 < length result.now }
+    ensures begins { IsPrefixOf result.now key.now }
 {
     let len = base.len() + first_code_len(&key[base.len()..]);
     &key[..len]
 }
 
-// Makes `end` the end of the range of the keys that start with this one.
+// Sets `end` to the end of the range of the keys that start with this one.
 fn set_end(end: &mut Vec<u8>, key: &[u8]) -> Result<(), AllocError>
     requires own { is_own key.now ≡ true }
     requires some { 0 < length key.now }
@@ -62,11 +65,11 @@ fn set_end(end: &mut Vec<u8>, key: &[u8]) -> Result<(), AllocError>
     Ok(())
 }
 
-// The child that was found last, if it begins the key.
+// Returns the child that was found last if the key starts with it.
 #[inline]
 fn begun_by<'a>(last: Option<&'a [u8]>, key: &[u8]) -> Option<&'a [u8]>
     ensures some { IfSome result (λ child.
-        (option_map (λ c. c.now) last.entry ≡ Some child.now) × Begins child.now key.now) }
+        (option_map (λ c. c.now) last.entry ≡ Some child.now) × IsPrefixOf child.now key.now) }
     ensures none { result ≡ None
         → IfSome last.entry (λ child. starts_with eqb key.now child.now ≡ false) }
 {
@@ -76,11 +79,11 @@ fn begun_by<'a>(last: Option<&'a [u8]>, key: &[u8]) -> Option<&'a [u8]>
     }
 }
 
-// The child, and the value of the entry that it begins if it is the entry's whole key.
+// Returns the child with the value of an entry whose key starts with it, if it is the whole key.
 #[inline]
 fn with_value<'a, V>(child: &'a [u8], key: &[u8], value: &'a V) -> (&'a [u8], Option<&'a V>)
     ensures { lent_child result ≡ (
-      key_values child.entry.now,
+      child.entry.now,
       if length child.entry.now == length key.now then Some value.entry.now else None,
     ) }
 {
@@ -95,24 +98,26 @@ fn with_value<'a, V>(child: &'a [u8], key: &[u8], value: &'a V) -> (&'a [u8], Op
 impl<V> PathTree<V> {
     ghost use Rattle.path_tree.specs.Tree.{table_of};
 
-    /// The children of the base: the key of each path that has one part more than the base and
-    /// begins an entry's path, in path order, each once, with the value at that path if there is
-    /// one.
+    /// Returns the keys of the children of the base in path order, each once, with the value at
+    /// that path if there is one.
     ///
-    /// A key is lent from that of an entry, as its beginning. An entry at the base is no child. Of
-    /// what lies below a child at most one entry is visited: the walk goes on behind the child's
-    /// range. Allocates as the list grows, and for the end of the range of a child that something
-    /// lies below; fails if an allocation fails, and then the list is dropped. If there are no
-    /// children, does not allocate, and succeeds. Not in Rust's std; as `std::fs::read_dir`.
+    /// A child is the base and one more component, if an entry's path starts with them. Its key is
+    /// a prefix of that entry's key, and borrowed from it. An entry at the base is not a child. The
+    /// walk visits at most two entries that start with a child, and then continues after the
+    /// child's range. Allocates as the list grows, and for the end of the range of a child if an
+    /// entry is below it. Fails if an allocation fails, and then the list is dropped. If there are
+    /// no children, does not allocate, and succeeds. Like `std::fs::read_dir`.
     ///
-    /// With 1 at `a/b/c`, 2 at `a/b/d`, 3 at `a/e` and 4 at `a`, of `a` it has 61 00 62 00 without
-    /// a value, and 61 00 65 00 with 3.
+    /// With 1 at `a/b/c`, 2 at `a/b/d`, 3 at `a/e` and 4 at `a`, the children of `a` are
+    /// 61 00 62 00 without a value, and 61 00 65 00 with 3.
     pub fn children<'a>(
         &'a self,
         base: &PathKey,
     ) -> Result<Vec<(&'a [u8], Option<&'a V>)>, AllocError>
-        ensures rows { IfOk result (λ found. map lent_child found.items
-            ≡ children_of (key_values (key_bytes base.now)) (table_of self.entry.now)) }
+        ensures entries { IfOk result (λ found. map lent_child found.items
+            ≡ keyed (children_of (key_values (key_bytes base.now)) (table_of self.entry.now))) }
+        ensures ordered { IfOk result (λ found.
+            IsStrictlySortedBy bytes_cmp (keys_of (map lent_child found.items))) }
         ensures succeeds { children_of (key_values (key_bytes base.now)) (table_of self.entry.now)
             ≡ [] → IsOk result }
     {

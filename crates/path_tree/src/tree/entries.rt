@@ -1,22 +1,22 @@
 //! The entries of a tree by the bytes of their keys.
-ghost use Rattle.std.specs.Prelude.{◌≡◌, true, IfOk, OnOk, OnErr, None, Some, is_some};
+ghost use Rattle.std.specs.Prelude.{◌≡◌, true, IfOk, OnOk, OnErr, None, Some};
 ghost use Rattle.std.specs.Borrow.{sem};
 ghost use Rattle.std.specs.BTreeMap.{insert_entry, is_at};
 ghost use Rattle.std.specs.Map.{remove_entry};
 ghost use Rattle.std.specs.Option.{option_copied, option_copied_mut};
 ghost use Rattle.unix_path.specs.Order.{values_cmp};
-ghost use Rattle.path_table.specs.Table.{SameElsewhere, value_at};
+ghost use Rattle.path_runs.specs.Rows.{SameElsewhere, value_at};
 ghost use Rattle.path_tree.specs.Read.{is_own, key_values};
 
 use super::PathTree;
-use crate::marks::Marks;
+use crate::key_filter::KeyFilter;
 use std::alloc::AllocError;
 
 impl<V> PathTree<V> {
     ghost use Rattle.path_tree.specs.Lent.{lends_value};
     ghost use Rattle.path_tree.specs.Tree.{table_of};
 
-    // The value at the path of this key.
+    // Returns the value at the path of this key.
     #[inline]
     pub(super) fn find(&self, key: &[u8]) -> Option<&V>
         requires { is_own key.now ≡ true }
@@ -25,29 +25,20 @@ impl<V> PathTree<V> {
         self.entries.get(key)
     }
 
-    // The value at the path of this key, for a key that the tree mostly lacks: no look-up is made
-    // if it isn't marked.
+    // Returns the value at the path of this key. Faster than `find` for keys that the tree lacks,
+    // most of which the filter rules out.
     #[inline]
-    pub(super) fn find_marked(&self, key: &[u8]) -> Option<&V>
+    pub(super) fn find_filtered(&self, key: &[u8]) -> Option<&V>
         requires { is_own key.now ≡ true }
         ensures { option_copied result ≡ value_at (key_values key.now) (table_of self.now) }
     {
-        if !self.marks.has(key) {
+        if !self.key_filter.may_contain(key) {
             return None;
         }
         self.find(key)
     }
 
-    // Whether the path of this key is in the tree.
-    #[inline]
-    pub(super) fn has(&self, key: &[u8]) -> bool
-        requires { is_own key.now ≡ true }
-        ensures { result ≡ is_some (value_at (key_values key.now) (table_of self.now)) }
-    {
-        self.find(key).is_some()
-    }
-
-    // A mutable reference to the value at the path of this key.
+    // Returns a mutable reference to the value at the path of this key.
     #[inline]
     pub(super) fn find_mut(&mut self, key: &[u8]) -> Option<&mut V>
         requires { is_own key.now ≡ true }
@@ -58,7 +49,7 @@ impl<V> PathTree<V> {
         self.entries.get_mut(key)
     }
 
-    // Puts the value at the path of this key, and gives the one that was there.
+    // Inserts the value at the path of this key, and returns the old one.
     pub(super) fn put(&mut self, key: Vec<u8>, value: V) -> Result<Option<V>, AllocError>
     where
         V: Drop,
@@ -73,24 +64,24 @@ impl<V> PathTree<V> {
             (SameElsewhere (key_values key.items) (table_of self.old) (table_of self.new)) }
         ensures err { OnErr result (table_of self.new ≡ table_of self.old) }
     {
-        self.marks.mark(key.as_slice());
+        self.key_filter.insert(key.as_slice());
         let old = self.entries.insert(key, value)?;
-        self.renew_marks();
+        self.rebuild_filter();
         Ok(old)
     }
 
-    // Makes the marks anew if it is time to. If the allocation fails, the old ones stay.
-    pub(super) fn renew_marks(&mut self)
+    // Rebuilds the filter if it is saturated. If the allocation fails, the old one stays.
+    pub(super) fn rebuild_filter(&mut self)
         ensures { table_of self.new ≡ table_of self.old }
     {
-        if self.marks.are_full(self.entries.len()) {
-            if let Ok(marks) = Marks::of_keys(self.alloc, &self.entries) {
-                self.marks = marks;
+        if self.key_filter.is_saturated(self.entries.len()) {
+            if let Ok(filter) = KeyFilter::from_keys(self.alloc, &self.entries) {
+                self.key_filter = filter;
             }
         }
     }
 
-    // Takes away the value at the path of this key.
+    // Removes and returns the value at the path of this key.
     #[inline]
     pub(super) fn take(&mut self, key: &[u8]) -> Option<V>
         requires { is_own key.now ≡ true }

@@ -1,21 +1,21 @@
-//! Values that are lent by their path, to be written.
+//! Mutable references to values, by path.
 ghost use Rattle.std.specs.Prelude.{◌≡◌, ◌≤◌, length, IfOk, IsErrOf, IsOk, IsSome, None, Some};
 ghost use Rattle.std.specs.Borrow.{sem};
 ghost use Rattle.std.specs.Fmt.{padded};
 ghost use Rattle.unix_path.specs.Parts.{values};
-ghost use Rattle.path_table.specs.Table.{value_at};
+ghost use Rattle.path_runs.specs.Rows.{value_at};
 ghost use Rattle.path_keys.specs.Keys.{key_of};
 
 use super::PathTree;
-use crate::made::{MadeKey, ROOM};
+use crate::lookup_key::{LookupKey, STACK_LEN};
 use std::alloc::AllocError;
 use std::error::Error;
 use std::fmt;
 use unix_path::Path;
 
-/// Why no value was lent.
+/// The error of [`PathTree::get_mut_path`].
 ///
-/// When it is displayed, its text is padded as any text is. Not in Rust's std.
+/// Its text is padded by width, precision, fill and alignment when it is displayed.
 #[derive(Debug, Drop)]
 pub enum LookupError {
     /// The tree has no such path. It is printed as `no such path`.
@@ -24,7 +24,7 @@ pub enum LookupError {
     Memory(AllocError),
 }
 
-/// The text of each variant, padded by width, precision, fill and alignment. Does not allocate.
+/// Writes the text of the variant, padded by width, precision, fill and alignment.
 ///
 /// `LookupError::Absent` is printed as `no such path`.
 impl fmt::Display for LookupError {
@@ -44,9 +44,10 @@ impl fmt::Display for LookupError {
 
 impl Error for LookupError {}
 
-/// `Memory`, with the error of the allocation. Does not allocate.
+/// Returns `Memory` with the error of the allocation.
 ///
-/// With it `?` works on a `PathTree::insert` in a function whose error is a `LookupError`.
+/// With it, `?` works on the result of `PathTree::insert` in a function whose error is
+/// `LookupError`.
 impl From<AllocError> for LookupError {
     ghost use Rattle.path_tree.specs.declared.tree.lookup.LookupError.TheVariants.{Memory};
 
@@ -61,12 +62,11 @@ impl<V> PathTree<V> {
     ghost use Rattle.path_tree.specs.Lent.{lends_found};
     ghost use Rattle.path_tree.specs.Tree.{table_of};
 
-    /// A mutable reference to the value at the path that is equal to this one; `Absent` if there is
-    /// no such path.
+    /// Returns a mutable reference to the value at the path that is equal to this one.
     ///
-    /// Does not allocate if the path's key has at most 512 bytes, as it has for each path of up to
-    /// 510; else allocates once, and fails if the allocation fails. If it answers an error the tree
-    /// stays as it was. As Rust's `BTreeMap::get_mut`.
+    /// Allocates, once, only if the path's key is longer than 512 bytes, which requires a path of
+    /// more than 510 bytes. The error is `Memory` if that allocation fails, and otherwise `Absent`
+    /// if there is no such path. After an error the tree is unchanged. Like `BTreeMap::get_mut`.
     ///
     /// With 1 at `a/b`, writing 2 through the reference for `a//b` leaves 2 at `a/b`.
     pub fn get_mut_path(&mut self, path: Path<'_>) -> Result<&mut V, LookupError>
@@ -79,9 +79,9 @@ impl<V> PathTree<V> {
         ensures succeeds { length (key_of (values path.entry.bytes.now)) ≤ 512
             → IsSome (value_at (values path.entry.bytes.now) (table_of self.old)) → IsOk result }
     {
-        let mut room = [0u8; ROOM];
-        let made = MadeKey::of(self.alloc, path, &mut room)?;
-        match self.find_mut(made.as_bytes()) {
+        let mut buffer = [0u8; STACK_LEN];
+        let key = LookupKey::of(self.alloc, path, &mut buffer)?;
+        match self.find_mut(key.as_bytes()) {
             Some(value) => Ok(value),
             None => Err(LookupError::Absent),
         }

@@ -1,4 +1,4 @@
-//! Many entries at once: inserted one after the other, and removed by a base.
+//! Inserting many entries one after the other, and removing all entries under a base.
 ghost use Rattle.std.specs.Prelude.{◌≡◌, List, [], IfOk, OnOk, OnErr, length};
 ghost use Rattle.std.specs.Iterator.{IsFinite};
 ghost use Rattle.unix_path.specs.Parts.{Value};
@@ -8,7 +8,7 @@ ghost use Rattle.path_tree.specs.Read.{key_values};
 ghost use Rattle.path_tree.specs.Rows.{rows_outside, rows_under};
 
 use super::PathTree;
-use crate::made::bytes_of;
+use crate::lookup_key::bytes_of;
 use path_keys::PathKey;
 use std::alloc::{AllocError, Global};
 use unix_path::Path;
@@ -16,13 +16,13 @@ use unix_path::Path;
 impl<V> PathTree<V> {
     ghost use Rattle.path_tree.specs.Tree.{table_of};
 
-    /// A tree of these values, each inserted at its path, one after the other.
+    /// Creates a tree by inserting each value at its path, one after the other.
     ///
-    /// The caller shows that `items` may be asked for a next item, and that it ends. Of equal paths
-    /// the last one's value stays. Allocates as `insert` does for each item; fails if an allocation
-    /// fails, and then all values are dropped. As `FromIterator` of Rust's `BTreeMap`.
+    /// The caller shows that `next` may be called on `items`, and that `items` ends. Of equal
+    /// paths, the tree has the value of the last one. Allocates as `insert` does for each item.
+    /// Fails if an insertion fails, and then all values are dropped.
     ///
-    /// Of 1 at `a/b`, 2 at `c` and 3 at `a//b` it has 3 at `a/b`, and 2 at `c`.
+    /// From 1 at `a/b`, 2 at `c` and 3 at `a//b` it creates a tree with 3 at `a/b` and 2 at `c`.
     pub fn from_iter<'a, I: Iterator<Item = (Path<'a>, V)>>(
         alloc: Global,
         items: I,
@@ -40,14 +40,14 @@ impl<V> PathTree<V> {
         Ok(tree)
     }
 
-    /// Inserts each of these values at its path, one after the other.
+    /// Inserts each value at its path, one after the other.
     ///
-    /// The caller shows that `items` may be asked for a next item, and that it ends. Of equal paths
-    /// the last one's value stays. Allocates as `insert` does for each item; if an allocation
-    /// fails, the tree is as the insertions before it left it, and that item is dropped. As
-    /// `Extend` of Rust's `BTreeMap`.
+    /// The caller shows that `next` may be called on `items`, and that `items` ends. Of equal
+    /// paths, the tree has the value of the last one. Allocates as `insert` does for each item. If
+    /// an insertion fails, the tree is as the insertions before it left it, and its item is
+    /// dropped.
     ///
-    /// With 1 at `a/b`, extended by 2 at `c` and 3 at `a//b`, it has 3 at `a/b`, and 2 at `c`.
+    /// A tree with 1 at `a/b`, extended by 2 at `c` and 3 at `a//b`, has 3 at `a/b` and 2 at `c`.
     #[tactic(auto, using(crate::proofs::lemmas::rows::ManyLemmas::inserted_all_snoc))]
     pub fn extend<'a, I: Iterator<Item = (Path<'a>, V)>>(
         &mut self,
@@ -68,12 +68,13 @@ impl<V> PathTree<V> {
         Ok(())
     }
 
-    /// Removes each entry whose key starts with that of the base, and returns how many there were.
+    /// Removes each entry whose key starts with the key of the base, and returns the number of
+    /// entries removed.
     ///
-    /// Whole parts count: `a.b` isn't under `a`. Visits every entry. Does not allocate. Not in
-    /// Rust's std; as `BTreeMap::retain`.
+    /// Whole components count: `a.b` is not under `a`. Visits every entry, like `BTreeMap::retain`.
     ///
-    /// With 1 at `a/b`, 2 at `a` and 3 at `a.b`, under `a` it removes 2, and leaves 3 at `a.b`.
+    /// With 1 at `a/b`, 2 at `a` and 3 at `a.b`, it removes 2 entries under `a`, and leaves 3 at
+    /// `a.b`.
     pub fn remove_under(&mut self, base: &PathKey) -> usize
     where
         V: Drop,

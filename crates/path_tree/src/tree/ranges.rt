@@ -1,53 +1,59 @@
-//! The entries of a tree in path order: all of them, and those under a base.
-ghost use Rattle.std.specs.Prelude.{◌≡◌, ◌<◌, ◌^◌, ◌-◌, true, [], IfOk, IsOk, Some};
-ghost use Rattle.std.specs.Prelude.{length, option_map, slice_get};
+//! The entries of a tree in path order: all entries, and the entries under a base.
+ghost use Rattle.std.specs.Prelude.{◌≡◌, ◌<◌, ◌^◌, ◌-◌, [], IfOk, IfSome, IsOk, Some};
+ghost use Rattle.std.specs.Prelude.{length, map, option_map, slice_get};
+ghost use Rattle.std.specs.List.{All};
 ghost use Rattle.std.specs.List.Sorted.{IsStrictlySortedBy};
 ghost use Rattle.std.specs.Map.{keys_of};
 ghost use Rattle.std.specs.Map.Iter.{ShowsInOrder, ShowsInReverse, deref_pair};
 ghost use Rattle.unix_path.specs.Order.{values_cmp};
 ghost use Rattle.path_keys.specs.Held.{key_bytes};
-ghost use Rattle.path_keys.specs.Ranges.{end_of};
-ghost use Rattle.path_tree.specs.Read.{is_own, key_values};
-ghost use Rattle.path_tree.specs.Rows.{Key, key_rows, rows_under};
+ghost use Rattle.path_keys.specs.Keys.{IsKey};
+ghost use Rattle.path_keys.specs.Ranges.{bytes_cmp, end_of};
+ghost use Rattle.path_tree.specs.Difference.{lent_entry};
+ghost use Rattle.path_tree.specs.Read.{key_values};
+ghost use Rattle.path_tree.specs.Rows.{Key, entries_under, key_entries};
 
 use super::PathTree;
-use crate::made::vec_of;
+use crate::lookup_key::vec_of;
 use path_keys::{KeyRange, PathKey};
 use std::alloc::AllocError;
 use std::collections::btree_map::{Iter, Range};
 
 impl<V> PathTree<V> {
-    ghost use Rattle.path_tree.specs.Tree.{table_of};
+    ghost use Rattle.path_tree.specs.Tree.{entries_of, table_of};
 
-    /// The keys and their values, in path order. Does not allocate. As Rust's `BTreeMap::iter`.
+    /// Returns an iterator over the keys and their values, in path order.
     ///
-    /// A key reads back by `path_of`. With 1 at `a.b` and 2 at `a//b` it gives 61 00 62 00 with 2,
-    /// and then 61 2F 62 00 with 1.
+    /// `path_of` reads a key back. With 1 at `a.b` and 2 at `a//b`, the iterator yields 61 00 62 00
+    /// with 2, and then 61 2F 62 00 with 1.
     pub fn iter(&self) -> Iter<'_, Vec<u8>, V>
-        ensures rows { key_rows result ≡ table_of self.now }
-        ensures ordered { IsStrictlySortedBy values_cmp (keys_of (table_of self.now)) }
+        ensures entries { key_entries result ≡ entries_of self.now }
+        ensures ordered { IsStrictlySortedBy bytes_cmp (keys_of (entries_of self.now)) }
         ensures runs { ShowsInOrder (deref_pair {K = Key} {X = V}) }
         ensures runs_back { ShowsInReverse (deref_pair {K = Key} {X = V}) }
-        ensures fits { length (table_of self.now) < 2 ^ 63 }
+        ensures fits { length (entries_of self.now) < 2 ^ 63 }
     {
         self.entries.iter()
     }
 
-    /// The keys that start with that of the base, and their values, in path order.
+    /// Returns an iterator over the keys that start with the key of the base, and their values, in
+    /// path order.
     ///
-    /// Whole parts count: `a.b` isn't under `a`. An entry at the base comes first. A key without
-    /// the base's bytes in front is that of what follows the base. The walk visits no other
-    /// entries. Allocates once, as many bytes as the base's key has, or not at all for the empty
-    /// path; fails if the allocation fails. Not in Rust's std.
+    /// Whole components count: `a.b` is not under `a`. An entry at the base comes first. The bytes
+    /// of a key after the base's key are the key of what follows the base. The walk visits no other
+    /// entries. Allocates once, the length of the base's key, or not at all for the empty path.
+    /// Fails if the allocation fails.
     ///
     /// No `..` is resolved: `a/../b` is under `a`. To keep a path below a directory, use
-    /// `Request::new` and `Root::join` of the crate `path_within`, or its `join_within`.
+    /// `Request::beneath` and `Root::join` of the crate `path_within`, or its `join_within`.
     ///
-    /// With 1 at `a/b`, 2 at `a` and 3 at `a.b`, under `a` it gives 61 00 with 2, and then
-    /// 61 00 62 00 with 1.
+    /// With 1 at `a/b`, 2 at `a` and 3 at `a.b`, the iterator under `a` yields 61 00 with 2, and
+    /// then 61 00 62 00 with 1.
     pub fn under(&self, base: &PathKey) -> Result<Range<'_, Vec<u8>, V>, AllocError>
-        ensures rows { IfOk result (λ range. key_rows range
-            ≡ rows_under (key_values (key_bytes base.now)) (table_of self.now)) }
+        ensures entries { IfOk result (λ range. key_entries range
+            ≡ entries_under (key_bytes base.now) (entries_of self.now)) }
+        ensures ordered { IfOk result (λ range.
+            IsStrictlySortedBy bytes_cmp (keys_of (key_entries range))) }
         ensures runs { IsOk result → ShowsInOrder (deref_pair {K = Key} {X = V}) }
         ensures runs_back { IsOk result → ShowsInReverse (deref_pair {K = Key} {X = V}) }
         ensures fits { IfOk result (λ range. length range < 2 ^ 63) }
@@ -60,13 +66,13 @@ impl<V> PathTree<V> {
         Ok(self.between(vec_of(base), &end))
     }
 
-    // The entries under the base with the first key, with which the range begins that ends before
-    // the second.
+    // Returns the entries whose keys start with the first key. The second key is the end of their
+    // range.
     fn between(&self, first: &Vec<u8>, end: &Vec<u8>) -> Range<'_, Vec<u8>, V>
-        requires own { is_own first.now.items ≡ true }
-        requires ends { end_of first.now.items ≡ Some end.now.items }
-        ensures rows { key_rows result
-            ≡ rows_under (key_values first.now.items) (table_of self.now) }
+        requires { end_of first.now.items ≡ Some end.now.items }
+        ensures entries { key_entries result
+            ≡ entries_under first.now.items (entries_of self.now) }
+        ensures ordered { IsStrictlySortedBy bytes_cmp (keys_of (key_entries result)) }
         ensures runs { ShowsInOrder (deref_pair {K = Key} {X = V}) }
         ensures runs_back { ShowsInReverse (deref_pair {K = Key} {X = V}) }
         ensures fits { length result < 2 ^ 63 }
@@ -74,13 +80,25 @@ impl<V> PathTree<V> {
         self.entries.range(first..end)
     }
 
-    /// The first key in path order, and its value; `None` if there are no entries. Does not
-    /// allocate. As Rust's `BTreeMap::first_key_value`.
+    // Does nothing. Its contract states what the tree's invariant says of the entries.
+    #[inline]
+    pub(crate) fn show_entries(&self)
+        ensures keys { All IsKey (keys_of (entries_of self.now)) }
+        ensures ordered { IsStrictlySortedBy bytes_cmp (keys_of (entries_of self.now)) }
+        ensures rows { map (λ e. (key_values e.0, e.1)) (entries_of self.now)
+            ≡ table_of self.now }
+        ensures rows_ordered { IsStrictlySortedBy values_cmp (keys_of (table_of self.now)) }
+    {
+        let _len = self.entries.len();
+    }
+
+    /// Returns the first key in path order, and its value; `None` if there are no entries. Like
+    /// `BTreeMap::first_key_value`.
     ///
     /// With 1 at `a.b` and 2 at `a/b` it is 61 00 62 00 with 2.
     pub fn first(&self) -> Option<(&[u8], &V)>
-        ensures { option_map (λ entry. (key_values entry.0.now, entry.1.now)) result
-            ≡ slice_get (table_of self.now) 0 }
+        ensures entry { option_map lent_entry result ≡ slice_get (entries_of self.now) 0 }
+        ensures key { IfSome result (λ entry. IsKey entry.0.now) }
     {
         let Some((key, value)) = self.entries.first_key_value() else {
             return None;
@@ -88,13 +106,14 @@ impl<V> PathTree<V> {
         Some((key.as_slice(), value))
     }
 
-    /// The last key in path order, and its value; `None` if there are no entries. Does not
-    /// allocate. As Rust's `BTreeMap::last_key_value`.
+    /// Returns the last key in path order, and its value; `None` if there are no entries. Like
+    /// `BTreeMap::last_key_value`.
     ///
     /// With 1 at `a.b` and 2 at `a/b` it is 61 2F 62 00 with 1.
     pub fn last(&self) -> Option<(&[u8], &V)>
-        ensures { option_map (λ entry. (key_values entry.0.now, entry.1.now)) result
-            ≡ slice_get (table_of self.now) (length (table_of self.now) - 1) }
+        ensures entry { option_map lent_entry result
+            ≡ slice_get (entries_of self.now) (length (entries_of self.now) - 1) }
+        ensures key { IfSome result (λ entry. IsKey entry.0.now) }
     {
         let Some((key, value)) = self.entries.last_key_value() else {
             return None;

@@ -1,4 +1,4 @@
-//! Trees of items whose paths rise, made at once.
+//! Trees created at once from items whose paths are strictly increasing.
 ghost use Rattle.std.specs.Prelude.{◌≡◌, List, [], ◌∷◌, ◌++◌, IfOk, IsErrOf, OnOk, Some, true};
 ghost use Rattle.std.specs.BTreeMap.{IsFromIterResult};
 ghost use Rattle.std.specs.Fmt.{padded};
@@ -9,26 +9,26 @@ ghost use Rattle.path_tree.specs.Rows.{Key};
 ghost use Rattle.path_tree.specs.Sorted.{ListsAll, StopsRising};
 
 use super::PathTree;
-use crate::made::owned_key;
-use crate::marks::Marks;
+use crate::key_filter::KeyFilter;
+use crate::lookup_key::owned_key;
 use std::alloc::{AllocError, Global};
 use std::collections::BTreeMap;
 use std::error::Error;
 use std::fmt;
 use unix_path::Path;
 
-/// Why a tree couldn't be made of items that should rise.
+/// The error of [`PathTree::from_sorted`].
 ///
-/// When it is displayed, its text is padded as any text is. Not in Rust's std.
+/// Its text is padded by width, precision, fill and alignment when it is displayed.
 #[derive(Debug, Drop)]
 pub enum SortedError {
-    /// A path isn't greater than the one before it. It is printed as `paths are not sorted`.
+    /// A path is not greater than the path before it. It is printed as `paths are not sorted`.
     NotSorted,
     /// An allocation failed. It is printed as `out of memory`.
     Memory(AllocError),
 }
 
-/// The text of each variant, padded by width, precision, fill and alignment. Does not allocate.
+/// Writes the text of the variant, padded by width, precision, fill and alignment.
 ///
 /// `SortedError::NotSorted` is printed as `paths are not sorted`.
 impl fmt::Display for SortedError {
@@ -48,9 +48,10 @@ impl fmt::Display for SortedError {
 
 impl Error for SortedError {}
 
-/// `Memory`, with the error of the allocation. Does not allocate.
+/// Returns `Memory` with the error of the allocation.
 ///
-/// With it `?` works on a `PathTree::insert` in a function whose error is a `SortedError`.
+/// With it, `?` works on the result of `PathTree::insert` in a function whose error is
+/// `SortedError`.
 impl From<AllocError> for SortedError {
     ghost use Rattle.path_tree.specs.declared.tree.sorted.SortedError.TheVariants.{Memory};
 
@@ -61,7 +62,7 @@ impl From<AllocError> for SortedError {
     }
 }
 
-// Whether the key is greater than the last one of the entries, if there is one.
+// Returns true if the key is greater than the last key of the entries, or there is none.
 fn rises<V>(entries: &[(Vec<u8>, V)], key: &Vec<u8>) -> bool
     ensures first { entries.now ≡ [] → result ≡ true }
     ensures others { (front : List (Key × V)) (last : Key × V) → entries.now ≡ front ++ last ∷ []
@@ -73,7 +74,7 @@ fn rises<V>(entries: &[(Vec<u8>, V)], key: &Vec<u8>) -> bool
     }
 }
 
-// Puts an entry behind the others.
+// Appends an entry.
 pub(super) fn put_last<V: Drop>(
     entries: &mut Vec<(Vec<u8>, V)>,
     key: Vec<u8>,
@@ -85,7 +86,7 @@ pub(super) fn put_last<V: Drop>(
     Ok(())
 }
 
-// The map of these entries.
+// Returns the map of these entries.
 fn map_of<V: Drop>(
     alloc: Global,
     entries: Vec<(Vec<u8>, V)>,
@@ -99,17 +100,20 @@ fn map_of<V: Drop>(
 impl<V> PathTree<V> {
     ghost use Rattle.path_tree.specs.Tree.{table_of};
 
-    /// A tree of these values at their paths, each of which has to be greater than the one before
-    /// it.
+    /// Creates a tree of these values at their paths, which have to be strictly increasing.
     ///
-    /// The caller shows that `items` may be asked for a next item, and that it ends. Asks for no
-    /// more items behind one that isn't greater. The tree is filled at once, in time linear in the
-    /// items and the bytes of their keys, where `from_iter` looks for each one's place. Allocates
-    /// for each path's key, for a list of the items twice, and for the tree; fails if an allocation
-    /// fails. It also allocates for marks, as `insert` does. If it fails all values are dropped. As
-    /// `FromIterator` of Rust's `BTreeMap` does for a list that is sorted.
+    /// The caller shows that `next` may be called on `items`, and that `items` ends. If a path is
+    /// not greater than the path before it, the error is `NotSorted`, and the items after it are
+    /// not read. If an allocation fails, the error is `Memory`. After an error all values are
+    /// dropped.
     ///
-    /// Of 1 at `a/b` and 2 at `a.b` it has both; 1 at `b` and 2 at `a` are refused.
+    /// The tree is filled at once, in time linear in the items and the bytes of their keys, whereas
+    /// `from_iter` searches the tree for each item. Allocates for each path's key, for a list of
+    /// the items twice, for the tree, and for the Bloom filter as `insert` does. `FromIterator` of
+    /// `BTreeMap` does the same for a sorted list.
+    ///
+    /// From 1 at `a/b` and 2 at `a.b` it creates a tree with both. For 1 at `b` and 2 at `a` it
+    /// fails.
     pub fn from_sorted<'a, I: Iterator<Item = (Path<'a>, V)>>(
         alloc: Global,
         items: I,
@@ -133,9 +137,9 @@ impl<V> PathTree<V> {
         let mut tree = PathTree {
             alloc,
             entries: map_of(alloc, entries)?,
-            marks: Marks::none(alloc),
+            key_filter: KeyFilter::accept_all(alloc),
         };
-        tree.renew_marks();
+        tree.rebuild_filter();
         Ok(tree)
     }
 }

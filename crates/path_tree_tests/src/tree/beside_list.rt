@@ -1,4 +1,4 @@
-//! Random calls of a tree, beside a list of the same paths and values.
+//! Random calls of a tree, compared with a list of the same paths and values.
 use path_keys::{PathKey, path_of};
 use path_tree::PathTree;
 use std::alloc::{AllocError, Global};
@@ -12,7 +12,7 @@ const CALLS: u32 = 60;
 
 static LETTERS: [u8; 8] = *b"/./.aabb";
 
-// A random path of at most six bytes.
+// Returns a random path of at most six bytes.
 fn path_from(alloc: Global, random: &mut Random) -> Result<PathBuf, AllocError> {
     let mut bytes = Vec::new(alloc);
     for _ in 0..random.next() % 7 {
@@ -21,7 +21,7 @@ fn path_from(alloc: Global, random: &mut Random) -> Result<PathBuf, AllocError> 
     Path::from_bytes(&bytes).to_path_buf(alloc)
 }
 
-// The part that follows the base in the path, if one does.
+// Returns the component that follows the base in the path, if one does.
 fn first_behind<'a>(path: Path<'a>, base: Path<'_>) -> Option<Component<'a>> {
     match path.strip_prefix(base) {
         Ok(rest) => rest.components().next(),
@@ -29,7 +29,7 @@ fn first_behind<'a>(path: Path<'a>, base: Path<'_>) -> Option<Component<'a>> {
     }
 }
 
-// Paths, no two of them equal, and their values.
+// Paths, no two of which are equal, and their values.
 #[derive(Drop)]
 struct Listed {
     files: Vec<(PathBuf, u32)>,
@@ -47,7 +47,7 @@ impl Listed {
         }
     }
 
-    // How many paths start with this one.
+    // Returns the number of paths that start with this one.
     fn count_under(&self, base: Path<'_>) -> usize {
         let mut count = 0usize;
         for (path, _) in &self.files {
@@ -58,7 +58,8 @@ impl Listed {
         count
     }
 
-    // How many children the base has: parts that come first behind it, each counted once.
+    // Returns the number of children of the base: components that follow it directly, each counted
+    // once.
     fn count_children(&self, base: Path<'_>) -> usize {
         let mut count = 0usize;
         for (place, (path, _)) in self.files.iter().enumerate() {
@@ -75,7 +76,8 @@ impl Listed {
         count
     }
 
-    // The value at the longest of the paths that begin this one, and what is left of this path.
+    // Returns the rest of this path after the longest of the paths that it starts with, and the
+    // value at that path.
     fn longest_prefix<'a>(&self, path: Path<'a>) -> Option<(Path<'a>, u32)> {
         let mut most = 0;
         let mut found = None;
@@ -97,7 +99,7 @@ impl Listed {
         Ok(old)
     }
 
-    // Inserts each of these at its path, one after the other.
+    // Inserts each value at its path, one after the other.
     fn insert_all(&mut self, alloc: Global, files: &[(Path<'_>, u32)]) -> Result<(), AllocError> {
         for (path, value) in files {
             self.insert(path.to_path_buf(alloc)?, *value)?;
@@ -115,7 +117,7 @@ impl Listed {
         }
     }
 
-    // Removes the paths that start with this one, and says how many there were.
+    // Removes the paths that start with this one, and returns the number of paths removed.
     fn remove_under(&mut self, base: Path<'_>) -> usize {
         let before = self.files.len();
         self.files
@@ -124,8 +126,8 @@ impl Listed {
     }
 }
 
-// Moves what is under the path to another in both, and says whether they are alike then: moved, or
-// as they were.
+// Moves the entries under the path to a random path, in the tree and in the list. Returns true if
+// both then have the same files, whether the move succeeds or is refused.
 fn moves_alike(
     alloc: Global,
     random: &mut Random,
@@ -165,7 +167,7 @@ fn are_alike(found: Option<(Path<'_>, &u32)>, want: Option<(Path<'_>, u32)>) -> 
     }
 }
 
-// Whether the tree has each file of the list.
+// Returns true if the tree has exactly the files of the list.
 fn has_all(tree: &PathTree<u32>, listed: &Listed) -> Result<bool, AllocError> {
     for (path, value) in &listed.files {
         if tree.get_path(path.as_path())? != Some(value) {
@@ -175,8 +177,8 @@ fn has_all(tree: &PathTree<u32>, listed: &Listed) -> Result<bool, AllocError> {
     Ok(tree.len() == listed.files.len())
 }
 
-// Inserts the value at the path and another at a random path into both, and says whether they are
-// alike then.
+// Extends the tree and the list by the value at the path, and by another value at a random path.
+// Returns true if both then have the same files.
 fn extends_alike(
     alloc: Global,
     random: &mut Random,
@@ -191,8 +193,8 @@ fn extends_alike(
     has_all(tree, listed)
 }
 
-// Whether the tree has what a tree of three random paths lacks, as the list says it: as many
-// entries, and each of them a file of the list at a path that isn't one of the three.
+// Compares the tree with a tree of three random paths. Returns true if `difference` returns as many
+// entries as the list has files at other paths than these three, and each entry is such a file.
 fn lacks_alike(
     alloc: Global,
     random: &mut Random,
@@ -227,7 +229,7 @@ fn lacks_alike(
     Ok(found.len() == count && changes_alike(tree, listed, &others, &other)?)
 }
 
-// Whether the trees have as many files with different values as the lists.
+// Returns true if as many paths have different values in the two trees as in the two lists.
 fn changes_alike(
     tree: &PathTree<u32>,
     listed: &Listed,
@@ -247,8 +249,8 @@ fn changes_alike(
     Ok(tree.changed(others)?.len() == count)
 }
 
-// Whether the tree has the children of the base that the list says: as many, each the base and one
-// part more, with what stands there, and the path of some file begins with it.
+// Returns true if the tree has as many children of the base as the list, each of them is the base
+// and one more component, with the value at that path, and each is a prefix of some file's path.
 fn has_children(
     alloc: Global,
     tree: &PathTree<u32>,
@@ -271,7 +273,7 @@ fn has_children(
     Ok(found.len() == listed.count_children(base))
 }
 
-// Makes one call of the tree and one of the list, and says whether they answer alike.
+// Makes one call of the tree and one of the list, and returns true if the results are the same.
 fn answers_alike(
     alloc: Global,
     random: &mut Random,
@@ -299,8 +301,8 @@ fn answers_alike(
     })
 }
 
-// How many calls of a tree and a list answer alike, and leave as many files in both, before one
-// pair of calls doesn't.
+// Calls a tree and a list in the same way. Returns the number of such pairs of calls before the
+// first pair whose results differ, or that leaves different numbers of files.
 fn calls_alike(alloc: Global, seed: u64) -> Result<u32, AllocError> {
     let mut random = Random::new(seed);
     let mut tree = PathTree::new(alloc);

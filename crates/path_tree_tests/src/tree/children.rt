@@ -5,8 +5,8 @@ use std::alloc::{AllocError, Global};
 use std::test::Fail;
 use unix_path::Path;
 
-// Paths of a tree, a base, and its children with the place of the path among the first, from 1, if
-// it is one of them.
+// Paths of a tree, a base, and its children, each with its position among the paths, counted from
+// 1, if it is one of them.
 type Row = (
     &'static [&'static str],
     &'static str,
@@ -62,7 +62,7 @@ static CHILDREN: [Row; 14] = [
     ),
 ];
 
-// Whether the children of the base in the tree of the row's paths are those that the row says.
+// Returns true if the base has the children in the row, in the tree of the row's paths.
 fn has_children(alloc: Global, row: &Row) -> Result<bool, AllocError> {
     let tree = tree_of(alloc, row.0)?;
     let base = PathKey::from_path(alloc, Path::from_text(row.1))?;

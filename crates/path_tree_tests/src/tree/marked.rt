@@ -1,15 +1,16 @@
-//! The nearest entries of many paths in a tree with marks, beside a search by numbers.
+//! The nearest entries of many paths in a tree with a Bloom filter, compared with a search by
+//! numbers.
 use path_keys::PathKey;
 use path_tree::PathTree;
 use std::alloc::{AllocError, Global};
 use std::test::Fail;
 use unix_path::{Path, PathBuf};
 
-// So many that marks are made, and made anew.
+// Enough files that a Bloom filter is created, and rebuilt.
 const FILES: u64 = 700;
 
-// The path of a number: a root, and a name for each of its digits to the base 5. So its parent is
-// that of a fifth of the number.
+// Returns the path of a number: a root, and a name for each of its digits to the base 5. The path's
+// parent is therefore the path of the number divided by 5, rounded down.
 fn path_of_number(alloc: Global, number: u64) -> Result<PathBuf, AllocError> {
     let mut bytes = Vec::new(alloc);
     let mut left = number;
@@ -24,12 +25,13 @@ fn path_of_number(alloc: Global, number: u64) -> Result<PathBuf, AllocError> {
     Path::from_bytes(&bytes).to_path_buf(alloc)
 }
 
-// Whether the path of the number is in the tree, with the number as its value.
+// Returns true if the path of the number is in the tree, with the number as its value.
 fn stands(number: u64) -> bool {
     number < FILES && number % 3 != 0 && number % 7 != 0
 }
 
-// The number whose path is nearest, and how many names are left; 0 if none is.
+// Returns the number whose path is nearest, or 0 if there is none, and the number of names after
+// that path.
 fn nearest_number(number: u64) -> (u64, usize) {
     let mut near = number;
     let mut left = 0usize;
@@ -42,7 +44,7 @@ fn nearest_number(number: u64) -> (u64, usize) {
     (near, left)
 }
 
-// A tree of the paths of these numbers, of which some were in it for a while only.
+// Returns a tree of the paths of these numbers, some of which were in it only temporarily.
 fn filled(alloc: Global) -> Result<PathTree<u64>, AllocError> {
     let mut tree = PathTree::new(alloc);
     for number in 1..FILES {

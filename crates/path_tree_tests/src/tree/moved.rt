@@ -1,4 +1,4 @@
-//! Entries that are moved from one base to another, by hand.
+//! Moves of entries from one base to another, by hand.
 use super::tree_of;
 use path_keys::PathKey;
 use path_tree::PathTree;
@@ -6,8 +6,9 @@ use std::alloc::{AllocError, Global};
 use std::test::Fail;
 use unix_path::Path;
 
-// Paths of a tree, the source and the target, and how many entries are moved with what the tree has
-// then, by the places of the paths, from 1; or why nothing is moved.
+// Paths of a tree, whose values are their positions, counted from 1; the source and the target of a
+// move; and its result: the number of entries moved and the entries that the tree then has, or the
+// text of the error.
 type Row = (
     &'static [&'static str],
     &'static str,
@@ -56,7 +57,7 @@ static MOVES: [Row; 18] = [
     (&["/a"], "", "b", Err("the target is inside its source")),
 ];
 
-// Whether the tree has these entries, in this order.
+// Returns true if the tree has these entries, in this order.
 fn has_entries(
     alloc: Global,
     tree: &PathTree<u32>,
@@ -71,7 +72,8 @@ fn has_entries(
     Ok(tree.len() == want.len())
 }
 
-// Whether the row's tree is moved as it says, or is refused and stays as it was.
+// Returns true if the row's tree is moved as the row says, or if the move fails as it says and the
+// tree is unchanged.
 fn is_moved(alloc: Global, row: &Row) -> Result<bool, AllocError> {
     let mut tree = tree_of(alloc, row.0)?;
     let from = PathKey::from_path(alloc, Path::from_text(row.1))?;

@@ -4,8 +4,8 @@ use std::alloc::{AllocError, Global};
 use std::test::Fail;
 use unix_path::Path;
 
-// The tree's paths, a path, and what is left of it behind its nearest entry with the place of that
-// among the paths, from 1.
+// The tree's paths, a path, and its rest after its nearest entry, with the position of that entry
+// among the paths, counted from 1.
 type Row = (
     &'static [&'static str],
     &'static str,
@@ -52,7 +52,7 @@ fn what_is_nearest(rt: HostRuntime) -> Result<(), Fail> {
     Ok(())
 }
 
-// A path whose key is longer than one on the stack may be.
+// Tests a path whose key is longer than a key on the stack may be.
 #[test]
 fn what_is_nearest_to_a_long_path(rt: HostRuntime) -> Result<(), Fail> {
     let alloc = rt.alloc();

@@ -1,4 +1,4 @@
-//! What is under bases in trees, by hand, and their first and last entries.
+//! The entries under bases in trees, by hand, and the first and last entries.
 use super::tree_of;
 use path_keys::PathKey;
 use path_tree::PathTree;
@@ -6,7 +6,7 @@ use std::alloc::{AllocError, Global};
 use std::test::Fail;
 use unix_path::Path;
 
-// Paths of a tree, a base, and those that start with it, in path order.
+// Paths of a tree, a base, and the paths that start with it, in path order.
 type Row = (
     &'static [&'static str],
     &'static str,
@@ -31,7 +31,7 @@ fn is_key_of(alloc: Global, key: &[u8], path: &str) -> Result<bool, AllocError> 
     Ok(PathKey::from_path(alloc, Path::from_text(path))?.as_bytes() == key)
 }
 
-// Whether the tree of the row's paths has under the base what the row says.
+// Returns true if the tree of the row's paths has the entries in the row under the base.
 fn has_under(alloc: Global, row: &Row) -> Result<bool, AllocError> {
     let tree = tree_of(alloc, row.0)?;
     let base = PathKey::from_path(alloc, Path::from_text(row.1))?;
@@ -56,8 +56,8 @@ fn what_is_under_a_base(rt: HostRuntime) -> Result<(), Fail> {
     Ok(())
 }
 
-// Whether the tree of the row's paths has as many removed under the base as the row says, and has
-// the others still, of which none is equal to one that was removed.
+// Returns true if as many entries under the base are removed from the tree of the row's paths as
+// the row says, and the tree then has all paths except these.
 fn removes_under(alloc: Global, row: &Row) -> Result<bool, AllocError> {
     let mut tree = tree_of(alloc, row.0)?;
     let base = Path::from_text(row.1);
@@ -82,7 +82,7 @@ fn what_is_removed_under_a_base(rt: HostRuntime) -> Result<(), Fail> {
     Ok(())
 }
 
-// Whether the entry is this value at this path.
+// Returns true if the entry is this value at this path.
 fn is_entry(
     alloc: Global,
     entry: Option<(&[u8], &u32)>,
@@ -95,7 +95,7 @@ fn is_entry(
     }
 }
 
-// Whether the tree's values, in path order, are 4, 2, 1 and 3.
+// Returns true if the tree's values, in path order, are 4, 2, 1 and 3.
 fn has_values_in_order(tree: &PathTree<u32>) -> bool {
     let mut values = [0; 4];
     for (place, (_, value)) in tree.iter().enumerate() {
@@ -118,7 +118,7 @@ fn entries_in_path_order(rt: HostRuntime) -> Result<(), Fail> {
     Ok(())
 }
 
-// Whether the first tree has these entries that the other lacks.
+// Returns true if these are the entries of the first tree that the other lacks.
 fn lacks(
     tree: &PathTree<u32>,
     other: &PathTree<u32>,
@@ -136,7 +136,7 @@ fn what_another_tree_lacks(rt: HostRuntime) -> Result<(), Fail> {
     Ok(())
 }
 
-// Whether the trees have these entries with different values.
+// Returns true if these are the entries that the trees have with different values.
 fn differ(
     tree: &PathTree<u32>,
     other: &PathTree<u32>,
@@ -158,7 +158,7 @@ fn what_another_tree_has_changed(rt: HostRuntime) -> Result<(), Fail> {
     Ok(())
 }
 
-// A tree of 64 paths of two letters, each with a 2.
+// Returns a tree of 64 paths of two letters, each with the value 2.
 fn tree_of_many(alloc: Global) -> Result<PathTree<u32>, AllocError> {
     let mut tree = PathTree::new(alloc);
     for number in 0..64u8 {
@@ -168,7 +168,7 @@ fn tree_of_many(alloc: Global) -> Result<PathTree<u32>, AllocError> {
     Ok(tree)
 }
 
-// Few keys are looked up in a tree of many; many are walked beside few.
+// Looks up few keys in a tree of many, and compares a tree of many with a tree of few.
 #[test]
 fn few_beside_many(rt: HostRuntime) -> Result<(), Fail> {
     let many = tree_of_many(rt.alloc())?;

@@ -1,11 +1,12 @@
-//! Trees of paths that rise, by hand, and beside the same paths inserted one by one.
+//! Trees of strictly increasing paths, by hand, and compared with the same paths inserted one by
+//! one.
 use super::has_at;
 use path_tree::{PathTree, SortedError};
 use std::alloc::{AllocError, Global};
 use std::test::Fail;
 use unix_path::Path;
 
-// Paths, and whether they rise.
+// Paths, and whether they are strictly increasing.
 static RISING: [(&'static [&'static str], bool); 10] = [
     (&[], true),
     (&["a//b"], true),
@@ -19,7 +20,7 @@ static RISING: [(&'static [&'static str], bool); 10] = [
     (&["", ""], false),
 ];
 
-// The paths and their places, from 1.
+// Returns the paths with their positions, counted from 1.
 fn with_places(
     alloc: Global,
     paths: &[&'static str],
@@ -33,7 +34,7 @@ fn with_places(
     Ok(items)
 }
 
-// Whether the paths make a tree of them all, or are refused, as the row says.
+// Returns true if a tree of all the paths is created, or the paths are rejected, as the row says.
 fn is_made(alloc: Global, paths: &[&'static str], rise: bool) -> Result<bool, AllocError> {
     let items = with_places(alloc, paths)?;
     match PathTree::from_sorted(alloc, items.iter().copied()) {
@@ -58,7 +59,7 @@ fn paths_that_rise_make_a_tree(rt: HostRuntime) -> Result<(), Fail> {
     Ok(())
 }
 
-// Names of two letters, which rise.
+// Returns the names of two letters, in increasing order.
 fn letters(alloc: Global) -> Result<Vec<[u8; 2]>, AllocError> {
     let mut names = Vec::new(alloc);
     for first in b'a'..=b'z' {
@@ -69,8 +70,8 @@ fn letters(alloc: Global) -> Result<Vec<[u8; 2]>, AllocError> {
     Ok(names)
 }
 
-// Whether a tree of many rising paths has the entries that it has if they are inserted, in their
-// order.
+// Returns true if a tree of many increasing paths has the same entries as a tree into which they
+// are inserted, in the same order.
 fn is_as_inserted(alloc: Global) -> Result<bool, AllocError> {
     let names = letters(alloc)?;
     let mut items = Vec::new(alloc);

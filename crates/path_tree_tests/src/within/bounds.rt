@@ -1,5 +1,5 @@
-//! Callers of the laws that bound how many bytes an answer has: a law that is called in a body is a
-//! fact there, and no function needs a proof.
+//! Callers of the laws that bound the length of a result. A law that is called in a body is a fact
+//! there, and no function needs a proof.
 ghost use Rattle.std.specs.Prelude.{◌≤◌, ◌+◌, ◌*◌, IfOk, length};
 ghost use Rattle.unix_bytes.specs.Text.{text_bytes};
 ghost use Rattle.unix_path.specs.Buffers.{path_bytes};
@@ -42,7 +42,7 @@ fn short_lossy<'a>(alloc: Global, bytes: UnixStr<'a>) -> Result<LossyText<'a>, A
     bytes.to_string_lossy(alloc)
 }
 
-// Whether the path has so many bytes.
+// Returns true if the path has this length.
 fn has_len(path: &PathBuf, len: usize) -> bool {
     path.as_path().as_unix_str().len() == len
 }

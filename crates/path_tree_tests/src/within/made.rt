@@ -1,26 +1,27 @@
-//! What is resolved, joined and led to by calls that allocate, beside the calls that write to
-//! buffers: of all short paths and pairs of them, and of random ones.
+//! Resolved paths, joins and relative paths from calls that allocate, compared with calls that
+//! write to buffers: for all short paths and pairs of them, and for random ones.
+use path_within::relative::{relative_path, write_relative_path};
 use path_within::resolved::{resolved, write_resolved};
-use path_within::way::{way, write_way};
-use path_within::within::{climbs, has_root_or_up, join_verbatim, join_within};
+use path_within::within::{escapes, has_root_or_parent_dir, join_verbatim, join_within};
 use path_within::{WithinError, has_nul};
 use std::alloc::{AllocError, Global};
 use std::test::Fail;
 use test_inputs::{Random, strings_over};
 use unix_path::Path;
 
-// How many strings of at most 5 letters there are over three letters.
+// The number of strings of at most 5 letters over an alphabet of three.
 const SHORTER_PATHS: usize = 364;
 
-// How many strings of at most 4 letters there are over three letters, and of at most 3 over four.
+// The number of strings of at most 4 letters over an alphabet of three, and of at most 3 letters
+// over one of four.
 const SHORTER_STRINGS: usize = 121;
 
 const SHORTER_WITH_NULS: usize = 85;
 
 const RANDOM_PAIRS: u32 = 10_000;
 
-// Whether the path is written resolved, as these bytes, where there is just enough room, and not if
-// there is a byte less.
+// Returns true if the path is written resolved, as these bytes, to a buffer of their length, but
+// not to a buffer that is one byte shorter.
 fn is_written(path: Path<'_>, want: &[u8]) -> bool {
     let mut buffer = [b'#'; 65];
     let len = want.len();
@@ -34,40 +35,42 @@ fn is_written(path: Path<'_>, want: &[u8]) -> bool {
     needed == len && written == len && is_untouched && is_exact
 }
 
-// Whether the path, of at most 64 bytes, is resolved as it is written resolved.
+// Returns true if the path, of at most 64 bytes, is resolved to the path that is written.
 fn is_resolved(alloc: Global, path: &[u8]) -> Result<bool, AllocError> {
     let path = Path::from_bytes(path);
     let made = resolved(alloc, path)?;
     Ok(is_written(path, made.as_path().bytes))
 }
 
-// Whether the way is written, as these bytes, where there is just enough room, and not if there is
-// a byte less.
-fn is_way_written(from: Path<'_>, to: Path<'_>, want: &[u8]) -> bool {
+// Returns true if the relative path is written, as these bytes, to a buffer of their length, but
+// not to a buffer that is one byte shorter.
+fn is_relative_path_written(from: Path<'_>, to: Path<'_>, want: &[u8]) -> bool {
     let mut buffer = [b'#'; 163];
     let len = want.len();
     if len > 162 {
         return false;
     }
-    let needed = write_way(from, to, &mut buffer[..len.saturating_sub(1)]);
+    let needed = write_relative_path(from, to, &mut buffer[..len.saturating_sub(1)]);
     let is_untouched = buffer == [b'#'; 163];
-    let written = write_way(from, to, &mut buffer[..len]);
+    let written = write_relative_path(from, to, &mut buffer[..len]);
     let is_exact = buffer.as_slice().starts_with(want) && buffer[len] == b'#';
     needed == Some(len) && written == Some(len) && is_untouched && is_exact
 }
 
-// Whether the way is the one that is written, or there is none and nothing is written.
+// Returns true if the relative path is the path that is written, or if there is none and nothing is
+// written.
 fn is_led(alloc: Global, from: Path<'_>, to: Path<'_>) -> Result<bool, AllocError> {
-    match way(alloc, from, to)? {
-        Some(made) => Ok(is_way_written(from, to, made.as_path().bytes)),
+    match relative_path(alloc, from, to)? {
+        Some(made) => Ok(is_relative_path_written(from, to, made.as_path().bytes)),
         None => {
             let mut buffer = [b'#'; 16];
-            Ok(write_way(from, to, &mut buffer).is_none() && buffer == [b'#'; 16])
+            Ok(write_relative_path(from, to, &mut buffer).is_none() && buffer == [b'#'; 16])
         }
     }
 }
 
-// Whether the join within is the whole join resolved, or is refused and the request climbs.
+// Returns true if the join within is the whole join resolved, or if it is rejected and the request
+// escapes.
 fn is_joined_within(
     alloc: Global,
     root: Path<'_>,
@@ -77,15 +80,16 @@ fn is_joined_within(
     match join_within(alloc, root, request) {
         Ok(joined) => {
             let want = resolved(alloc, whole)?;
-            Ok(!climbs(request) && joined.as_path().bytes == want.as_path().bytes)
+            Ok(!escapes(request) && joined.as_path().bytes == want.as_path().bytes)
         }
-        Err(error) => Ok(matches!(error, WithinError::Escapes) && climbs(request)),
+        Err(error) => Ok(matches!(error, WithinError::Escapes) && escapes(request)),
     }
 }
 
-// Whether the verbatim join is the whole join, or is refused for what the request has.
+// Returns true if the verbatim join is the whole join, or if it is rejected because the request has
+// a root, a `..` or a NUL.
 fn is_joined_verbatim(alloc: Global, root: Path<'_>, request: Path<'_>, whole: Path<'_>) -> bool {
-    let escapes = has_root_or_up(request);
+    let escapes = has_root_or_parent_dir(request);
     let is_cut = has_nul(request.bytes);
     match join_verbatim(alloc, root, request) {
         Ok(joined) => !escapes && !is_cut && joined.as_path().bytes == whole.bytes,
@@ -95,7 +99,7 @@ fn is_joined_verbatim(alloc: Global, root: Path<'_>, request: Path<'_>, whole: P
     }
 }
 
-// Whether all this holds of the two paths.
+// Returns true if both joins of the two paths, and the relative path between them, are right.
 fn is_made(alloc: Global, first: &[u8], second: &[u8]) -> Result<bool, AllocError> {
     let (a, b) = (Path::from_bytes(first), Path::from_bytes(second));
     let whole = a.join(alloc, b)?;
@@ -106,7 +110,8 @@ fn is_made(alloc: Global, first: &[u8], second: &[u8]) -> Result<bool, AllocErro
     )
 }
 
-// How many of the strings make with the first what they should, before one doesn't.
+// Returns the number of strings before the first one for which, together with `first`, `is_made` is
+// false.
 fn count_made(alloc: Global, first: &[u8], strings: &[Vec<u8>]) -> Result<usize, AllocError> {
     for (count, second) in strings.iter().enumerate() {
         if !is_made(alloc, first, second)? {
@@ -148,5 +153,16 @@ fn random_pairs(rt: HostRuntime) -> Result<(), Fail> {
         let made = is_resolved(rt.alloc(), &first)? && is_made(rt.alloc(), &first, &second)?;
         assert!(rt; made, "{first:?} {second:?}");
     }
+    Ok(())
+}
+
+// Joins a name of two dots and a NUL like any other name, although a system call reads it as `..`.
+#[test]
+fn nul_is_joined(rt: HostRuntime) -> Result<(), Fail> {
+    let (root, request) = (Path::from_text("/srv"), Path::from_text("..\0/a"));
+    let joined = join_within(rt.alloc(), root, request)
+        .ok()
+        .ok_or("refused")?;
+    assert!(rt; joined.as_path().bytes == b"/srv/..\0/a".as_slice());
     Ok(())
 }

@@ -5,8 +5,8 @@ use std::test::Fail;
 use unix_bytes::bytes::UnixStr;
 use unix_path::Path;
 
-// What is asked of a request: its path, its file name, and whether it has no name and ends in a
-// slash.
+// The properties of a request: its path, its file name, whether it has no name, and whether it ends
+// in a slash.
 type Row = (&'static str, Option<&'static str>, bool, bool);
 
 static REQUESTS: [Row; 14] = [
@@ -26,7 +26,8 @@ static REQUESTS: [Row; 14] = [
     ("a/b/c/../../d/..", Some("a"), false, false),
 ];
 
-// A root as it stands, a path, and what is left of it without the root.
+// A verbatim root, a path, and what `strip` returns: the rest of the path after the root, or an
+// error.
 static STRIPPED: [(&'static str, &'static str, Result<&'static str, StripError>); 13] = [
     ("/srv/www", "/srv/www/a", Ok("a")),
     ("/srv/www", "/srv//www/./a/", Ok("a")),
@@ -43,9 +44,9 @@ static STRIPPED: [(&'static str, &'static str, Result<&'static str, StripError>)
     ("/srv/../x", "/srv/../x/a", Ok("a")),
 ];
 
-// Whether the request of the row has what is asked of it.
+// Returns true if the request of the row has these properties.
 fn is_request(row: &Row) -> bool {
-    let Ok(request) = Request::new(Path::from_text(row.0)) else {
+    let Ok(request) = Request::beneath(Path::from_text(row.0)) else {
         return false;
     };
     let name = match row.1 {
@@ -65,7 +66,8 @@ fn requests_asked(rt: HostRuntime) {
     }
 }
 
-// Whether what is left of the path is that of the row, and `contains` tells the same.
+// Returns true if `strip` returns the row's rest or error, and `contains` is true if and only if
+// the row has a rest.
 fn is_stripped(
     alloc: Global,
     row: &(&str, &str, Result<&str, StripError>),
@@ -90,7 +92,7 @@ fn roots_stripped(rt: HostRuntime) -> Result<(), Fail> {
 
 #[test]
 fn a_request_is_shown(rt: HostRuntime) -> Result<(), Fail> {
-    let request = Request::below(Path::from_text("//a/"))
+    let request = Request::in_root(Path::from_text("//a/"))
         .ok()
         .ok_or("refused")?;
     assert!(rt; format!(in rt.alloc(); "{request:?}")?.as_str() == "\"a/\"");

@@ -1,18 +1,18 @@
-//! Requests below roots: joins that are made anew, in a buffer and written, and what is left of
-//! them; of all short strings and of random ones.
-use path_within::within::has_root_or_up;
+//! Joins of requests below roots, as new paths, in a reused buffer and written to slices, and the
+//! rests of these joins: for all short strings and for random ones.
+use path_within::within::has_root_or_parent_dir;
 use path_within::{Request, Root, StripError, has_nul};
 use std::alloc::{AllocError, Global};
 use std::test::Fail;
 use test_inputs::{Random, strings_over};
 use unix_path::{Path, PathBuf};
 
-// How many strings of at most 5 letters there are over four letters.
+// The number of strings of at most 5 letters over an alphabet of four.
 const SHORTER_STRINGS: usize = 1365;
 
 const RANDOM_STRINGS: u32 = 2_000;
 
-// A root, and what it resolves to.
+// A root, and the path to which it resolves.
 static ROOTS: [(&'static [u8], &'static [u8]); 5] = [
     (b"", b""),
     (b"/", b"/"),
@@ -21,7 +21,7 @@ static ROOTS: [(&'static [u8], &'static [u8]); 5] = [
     (b"/a/../b//.", b"/b"),
 ];
 
-// The names of the request, with a slash between two of them.
+// Returns the names of the request, separated by single slashes.
 fn names_of(alloc: Global, request: Request<'_>) -> Result<Vec<u8>, AllocError> {
     let mut names = vec![in alloc; b'#'; request.as_path().bytes.len()]?;
     let len = request.write_below(Path::from_bytes(b""), &mut names);
@@ -29,7 +29,8 @@ fn names_of(alloc: Global, request: Request<'_>) -> Result<Vec<u8>, AllocError> 
     Ok(names)
 }
 
-// Whether the request has these names, and ends in a slash if filler follows its last part, a name.
+// Returns true if the request has these names, and ends in a slash if and only if filler follows
+// its last component and that is a name.
 fn has_names(request: Request<'_>, names: &[u8]) -> bool {
     let path = request.as_path();
     let ends_in_slash = match path.file_name() {
@@ -41,7 +42,8 @@ fn has_names(request: Request<'_>, names: &[u8]) -> bool {
         && request.ends_in_slash() == ends_in_slash
 }
 
-// Whether the join is written where there is just enough room, and not if there is a byte less.
+// Returns true if the join is written to a buffer of its length, but not to a buffer that is one
+// byte shorter.
 fn is_written(root: Path<'_>, request: Request<'_>, want: &[u8]) -> bool {
     let mut buffer = [b'#'; 80];
     let len = want.len();
@@ -55,7 +57,8 @@ fn is_written(root: Path<'_>, request: Request<'_>, want: &[u8]) -> bool {
     needed == len && written == len && is_untouched && is_exact
 }
 
-// Whether the root contains the path, and these names are left of it without the root.
+// Returns true if the root contains the path, and the rest of the path after the root has these
+// names.
 fn is_stripped(
     alloc: Global,
     root: &Root,
@@ -68,7 +71,8 @@ fn is_stripped(
     }
 }
 
-// Whether the joins of the request are the one that is written, and its names are left of it.
+// Returns true if the request's joins, new, in the buffer and written, are the same, and their rest
+// after the root has the request's names.
 fn is_joined(
     alloc: Global,
     root: &Root,
@@ -87,22 +91,25 @@ fn is_joined(
     )
 }
 
-// Whether the root tells of the path what follows the root in it.
+// Returns true if the root strips from the path what `strip_prefix` strips, or rejects the rest as
+// it should.
 fn is_told(root: &Root, path: Path<'_>) -> bool {
     let is_told = match (root.strip(path), path.strip_prefix(root.as_path())) {
         (Ok(request), Ok(left)) => {
-            request.as_path().bytes == left.bytes && !has_root_or_up(left) && !has_nul(left.bytes)
+            request.as_path().bytes == left.bytes
+                && !has_root_or_parent_dir(left)
+                && !has_nul(left.bytes)
         }
-        (Err(StripError::Outside), Ok(left)) => has_root_or_up(left),
-        (Err(StripError::Nul), Ok(left)) => !has_root_or_up(left) && has_nul(left.bytes),
+        (Err(StripError::Outside), Ok(left)) => has_root_or_parent_dir(left),
+        (Err(StripError::Nul), Ok(left)) => !has_root_or_parent_dir(left) && has_nul(left.bytes),
         (Err(StripError::Outside), Err(_)) => true,
         _ => false,
     };
     is_told && root.contains(path) == root.strip(path).is_ok()
 }
 
-// Whether the path is joined below the root, unless it is no request, and the root tells of it and
-// of its join as it stands.
+// Returns true if the path is joined below the root, unless it is refused as a request, and if the
+// root strips the path and its join as it should.
 fn is_read(
     alloc: Global,
     root: &Root,
@@ -110,13 +117,13 @@ fn is_read(
     path: &[u8],
 ) -> Result<bool, AllocError> {
     let path = Path::from_bytes(path);
-    let is_new = match Request::new(path) {
+    let is_new = match Request::beneath(path) {
         Ok(request) => {
             request.as_path().bytes == path.bytes && is_joined(alloc, root, buffer, request)?
         }
         Err(_) => true,
     };
-    let is_below = match Request::below(path) {
+    let is_below = match Request::in_root(path) {
         Ok(request) => is_joined(alloc, root, buffer, request)?,
         Err(_) => true,
     };
@@ -124,8 +131,8 @@ fn is_read(
     Ok(is_new && is_below && is_told(root, path) && is_told(root, whole.as_path()))
 }
 
-// The first of these strings that is wrong below the root, if one is; the root's bytes, if they
-// aren't those that are wanted.
+// Returns the first of these strings that is wrong below the root, if there is one, or `want` if
+// these are not the root's bytes.
 fn first_wrong<'a>(
     alloc: Global,
     root: &Root,

@@ -1,7 +1,7 @@
--- Paths that are resolved from the last part to the first.
+-- Paths that are resolved from the last component to the first.
 pub mod PieceLemmas
 pub mod LastLemmas
-pub mod FrontLemmas
+pub mod LeadingLemmas
 pub mod PutLemmas
 pub mod LayoutLemmas
 pub mod JoinedLemmas

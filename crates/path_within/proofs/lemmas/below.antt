@@ -1,7 +1,7 @@
 -- Joins below a root, and the names that they add.
 pub mod BoundLemmas
 pub mod BelowLemmas
--- Of this crate alone.
+-- Used only in this crate.
 pub mod NamesBelowLemmas
 mod NulLemmas
 pub mod WithinLemmas

@@ -1,14 +1,14 @@
 //! Laws of requests that are joined to roots.
 ghost use Rattle.path_within.specs.BelowLaws.{BelowHasNames, BelowResolves, BelowSlash, BelowAgain};
-ghost use Rattle.path_within.specs.BelowLaws.{BelowBegins, BelowAddsNames, BelowStripped};
+ghost use Rattle.path_within.specs.BelowLaws.{BelowHasPrefix, BelowAddsNames, BelowStripped};
 ghost use Rattle.path_within.specs.BelowLaws.{BelowWithin, DownIsJoined, DownIsJoinedHere};
 
-/// A request stands for names alone: those of its path, resolved, if that doesn't climb.
+/// A request represents only names. If its path does not escape, these names are what the path
+/// resolves to.
 ///
-/// Leading slashes change nothing of them, and the names alone stand for themselves. Calling it
-/// does nothing. Not in Rust's std.
+/// Leading slashes of the path do not change the names, and the names represent themselves.
 ///
-/// `/a/../../b` stands for `b`, and so do `a/../../b` and `b`.
+/// `/a/../../b` represents `b`, and so do `a/../../b` and `b`.
 pub fn requests_are_names()
     ensures names { BelowHasNames }
     ensures resolved { BelowResolves }
@@ -16,26 +16,29 @@ pub fn requests_are_names()
     ensures again { BelowAgain }
 {}
 
-/// A join of a root and a request stays below the root, whatever the root is.
+/// The join of a root and a request is below the root, whatever the root is.
 ///
-/// It has the root's bytes in front, and the root's own values and then the request's names; so
-/// without the root the request's names are left. With a resolved root, if the request doesn't
-/// climb, it is the resolved join of both. Links are not followed: it is a law of names. Calling it
-/// does nothing. Not in Rust's std.
+/// Its bytes begin with the root's bytes. Its components are the root's own components and then the
+/// request's names, so that without the root the request's names remain. With a resolved root and a
+/// request that does not escape, it is the resolved join of both. Purely lexical: symbolic links
+/// are not followed.
 ///
 /// Below `/srv/..` the request `a/../b` is `/srv/../b`, which is `/srv/..` and then `b`.
 pub fn joins_stay_below()
-    ensures begins { BelowBegins }
+    ensures begins { BelowHasPrefix }
     ensures values { BelowAddsNames }
     ensures stripped { BelowStripped }
     ensures within { BelowWithin }
 {}
 
-/// A path that a root contains is equal to a join of the root and the request that is left.
+/// A path that goes down from a root is equal to a join: the root, joined with the rest of the path
+/// as the request.
 ///
-/// Below the empty root, but for a leading `.`. Calling it does nothing. Not in Rust's std.
+/// A path goes down from a root if it starts with the root's components, and the rest has neither a
+/// root nor a `..`. If the root is empty, the path and the join are equal except for a leading `.`
+/// of the path.
 ///
-/// `/srv//www/./a` is below `/srv/www`, and equal to the join with `a`, which is `/srv/www/a`.
+/// `/srv//www/./a` goes down from `/srv/www`, and equals the join with `a`, which is `/srv/www/a`.
 pub fn contained_is_joined()
     ensures joined { DownIsJoined }
     ensures here { DownIsJoinedHere }

@@ -1,14 +1,14 @@
-//! Laws of paths that are resolved by names.
+//! Laws of paths that are resolved lexically.
 ghost use Rattle.path_within.specs.ResolvedLaws.{ResolvedIsNormal, ResolvedReadsBack};
 ghost use Rattle.path_within.specs.ResolvedLaws.{ResolvedAgain, ResolvedCongruent, ResolvedOfJoin};
 ghost use Rattle.path_within.specs.ResolvedLaws.{ResolvedIsShort, ResolvedJoinIsShort};
 
-/// A resolved path has no `.`, no `..` behind a name or the root, and a root only in front.
+/// A resolved path has no `.`, no `..` after a name or the root, and a root only as its first
+/// component.
 ///
-/// Its bytes have the resolved values, and resolving it again changes no byte. Calling it does
-/// nothing. Not in Rust's std.
+/// Its bytes have the resolved components, and resolving it again changes no byte.
 ///
-/// `a/../..//b/.` resolves to `../b`, which has the values `..` and `b` and resolves to itself.
+/// `a/../..//b/.` resolves to `../b`, which has the components `..` and `b` and resolves to itself.
 pub fn resolved_is_normal()
     ensures normal { ResolvedIsNormal }
     ensures values { ResolvedReadsBack }
@@ -17,29 +17,27 @@ pub fn resolved_is_normal()
 
 /// Equal paths resolve to the same bytes.
 ///
-/// Calling it does nothing. Not in Rust's std.
-///
 /// `a//../b` and `a/.././b/` both resolve to `b`.
 pub fn resolved_congruent()
     ensures { ResolvedCongruent }
 {}
 
-/// A join resolves to the same bytes if its first path is resolved before.
+/// Resolving the first path of a join beforehand does not change what the join resolves to.
 ///
-/// A `..` of the second path may take away names of the first. The law says nothing of a second
-/// path that is resolved before. Calling it does nothing. Not in Rust's std.
+/// A `..` of the second path may drop names of the first. Not guaranteed: the same for the second
+/// path.
 ///
 /// `a/./b` joined with `../c` resolves to `a/c`, and so does `a/b` joined with `../c`.
 pub fn resolved_of_join()
     ensures { ResolvedOfJoin }
 {}
 
-/// A resolved path has at most as many bytes as the path, and a resolved join at most one more than
-/// both paths.
+/// A resolved path is no longer than the path, and a resolved join is at most 1 byte longer than
+/// both paths together.
 ///
-/// A caller can size a buffer by it. Calling it does nothing. Not in Rust's std.
+/// A caller can size a buffer by this law.
 ///
-/// `/srv/./www` has 10 bytes and resolves to `/srv/www`, of 8; joined with `a` it resolves to
+/// `/srv/./www` has 10 bytes and resolves to `/srv/www`, of 8 bytes. Joined with `a` it resolves to
 /// `/srv/www/a`.
 pub fn resolved_is_short()
     ensures path { ResolvedIsShort }

@@ -1,7 +1,7 @@
 -- The answers of commands.
 pub mod AddLemmas
 pub mod TabbedLemmas
-pub mod BeginLemmas
+pub mod PrefixTestLemmas
 pub mod QuoteLemmas
 pub mod FieldLemmas
 pub mod WordLemmas

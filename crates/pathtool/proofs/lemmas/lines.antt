@@ -1,4 +1,4 @@
--- Lines that are read, and what is written of the answers.
+-- The lines of the input, and what is written for them.
 pub mod SplitLemmas
 pub mod CallLemmas
 pub mod WriteLemmas

@@ -1,6 +1,6 @@
--- Chunks: the text of each, and the broken front behind it.
+-- Chunks: valid UTF-8, and the invalid front after it.
 pub mod ChunkLemmas
 pub mod PartitionLemmas
 pub mod OnlyLemmas
--- Of this crate alone.
+-- Only this crate uses the modules below.
 pub mod SplitLemmas

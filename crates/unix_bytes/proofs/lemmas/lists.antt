@@ -1,2 +1,2 @@
--- Lists of any items.
+-- Lists of elements of any type.
 pub mod ListLemmas

@@ -1,6 +1,6 @@
--- Bytes cut into fronts, and the lossy text.
+-- Bytes cut into fronts, and lossy forms.
 pub mod LossyLemmas
 pub mod LossyBoundLemmas
--- Of this crate alone.
+-- Only this crate uses the modules below.
 pub mod BrokenLemmas
 pub mod LawLemmas

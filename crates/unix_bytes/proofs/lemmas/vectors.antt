@@ -1,10 +1,10 @@
--- Several bytes at once, and two strings compared.
+-- Vectors: several bytes at once, and two strings compared.
 pub mod TestLaneLemmas
 pub mod CommonLemmas
--- Of this crate alone.
+-- Only this crate uses the modules below.
 pub mod MaskLemmas
 pub mod HitLemmas
 pub mod SelectLemmas
 pub mod LaneLemmas
-pub mod MarkLemmas
+pub mod ContinueLemmas
 pub mod CompareLemmas

@@ -5,7 +5,7 @@ ghost use Rattle.std.specs.Cmp.{on_po, on_total};
 ghost use Rattle.std.specs.Cmp.Lexicographic.{slice_cmp, texts_po, texts_ties, nat_list_cmp_total};
 ghost use Rattle.std.specs.Ordering.{nat_cmp};
 ghost use Rattle.std.proofs.Common.{refl};
-ghost use Rattle.unix_bytes.specs.Owned.{owned_bytes, owned_capacity, owned_room};
+ghost use Rattle.unix_bytes.specs.Owned.{owned_bytes, owned_capacity, owned_spare_capacity};
 
 use crate::bytes::UnixStr;
 use crate::order::compare_bytes;
@@ -14,20 +14,20 @@ use std::cmp::Ordering;
 use std::fmt;
 use std::hash::{Hash, Hasher};
 
-/// An owned byte string: a path or a name as Unix keeps it, in whatever encoding.
+/// An owned byte string: a path or a name on Unix, in any encoding.
 ///
-/// It keeps its allocator. If an allocation fails, its bytes stay as they were. It is compared and
-/// hashed as the `UnixStr` of its bytes.
-/// As the crate `unix_str`'s type of that name, which stands for Rust's `OsString` on Unix.
+/// It keeps its allocator. If an allocation fails, its bytes are unchanged. It is compared and
+/// hashed like the `UnixStr` of its bytes. Corresponds to Rust's `OsString` on Unix, and to
+/// `UnixString` of the crate `unix_str`.
 #[derive(Drop, PartialEq, Eq)]
 pub struct UnixString {
     bytes: Vec<u8>,
 }
 
 impl UnixString {
-    /// An empty byte string. Does not allocate. As Rust's `OsString::new`.
+    /// Returns an empty byte string. Allocates nothing.
     ///
-    /// `UnixString::new(alloc)` has no byte.
+    /// `UnixString::new(alloc)` has no bytes.
     #[inline]
     pub fn new(alloc: Global) -> UnixString
         ensures { owned_bytes result ≡ [] }
@@ -37,24 +37,23 @@ impl UnixString {
         }
     }
 
-    /// An empty byte string with room for at least `count` bytes.
+    /// Returns an empty byte string with a capacity of at least `count`.
     ///
-    /// Allocates once, or not at all for 0 bytes; fails if the allocation fails. As Rust's
-    /// `OsString::with_capacity`.
+    /// Allocates once, or not at all if `count` is 0; fails if the allocation fails.
     ///
-    /// `UnixString::with_capacity(alloc, 10)?` takes at least 10 bytes before it grows.
+    /// `UnixString::with_capacity(alloc, 10)?` can hold 10 bytes before it grows.
     pub fn with_capacity(alloc: Global, count: usize) -> Result<UnixString, AllocError>
         ensures bytes { IfOk result (λ s. owned_bytes s ≡ []) }
-        ensures room { IfOk result (λ s. count ≤ owned_room s) }
+        ensures spare_capacity { IfOk result (λ s. count ≤ owned_spare_capacity s) }
         ensures succeeds { count ≡ 0 → IsOk result }
     {
         let bytes = Vec::with_capacity(alloc, count)?;
         Ok(UnixString { bytes })
     }
 
-    /// All bytes, borrowed. Does not allocate. As Rust's `OsString::as_os_str`.
+    /// Returns a view of all bytes. Corresponds to Rust's `OsString::as_os_str`.
     ///
-    /// After a push of `tmp` onto an empty byte string, it is `tmp`.
+    /// After a push of `tmp` onto an empty byte string, the view is `tmp`.
     #[inline]
     pub fn as_unix_str(&self) -> UnixStr<'_>
         ensures { result.bytes.now ≡ owned_bytes self.now }
@@ -62,10 +61,10 @@ impl UnixString {
         UnixStr::from_bytes(self.bytes.as_slice())
     }
 
-    /// A copy of the bytes, under the same allocator.
+    /// Returns a copy with the same allocator. Corresponds to `Clone` of Rust's `OsString`.
     ///
-    /// Allocates once; fails if the allocation fails. For no bytes does not allocate, and succeeds.
-    /// As `Clone` of Rust's `OsString`.
+    /// Allocates once; fails if the allocation fails. If there are no bytes, nothing is allocated
+    /// and the call succeeds.
     ///
     /// A clone of `tmp` is another `tmp`.
     pub fn clone(&self) -> Result<UnixString, AllocError>
@@ -77,8 +76,8 @@ impl UnixString {
 
     /// Appends the bytes.
     ///
-    /// Allocates only if `more` is longer than the room. If the allocation fails, the bytes stay as
-    /// they were. The capacity never shrinks. As Rust's `OsString::push`.
+    /// Allocates only if `more` is longer than the spare capacity. If the allocation fails, the
+    /// bytes are unchanged. The capacity never shrinks.
     ///
     /// `foo` after a push of `bar` is `foobar`.
     #[inline]
@@ -86,16 +85,16 @@ impl UnixString {
         ensures ok { OnOk result
             (owned_bytes self.new ≡ owned_bytes self.old ++ more.entry.bytes.now) }
         ensures err { OnErr result (owned_bytes self.new ≡ owned_bytes self.old) }
-        ensures succeeds { length more.entry.bytes.now ≤ owned_room self.old → IsOk result }
+        ensures succeeds { length more.entry.bytes.now ≤ owned_spare_capacity self.old
+            → IsOk result }
         ensures capacity { owned_capacity self.old ≤ owned_capacity self.new }
     {
         self.bytes.extend_from_slice(more.as_bytes())
     }
 
-    /// How many bytes it can hold before it grows. Does not allocate. As Rust's
-    /// `OsString::capacity`.
+    /// Returns the capacity: how many bytes the byte string can hold before it grows.
     ///
-    /// After `with_capacity(alloc, 10)` it is at least 10.
+    /// After `with_capacity(alloc, 10)` the capacity is at least 10.
     #[inline]
     pub fn capacity(&self) -> usize
         ensures { result ≡ owned_capacity self.now }
@@ -103,7 +102,7 @@ impl UnixString {
         self.bytes.capacity()
     }
 
-    /// Removes all bytes, and keeps the capacity. Does not allocate. As Rust's `OsString::clear`.
+    /// Removes all bytes, and keeps the capacity.
     ///
     /// `foo` after `clear` is the empty byte string.
     #[inline]
@@ -114,12 +113,13 @@ impl UnixString {
         self.bytes.clear();
     }
 
-    /// Keeps the first `len` bytes and the capacity. A shorter byte string stays as it is.
+    /// Keeps the first `len` bytes and the capacity. If there are no more than `len` bytes, nothing
+    /// changes.
     ///
-    /// Does not allocate. As Rust's unstable `OsString::truncate`, without its panics: `len` may be
-    /// past the end or inside a character.
+    /// Never panics, unlike Rust's unstable `OsString::truncate`: `len` may be past the end or
+    /// inside a character.
     ///
-    /// `foobar` truncated to 3 bytes is `foo`, and to 7 it is `foobar`.
+    /// `foobar` truncated to 3 bytes is `foo`, and truncated to 7 bytes it is `foobar`.
     #[inline]
     pub fn truncate(&mut self, len: usize)
         ensures bytes { owned_bytes self.new ≡ take len (owned_bytes self.old) }
@@ -128,79 +128,83 @@ impl UnixString {
         self.bytes.truncate(len);
     }
 
-    /// Makes room for at least `count` more bytes; if it has to grow, maybe for more than that.
+    /// Reserves spare capacity for at least `count` more bytes. If it has to grow, it may reserve
+    /// more.
     ///
-    /// Allocates only if the room is less. If the allocation fails, the bytes stay as they were. As
-    /// Rust's `OsString::reserve`.
+    /// Allocates only if the spare capacity is less than `count`. If the allocation fails, the
+    /// bytes are unchanged.
     ///
     /// After `reserve(6)` a push of 6 bytes does not allocate.
     pub fn reserve(&mut self, count: usize) -> Result<(), AllocError>
         ensures bytes { owned_bytes self.new ≡ owned_bytes self.old }
-        ensures ok { OnOk result (count ≤ owned_room self.new) }
-        ensures succeeds { count ≤ owned_room self.old → IsOk result }
+        ensures ok { OnOk result (count ≤ owned_spare_capacity self.new) }
+        ensures succeeds { count ≤ owned_spare_capacity self.old → IsOk result }
         ensures capacity { owned_capacity self.old ≤ owned_capacity self.new }
     {
         self.bytes.reserve(count)
     }
 
-    /// Makes room for at least `count` more bytes; if it has to grow, for no more than that.
+    /// Reserves spare capacity for at least `count` more bytes. If it has to grow, it reserves no
+    /// more.
     ///
-    /// Allocates only if the room is less. If the allocation fails, the bytes stay as they were. As
-    /// Rust's `OsString::reserve_exact`.
+    /// Allocates only if the spare capacity is less than `count`. If the allocation fails, the
+    /// bytes are unchanged.
     ///
     /// After `reserve_exact(6)` a push of 6 bytes does not allocate.
     pub fn reserve_exact(&mut self, count: usize) -> Result<(), AllocError>
         ensures bytes { owned_bytes self.new ≡ owned_bytes self.old }
-        ensures ok { OnOk result (owned_room self.new ≡ max count (owned_room self.old)) }
-        ensures succeeds { count ≤ owned_room self.old → IsOk result }
+        ensures ok { OnOk result
+            (owned_spare_capacity self.new ≡ max count (owned_spare_capacity self.old)) }
+        ensures succeeds { count ≤ owned_spare_capacity self.old → IsOk result }
         ensures capacity { owned_capacity self.old ≤ owned_capacity self.new }
     {
         self.bytes.reserve_exact(count)
     }
 
-    /// Gives back the room, so that the capacity is the length.
+    /// Releases the spare capacity, so that the capacity equals the length.
     ///
-    /// Does not allocate if there is no room. Otherwise moving the bytes can fail, and then the
-    /// bytes stay as they were, and the capacity is no greater than before. As Rust's
-    /// `OsString::shrink_to_fit`.
+    /// Allocates nothing if there is no spare capacity. Otherwise moving the bytes can fail. Then
+    /// the bytes are unchanged, and the capacity is no greater than before.
     ///
-    /// For `foo` with the capacity 10, the capacity is then 3.
+    /// For `foo` with the capacity 10, the new capacity is 3.
     pub fn shrink_to_fit(&mut self) -> Result<(), AllocError>
         ensures bytes { owned_bytes self.new ≡ owned_bytes self.old }
-        ensures ok { OnOk result (owned_room self.new ≡ 0) }
-        ensures succeeds { owned_room self.old ≡ 0 → IsOk result }
+        ensures ok { OnOk result (owned_spare_capacity self.new ≡ 0) }
+        ensures succeeds { owned_spare_capacity self.old ≡ 0 → IsOk result }
         ensures shrinks { owned_capacity self.new ≤ owned_capacity self.old }
     {
         self.shrink_to(0)
     }
 
-    /// Lowers the capacity to `least` bytes, or to the length if that is more.
+    /// Lowers the capacity to `min_capacity`, or to the length if that is greater.
     ///
-    /// If the capacity is no more than that already, does not allocate and changes nothing.
-    /// Otherwise moving the bytes can fail, and then the bytes stay as they were, and the capacity
-    /// is no greater than before. As Rust's `OsString::shrink_to`.
+    /// If the capacity is no greater than that already, allocates nothing and changes nothing.
+    /// Otherwise moving the bytes can fail. Then the bytes are unchanged, and the capacity is no
+    /// greater than before.
     ///
-    /// For `foo` with the capacity 10, `shrink_to(5)` makes it 5, and `shrink_to(0)` makes it 3.
-    pub fn shrink_to(&mut self, least: usize) -> Result<(), AllocError>
+    /// For `foo` with the capacity 10, `shrink_to(5)` makes the capacity 5, and `shrink_to(0)`
+    /// makes it 3.
+    pub fn shrink_to(&mut self, min_capacity: usize) -> Result<(), AllocError>
         ensures bytes { owned_bytes self.new ≡ owned_bytes self.old }
         ensures ok { OnOk result
-            (owned_capacity self.new ≤ max least (length (owned_bytes self.old))) }
-        ensures succeeds { owned_capacity self.old ≤ max least (length (owned_bytes self.old))
+            (owned_capacity self.new ≤ max min_capacity (length (owned_bytes self.old))) }
+        ensures succeeds { owned_capacity self.old
+            ≤ max min_capacity (length (owned_bytes self.old))
             → IsOk result }
-        ensures capacity { min least (owned_capacity self.old) ≤ owned_capacity self.new }
+        ensures capacity { min min_capacity (owned_capacity self.old) ≤ owned_capacity self.new }
         ensures shrinks { owned_capacity self.new ≤ owned_capacity self.old }
     {
-        self.bytes.shrink_to(least);
-        if least.max(self.bytes.len()) < self.bytes.capacity() {
+        self.bytes.shrink_to(min_capacity);
+        if min_capacity.max(self.bytes.len()) < self.bytes.capacity() {
             return Err(AllocError);
         }
         Ok(())
     }
 
-    /// The bytes as a vector, in the same memory. Does not allocate. As Rust's
+    /// Returns the bytes as a vector, in the same memory. Corresponds to Rust's
     /// `OsStringExt::into_vec`.
     ///
-    /// For `tmp` it has 3 bytes.
+    /// For `tmp` the vector has 3 bytes.
     #[inline]
     pub fn into_bytes(self) -> Vec<u8>
         ensures bytes { result.items ≡ owned_bytes self }
@@ -211,12 +215,12 @@ impl UnixString {
 }
 
 impl<'a> UnixStr<'a> {
-    /// A copy of the bytes that owns them.
+    /// Returns a copy that owns its bytes. Corresponds to Rust's `OsStr::to_os_string`.
     ///
-    /// Allocates once; fails if the allocation fails. For no bytes does not allocate, and succeeds.
-    /// As Rust's `OsStr::to_os_string`.
+    /// Allocates once; fails if the allocation fails. If there are no bytes, nothing is allocated
+    /// and the call succeeds.
     ///
-    /// For `tmp` it is another `tmp`.
+    /// For `tmp` the copy is another `tmp`.
     pub fn to_unix_string(self, alloc: Global) -> Result<UnixString, AllocError>
         ensures bytes { IfOk result (λ s. owned_bytes s ≡ self.entry.bytes.now) }
         ensures succeeds { self.entry.bytes.now ≡ [] → IsOk result }
@@ -227,9 +231,10 @@ impl<'a> UnixStr<'a> {
     }
 }
 
-/// These bytes, in the same memory. Does not allocate. As Rust's `OsStringExt::from_vec`.
+/// Keeps the bytes of the vector, in the same memory. Corresponds to Rust's
+/// `OsStringExt::from_vec`.
 ///
-/// For the 3 bytes of `tmp` it is `tmp`.
+/// A vector of the 3 bytes of `tmp` becomes the byte string `tmp`.
 impl From<Vec<u8>> for UnixString {
     ghost from_gives = { λ bytes s. owned_bytes s ≡ bytes.items };
 
@@ -239,10 +244,9 @@ impl From<Vec<u8>> for UnixString {
     }
 }
 
-/// The bytes of the text, in the same memory. Does not allocate. As Rust's `From<String>` of
-/// `OsString`.
+/// Keeps the bytes of the string, in the same memory.
 ///
-/// For the text `tmp` it is `tmp`.
+/// The string `tmp` becomes the byte string `tmp`.
 impl From<String> for UnixString {
     ghost from_gives = { λ text s. owned_bytes s ≡ string_bytes text };
 
@@ -265,7 +269,7 @@ impl PartialOrd for UnixString {
     }
 }
 
-/// Ordered as the `UnixStr` of its bytes. Does not allocate.
+/// Compares like the `UnixStr` of its bytes.
 impl Ord for UnixString {
     ghost cmp = { λ x y. slice_cmp nat_cmp (owned_bytes x) (owned_bytes y) };
 
@@ -280,7 +284,7 @@ impl Ord for UnixString {
     }
 }
 
-/// The hash of `as_unix_str`: a view of `tmp` and an owned `tmp` have the same.
+/// Hashes like `as_unix_str`: a borrowed `tmp` and an owned `tmp` have the same hash.
 impl Hash for UnixString {
     ghost use Rattle.unix_bytes.specs.Hashed.{name_input};
     ghost use Rattle.std.specs.Cmp.Lexicographic.{bytes_decides};
@@ -296,7 +300,7 @@ impl Hash for UnixString {
     }
 }
 
-/// The debug form of `as_unix_str`: for `tmp` it is `"tmp"`.
+/// Writes the debug form of `as_unix_str`. For `tmp` this is `"tmp"`.
 impl fmt::Debug for UnixString {
     fn fmt<W: fmt::Write>(&self, f: &mut fmt::Formatter<W>) -> fmt::Result {
         fmt::Debug::fmt(&self.as_unix_str(), f)

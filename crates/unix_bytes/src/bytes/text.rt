@@ -1,4 +1,4 @@
-//! Text that was read from bytes.
+//! Strings converted from bytes that may be invalid UTF-8.
 ghost use Rattle.std.specs.Prelude.{◌≡◌, ◌↔◌, [], Some, IsOk, IfOk, IsTrue, nat_eq};
 ghost use Rattle.std.specs.Ordering.{nat_cmp};
 ghost use Rattle.std.specs.Cmp;
@@ -17,24 +17,22 @@ use std::cmp::Ordering;
 use std::fmt;
 use std::hash::{Hash, Hasher};
 
-/// Text that was read from bytes: borrowed from them if they are UTF-8, and new otherwise.
+/// The lossy form of some bytes: borrowed from them if they are valid UTF-8, and owned otherwise.
 ///
-/// It is compared, hashed and printed as the text, whichever of the two it is.
-/// It stands for Rust's `Cow<str>`.
+/// Comparison, hashing and printing use the string, whether it is borrowed or owned. Corresponds to
+/// Rust's `Cow<str>`.
 #[derive(Drop)]
 pub enum LossyText<'a> {
-    /// The bytes themselves.
+    /// The bytes that were converted, unchanged.
     Borrowed(&'a str),
-    /// A text of its own.
+    /// A new string.
     Owned(String),
 }
 
 impl LossyText<'_> {
-    /// The text, borrowed or not. Does not allocate.
+    /// Returns the string, borrowed or owned. Corresponds to `Deref` of Rust's `Cow<str>`.
     ///
-    /// As `Deref` of Rust's `Cow<str>`.
-    ///
-    /// For what was read from the bytes 61 FF it is `a` and U+FFFD.
+    /// For the bytes 61 FF the string is `a` and U+FFFD.
     pub fn as_str(&self) -> &str
         ensures { result.now ≡ text_bytes self.now }
     {
@@ -44,13 +42,13 @@ impl LossyText<'_> {
         }
     }
 
-    /// The text as a `String`: a copy if it is borrowed, and the text itself if it is owned.
+    /// Returns the string as a `String`: a copy if it is borrowed, and the string itself if it is
+    /// owned.
     ///
-    /// A copy allocates once, as many bytes as the text has; fails if the allocation fails. For an
-    /// owned text, or for no bytes, nothing is allocated and the call succeeds. As Rust's
-    /// `Cow::into_owned`.
+    /// A copy allocates once, with the length of the string; fails if the allocation fails. If the
+    /// string is owned or empty, nothing is allocated and the call succeeds.
     ///
-    /// For what was read from `ab` it is another `ab`.
+    /// For `ab`, borrowed from bytes, the result is another `ab`.
     pub fn into_owned(self, alloc: Global) -> Result<String, AllocError>
         ensures bytes { IfOk result (λ text. string_bytes text ≡ text_bytes self.entry) }
         ensures succeeds { ¬ (IsBorrowed self.entry) → IsOk result }
@@ -67,7 +65,7 @@ impl LossyText<'_> {
     }
 }
 
-/// Two texts are equal if their bytes are, whichever of the two each is.
+/// Two strings are equal if and only if their bytes are, whether the strings are borrowed or owned.
 impl PartialEq for LossyText<'_> {
     ghost eq = { λ x y. pointwise nat_eq (text_bytes x) (text_bytes y) };
 
@@ -81,7 +79,7 @@ impl PartialEq for LossyText<'_> {
     }
 }
 
-/// Each text equals itself.
+/// Each string equals itself.
 impl Eq for LossyText<'_> {
     ghost laws = { on_equiv text_bytes nat_list_eq_equiv };
 }
@@ -97,7 +95,7 @@ impl PartialOrd for LossyText<'_> {
     }
 }
 
-/// Texts are ordered by their bytes, and a proper prefix is the lesser, as with `str`.
+/// Compares byte by byte, like `str`. A proper prefix is less than the longer string.
 impl Ord for LossyText<'_> {
     ghost cmp = { λ x y. slice_cmp nat_cmp (text_bytes x) (text_bytes y) };
 
@@ -112,7 +110,7 @@ impl Ord for LossyText<'_> {
     }
 }
 
-/// The hash of `as_str`.
+/// Hashes like `as_str`.
 impl Hash for LossyText<'_> {
     ghost hash_input = { λ text. fed.str (text_bytes text) };
 
@@ -124,8 +122,8 @@ impl Hash for LossyText<'_> {
     }
 }
 
-/// The text, padded as a `str` is, by width, precision, fill and alignment. Does not allocate, and
-/// fails only if the writer does.
+/// Writes the string like a `str`, with width, precision, fill and alignment. Fails only if the
+/// writer fails.
 impl fmt::Display for LossyText<'_> {
     ghost output = { λ text. Some (text_bytes text) };
 
@@ -136,8 +134,7 @@ impl fmt::Display for LossyText<'_> {
     }
 }
 
-/// The debug form of the text: in quotes, with its escapes. Does not allocate, and fails only if
-/// the writer does.
+/// Writes the debug form of the string: in quotes, with escapes. Fails only if the writer fails.
 impl fmt::Debug for LossyText<'_> {
     ghost debug_output = { λ text. debug_str (text_bytes text) };
 

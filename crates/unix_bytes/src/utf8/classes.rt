@@ -1,8 +1,8 @@
-//! What a byte may be in UTF-8, alone or behind another.
+//! Tests of one byte in UTF-8, or of two consecutive bytes.
 ghost use Rattle.std.specs.Prelude.{◌≡◌, ◌↔◌, ◌≤◌, ◌∷◌, [], IsTrue};
 ghost use Rattle.unix_bytes.specs.Utf8.{begins_sequence};
 
-// Whether the byte may stand behind the first two of a sequence.
+// Returns true if and only if the byte is a tail byte: 80 to BF.
 #[inline(always)]
 pub(crate) fn is_tail(b: u8) -> bool
     ensures { IsTrue result ↔ (0x80 ≤ b) × (b ≤ 0xBF) }
@@ -10,7 +10,7 @@ pub(crate) fn is_tail(b: u8) -> bool
     0x80 <= b && b <= 0xBF
 }
 
-// Whether some sequence of two bytes or more begins with the byte.
+// Returns true if and only if some sequence of at least two bytes begins with the byte.
 #[inline(always)]
 pub(crate) fn is_lead(b: u8) -> bool
     ensures { IsTrue result ↔ (0xC2 ≤ b) × (b ≤ 0xF4) }
@@ -18,31 +18,31 @@ pub(crate) fn is_lead(b: u8) -> bool
     0xC2 <= b && b <= 0xF4
 }
 
-// Whether sequences of two bytes begin with the byte.
+// Returns true if and only if sequences of two bytes begin with the byte.
 #[inline(always)]
-pub(crate) fn leads_two(b: u8) -> bool
+pub(crate) fn is_lead_of_two(b: u8) -> bool
     ensures { IsTrue result ↔ (0xC2 ≤ b) × (b ≤ 0xDF) }
 {
     0xC2 <= b && b <= 0xDF
 }
 
-// Whether sequences of three bytes begin with the byte.
+// Returns true if and only if sequences of three bytes begin with the byte.
 #[inline(always)]
-pub(crate) fn leads_three(b: u8) -> bool
+pub(crate) fn is_lead_of_three(b: u8) -> bool
     ensures { IsTrue result ↔ (0xE0 ≤ b) × (b ≤ 0xEF) }
 {
     0xE0 <= b && b <= 0xEF
 }
 
-// Whether sequences of four bytes begin with the byte.
+// Returns true if and only if sequences of four bytes begin with the byte.
 #[inline(always)]
-pub(crate) fn leads_four(b: u8) -> bool
+pub(crate) fn is_lead_of_four(b: u8) -> bool
     ensures { IsTrue result ↔ (0xF0 ≤ b) × (b ≤ 0xF4) }
 {
     0xF0 <= b && b <= 0xF4
 }
 
-// Whether some sequence begins with these two bytes.
+// Returns true if and only if some sequence begins with these two bytes.
 #[inline(always)]
 #[tactic(auto, unfolding(crate::specs::Utf8::begins_sequence))]
 pub(crate) fn may_follow(first: u8, second: u8) -> bool

@@ -1,18 +1,19 @@
-//! How far text goes, and how many bytes are broken behind it.
+//! Finds the longest prefix that is valid UTF-8, and the length of the invalid front after it.
 ghost use Rattle.std.specs.Prelude.{◌≡◌, ◌<◌, ◌≤◌, length, drop, take, slice_index};
 ghost use Rattle.unix_bytes.specs.Utf8.{IsText};
 ghost use Rattle.unix_bytes.specs.Lossy.{is_text};
 ghost use Rattle.unix_bytes.specs.Steps.{longest_len, broken_len};
 
-use crate::utf8::ascii::{ascii_in_sixteen, ascii_prefix_len, wide_bits};
-use crate::utf8::classes::{is_tail, leads_four, leads_two};
-use crate::utf8::fronts::{begins_four, may_begin, wide_front};
+use crate::utf8::ascii::{ascii_len_simd16, ascii_prefix_len, non_ascii_bits};
+use crate::utf8::classes::{is_lead_of_four, is_lead_of_two, is_tail};
+use crate::utf8::fronts::{begins_four, may_begin, non_ascii_front};
 use crate::windows::window_len;
 
-// The lengths of the longest prefix that is text, and of the broken front behind it. A byte that is
-// broken alone is found at once if fewer than 16 bytes of ASCII stand before it.
+// Returns two lengths: of the longest prefix that is valid UTF-8, and of the invalid front after
+// it. Scans no further if there are at least 16 bytes, the first byte that is not ASCII is among
+// the first 16, and `may_begin` is false there.
 #[inline(always)]
-#[tactic(auto, using(crate::proofs::lemmas::stretches::StretchLemmas::none_is_text))]
+#[tactic(auto, using(crate::proofs::lemmas::prefixes::TextPrefixLemmas::none_is_text))]
 pub(crate) fn scan_text(source: &[u8]) -> (usize, usize)
     ensures text { result.0 ≡ longest_len is_text source.now }
     ensures broken { result.1 ≡ broken_len (drop result.0 source.now) }
@@ -20,19 +21,19 @@ pub(crate) fn scan_text(source: &[u8]) -> (usize, usize)
     if source.len() < 16 {
         return scan(source, 0);
     }
-    let at = ascii_in_sixteen(source);
+    let at = ascii_len_simd16(source);
     if at == 16 {
         return scan(source, 0);
     }
-    scan_wide(source, at)
+    scan_from_non_ascii(source, at)
 }
 
-// The lengths of the longest prefix that is text, and of the broken front behind it. The bytes up
-// to `at` are text, and the byte there is not ASCII.
+// Returns two lengths: of the longest prefix that is valid UTF-8, and of the invalid front after
+// it. The bytes before `at` must be valid UTF-8, and the byte at `at` must not be ASCII.
 #[inline(always)]
-fn scan_wide(source: &[u8], at: usize) -> (usize, usize)
+fn scan_from_non_ascii(source: &[u8], at: usize) -> (usize, usize)
     requires some { at < length source.now }
-    requires wide { 0x80 ≤ slice_index source.now at }
+    requires non_ascii { 0x80 ≤ slice_index source.now at }
     requires so_far { IsText (take at source.now) }
     ensures text { result.0 ≡ longest_len is_text source.now }
     ensures broken { result.1 ≡ broken_len (drop result.0 source.now) }
@@ -43,8 +44,8 @@ fn scan_wide(source: &[u8], at: usize) -> (usize, usize)
     (at, 1)
 }
 
-// The lengths of the longest prefix that is text, and of the broken front behind it. The bytes up
-// to `from` are text.
+// Returns two lengths: of the longest prefix that is valid UTF-8, and of the invalid front after
+// it. The bytes before `from` must be valid UTF-8.
 #[inline(always)]
 pub(crate) fn scan(source: &[u8], from: usize) -> (usize, usize)
     requires bound { from ≤ length source.now }
@@ -53,16 +54,17 @@ pub(crate) fn scan(source: &[u8], from: usize) -> (usize, usize)
     ensures broken { result.1 ≡ broken_len (drop result.0 source.now) }
 {
     if source.len() - from < 32 {
-        scan_few(source, from)
+        scan_by_sequence(source, from)
     } else {
-        scan_many(source, from)
+        scan_by_window(source, from)
     }
 }
 
-// The lengths of the longest prefix that is text, and of the broken front behind it. The bytes up
-// to `from` are text. Reads sequence by sequence, which is faster for few bytes.
+// Returns two lengths: of the longest prefix that is valid UTF-8, and of the invalid front after
+// it. The bytes before `from` must be valid UTF-8. Reads one sequence or one run of sequences at a
+// time, which is faster for few bytes.
 #[inline(never)]
-fn scan_few(source: &[u8], from: usize) -> (usize, usize)
+fn scan_by_sequence(source: &[u8], from: usize) -> (usize, usize)
     requires bound { from ≤ length source.now }
     requires so_far { IsText (take from source.now) }
     ensures text { result.0 ≡ longest_len is_text source.now }
@@ -74,14 +76,14 @@ fn scan_few(source: &[u8], from: usize) -> (usize, usize)
             rest = &rest[ascii_prefix_len(rest)..];
             continue;
         }
-        match wide_front(rest) {
+        match non_ascii_front(rest) {
             Ok(2) => {
                 rest = &rest[2..];
-                rest = &rest[pairs_len(rest)..];
+                rest = &rest[two_byte_prefix_len(rest)..];
             }
             Ok(4) => {
                 rest = &rest[4..];
-                rest = &rest[quads_len(rest)..];
+                rest = &rest[four_byte_prefix_len(rest)..];
             }
             Ok(size) => rest = &rest[size..],
             Err(size) => return (source.len() - rest.len(), size),
@@ -90,37 +92,37 @@ fn scan_few(source: &[u8], from: usize) -> (usize, usize)
     (source.len(), 0)
 }
 
-// How many of the first bytes are sequences of two bytes.
+// Returns the length of a prefix that consists of sequences of two bytes.
 #[inline(always)]
-fn pairs_len(source: &[u8]) -> usize
+fn two_byte_prefix_len(source: &[u8]) -> usize
     ensures bound { result ≤ length source.now }
     ensures text { IsText (take result source.now) }
 {
     let mut at = 0;
-    while 2 <= source.len() - at && leads_two(source[at]) && is_tail(source[at + 1]) {
+    while 2 <= source.len() - at && is_lead_of_two(source[at]) && is_tail(source[at + 1]) {
         at += 2;
     }
     at
 }
 
-// How many of the first bytes are sequences of four bytes.
+// Returns the length of a prefix that consists of sequences of four bytes.
 #[inline(always)]
-fn quads_len(source: &[u8]) -> usize
+fn four_byte_prefix_len(source: &[u8]) -> usize
     ensures bound { result ≤ length source.now }
     ensures text { IsText (take result source.now) }
 {
     let mut rest = source;
-    while !rest.is_empty() && leads_four(rest[0]) && begins_four(rest) {
+    while !rest.is_empty() && is_lead_of_four(rest[0]) && begins_four(rest) {
         rest = &rest[4..];
     }
     source.len() - rest.len()
 }
 
-// The lengths of the longest prefix that is text, and of the broken front behind it. The bytes up
-// to `from` are text. Tries windows behind each sequence that is not ASCII, which is faster for
-// many bytes.
+// Returns two lengths: of the longest prefix that is valid UTF-8, and of the invalid front after
+// it. The bytes before `from` must be valid UTF-8. After each sequence that is not ASCII, tries to
+// read windows of 16 bytes (`text_end`), which is faster for many bytes.
 #[inline(never)]
-fn scan_many(source: &[u8], from: usize) -> (usize, usize)
+fn scan_by_window(source: &[u8], from: usize) -> (usize, usize)
     requires bound { from ≤ length source.now }
     requires so_far { IsText (take from source.now) }
     ensures text { result.0 ≡ longest_len is_text source.now }
@@ -132,7 +134,7 @@ fn scan_many(source: &[u8], from: usize) -> (usize, usize)
             at += ascii_prefix_len(&source[at..]);
             continue;
         }
-        match wide_front(&source[at..]) {
+        match non_ascii_front(&source[at..]) {
             Ok(size) => at = text_end(source, at + size),
             Err(size) => return (at, size),
         }
@@ -140,9 +142,10 @@ fn scan_many(source: &[u8], from: usize) -> (usize, usize)
     (at, 0)
 }
 
-// A place up to which the bytes are text, found by windows; those up to `from` are text. Stops if
-// fewer than 16 bytes are left, and at a window that is all ASCII or in which a byte may not follow
-// the three before it. It is `from` if fewer than three bytes stand before that.
+// Returns an index, at least `from`, before which all bytes are valid UTF-8. The bytes before
+// `from` must be valid UTF-8. Reads one window of 16 bytes at a time. Stops where fewer than 16
+// bytes remain, at a window of only ASCII, and at a window in which a byte may not follow the three
+// before it. Returns `from` at once if `from` is less than 3.
 #[inline(always)]
 fn text_end(source: &[u8], from: usize) -> usize
     requires bound { from ≤ length source.now }
@@ -155,7 +158,7 @@ fn text_end(source: &[u8], from: usize) -> usize
         return from;
     }
     let mut at = from;
-    while 16 <= source.len() - at && wide_bits(source, at) != 0 {
+    while 16 <= source.len() - at && non_ascii_bits(source, at) != 0 {
         let size = window_len(&source[at - 3..]);
         if size == 0 {
             return at;

@@ -1,4 +1,4 @@
-//! Rows of what a buffer is made of, of its room, and of how it compares.
+//! Rows of how buffers are created, of their capacity, and of how they compare.
 use super::answers::assert_each;
 use super::edits::has_bytes;
 use super::views::path;
@@ -8,8 +8,8 @@ use std::test::Fail;
 use unix_bytes::bytes::{UnixStr, UnixString};
 use unix_path::PathBuf;
 
-// Whether these bytes are kept by a path, and by a copy of a clone of it that is made bytes, a path
-// and bytes again.
+// Returns true if a path keeps these bytes, and so does a copy of its clone that is converted to
+// bytes, to a path and to bytes again.
 fn are_kept(alloc: Global, bytes: UnixStr<'_>) -> Result<bool, AllocError> {
     let first = PathBuf::from_unix_str(alloc, bytes)?;
     let copy: UnixString = first.clone()?.as_path().to_path_buf(alloc)?.into();
@@ -23,7 +23,7 @@ fn conversions_keep_the_bytes(rt: HostRuntime) {
     assert!(rt; matches!(answer, Ok(true)));
 }
 
-// Whether the parts are the root and this name.
+// Returns true if the components are the root and this name.
 fn gives_root_and_name(buffer: &PathBuf, name: &str) -> bool {
     let mut parts = buffer.into_iter();
     parts.next() == Some(UnixStr::new("/"))
@@ -38,8 +38,8 @@ fn a_buffer_gives_its_parts(rt: HostRuntime) -> Result<(), Fail> {
     Ok(())
 }
 
-// Whether room for 100 bytes behind `foo` is made, and some given back, with a capacity of 5 or
-// more left.
+// Returns true if `foo` can reserve capacity for 100 more bytes, and then shrink to a smaller
+// capacity of at least 5.
 fn lends_room(buffer: &mut PathBuf) -> bool {
     buffer.reserve(100).is_ok()
         && buffer.capacity() >= 103
@@ -48,7 +48,7 @@ fn lends_room(buffer: &mut PathBuf) -> bool {
         && buffer.capacity() < 103
 }
 
-// Whether room for 50 bytes behind `foo` is made, and given back.
+// Returns true if `foo` can reserve capacity for 50 more bytes, and then release some of it.
 fn lends_exact_room(buffer: &mut PathBuf) -> bool {
     buffer.reserve_exact(50).is_ok()
         && buffer.capacity() >= 53
@@ -56,7 +56,8 @@ fn lends_exact_room(buffer: &mut PathBuf) -> bool {
         && buffer.capacity() < 53
 }
 
-// Whether an empty path takes `foo` within its capacity, which a shrink to more leaves.
+// Returns true if `foo` is pushed to an empty path within its capacity, and shrinking to a greater
+// capacity changes nothing.
 fn has_room_for_foo(buffer: &mut PathBuf) -> bool {
     let before = buffer.capacity();
     buffer.push(path("foo")).is_ok()
@@ -94,7 +95,7 @@ static COMPARISONS: [(&str, &str, Ordering); 9] = [
     ("./a", "a", Ordering::Less),
 ];
 
-// Whether owned copies compare so.
+// Returns true if owned copies compare this way.
 fn are_ordered(alloc: Global, a: &str, b: &str, order: Ordering) -> Result<bool, AllocError> {
     let first = PathBuf::from_text(alloc, a)?;
     let second = PathBuf::from_text(alloc, b)?;

@@ -49,7 +49,7 @@ fn strip_error(path: &str, base: &str) -> Option<StripPrefixError> {
     }
 }
 
-// Whether there is an error, with the right texts.
+// Returns true if there is an error, with the expected display and debug texts.
 fn has_texts(alloc: Global, error: Option<StripPrefixError>) -> bool {
     match error {
         Some(error) => {

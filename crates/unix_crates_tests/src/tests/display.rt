@@ -13,7 +13,7 @@ use unix_bytes::bytes::LossyText;
 use unix_bytes::lossy::Utf8Lossy;
 use unix_path::{Display, Path};
 
-// What a caller can prove of the text that it prints.
+// Returns the lossy text by printing it, with what a caller can prove about it.
 fn lossy_text(alloc: Global, bytes: &[u8]) -> Result<String, AllocError>
     ensures { IfOk result (λ text. string_bytes text ≡ lossy_of bytes.now) }
 {
@@ -49,7 +49,7 @@ fn paths_are_shown(rt: HostRuntime) {
     }
 }
 
-// Text is padded as a `str` is; bytes that are no text ignore width, precision and fill.
+// Pads valid UTF-8 as a `str` is padded. Invalid bytes ignore width, precision and fill.
 #[test]
 fn text_is_padded(rt: HostRuntime) {
     let alloc = rt.alloc();
@@ -64,7 +64,7 @@ fn text_is_padded(rt: HostRuntime) {
     assert_debug_text(&rt, alloc, &broken, "\"a\u{FFFD}\"");
 }
 
-// Whether a borrowed lossy text was given, and is this one.
+// Returns true if a borrowed lossy text was returned and is this one.
 fn is_borrowed(given: Result<LossyText<'_>, AllocError>, wanted: &str) -> bool {
     match given {
         Ok(LossyText::Borrowed(text)) => text == wanted,
@@ -85,8 +85,8 @@ fn text_is_borrowed(rt: HostRuntime) {
     );
 }
 
-// Whether the display failed with the one write that was refused, made `most` writes before it, and
-// wrote a beginning of its text and not all of it.
+// Returns true if the display failed with the one write that failed, made `most` writes before it,
+// and wrote a prefix of its text but not all of it.
 fn is_ended(writer: &RefusingWriter, answer: fmt::Result, most: usize, whole: &str) -> bool {
     answer.is_err()
         && writer.refused_writes == 1
@@ -95,7 +95,8 @@ fn is_ended(writer: &RefusingWriter, answer: fmt::Result, most: usize, whole: &s
         && whole.starts_with(writer.text.as_str())
 }
 
-// How many writes the display makes, if it gives this text and ends at each write that is refused.
+// Returns the number of writes that the display makes; `None` if it does not write this text, or
+// does not end at each write that fails.
 fn writes_of(alloc: Global, path: Path<'_>, whole: &str) -> Option<usize> {
     let mut writer = RefusingWriter::after(alloc, usize::MAX);
     if write!(writer, "{}", path.display()).is_err() || writer.text.as_str() != whole {
@@ -112,7 +113,7 @@ fn writes_of(alloc: Global, path: Path<'_>, whole: &str) -> Option<usize> {
     Some(count)
 }
 
-// Whether the display gives this text, and ends at each write that is refused.
+// Returns true if the display writes this text, and ends at each write that fails.
 fn ends_at_each(alloc: Global, bytes: &[u8], whole: &str) -> bool {
     match writes_of(alloc, Path::from_bytes(bytes), whole) {
         Some(count) => count > 0,
@@ -134,7 +135,7 @@ fn one_refused_write_ends_a_display(rt: HostRuntime) {
     );
 }
 
-// The lossy text of four stretches of 400 letters, each with a byte after it that is no text.
+// Returns the lossy text of four runs of 400 letters, each followed by an invalid byte.
 fn text_of_stretches(alloc: Global) -> Result<String, AllocError> {
     let mut whole = String::new(alloc);
     for letter in ["a", "b", "c", "d"] {
@@ -146,7 +147,8 @@ fn text_of_stretches(alloc: Global) -> Result<String, AllocError> {
     Ok(whole)
 }
 
-// How many writes the display of the long stretches makes, if it ends at each that is refused.
+// Returns the number of writes that the display of these four runs makes; `None` if it does not end
+// at each write that fails.
 fn writes_of_long_stretches(alloc: Global) -> Result<Option<usize>, AllocError> {
     let mut bytes = [0xFF; 1604];
     for place in 0..400 {

@@ -1,4 +1,4 @@
-//! Rows of file names, of ends that are replaced, and of edits that follow one another.
+//! Rows of file names, of ends that are replaced, and of consecutive edits.
 use super::kept_paths::buffer_has_bytes;
 use super::views::path;
 use std::alloc::{AllocError, Global};
@@ -6,7 +6,7 @@ use std::test::Fail;
 use unix_bytes::bytes::UnixStr;
 use unix_path::{Path, PathBuf};
 
-// Whether the path has these bytes.
+// Returns true if the path has these bytes.
 pub(super) fn has_bytes(found: &PathBuf, wanted: &str) -> bool {
     found.as_path().as_unix_str() == UnixStr::new(wanted)
 }
@@ -47,7 +47,8 @@ static ENDS: [(&str, usize, Option<u8>, &str, &str); 5] = [
     ("", 0, None, "a", "a"),
 ];
 
-// Whether the path is `new` after what follows these first bytes is replaced.
+// Replaces what follows the first `row.1` bytes of the row's path. Returns true if the path is then
+// the row's last text.
 fn replaces_end(
     alloc: Global,
     row: &(&str, usize, Option<u8>, &str, &str),
@@ -71,7 +72,8 @@ fn ends_are_replaced(rt: HostRuntime) {
     }
 }
 
-// Whether `/` takes two parts, an extension and another one, and is then cleared.
+// Pushes two names to `/`, sets an extension and then another one, and clears the path. Returns
+// true if each edit has the expected result.
 fn takes_edits(buffer: &mut PathBuf) -> bool {
     let is_pushed = buffer.push(path("feel")).is_ok() && buffer.push(path("the")).is_ok();
     let is_set = matches!(buffer.set_extension(UnixStr::new("force")), Ok(true));
@@ -96,7 +98,7 @@ fn many_paths_are_joined_from_the_left(rt: HostRuntime) {
     assert!(rt; buffer_has_bytes(joined, "/feel/the.force"));
 }
 
-// Whether the path takes these paths, and has these bytes then.
+// Returns true if the path can be extended by these paths, and then has these bytes.
 fn extends(buffer: &mut PathBuf, paths: &[Path<'_>], wanted: &str) -> bool {
     buffer.extend(paths.iter().copied()).is_ok() && has_bytes(buffer, wanted)
 }

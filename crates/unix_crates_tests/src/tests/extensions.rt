@@ -1,4 +1,4 @@
-//! Rows of extensions that are set, added and refused.
+//! Rows of extensions that are set, added and rejected.
 use super::edits::has_bytes;
 use super::texts::{assert_text, text_of_error};
 use super::views::path;
@@ -28,7 +28,8 @@ static EXTENSIONS_SET: [(&str, &str, &str, bool); 18] = [
     ("foo.rs/.", "txt", "foo.txt", true),
 ];
 
-// Whether a new extension makes `new` of `old`, in place with this answer, and as a copy.
+// Returns true if setting the extension changes `old` to `new`, in place with this result, and in a
+// copy.
 fn takes_extension(
     alloc: Global,
     old: &str,
@@ -67,7 +68,8 @@ static EXTENSIONS_ADDED: [(&str, &str, &str, bool); 13] = [
     ("", "x", "", false),
 ];
 
-// Whether an added extension makes `new` of `old`, in place with this answer, and as a copy.
+// Returns true if adding the extension changes `old` to `new`, in place with this result, and in a
+// copy.
 fn adds_extension(
     alloc: Global,
     old: &str,
@@ -89,7 +91,7 @@ fn an_extension_is_added_behind_the_name(rt: HostRuntime) {
     }
 }
 
-// A path, and an extension that it refuses.
+// A path, and an extension that is rejected.
 static EXTENSIONS_REFUSED: [(&str, &str); 7] = [
     ("a", "x/y"),
     ("foo.rs/.", "/"),
@@ -100,12 +102,12 @@ static EXTENSIONS_REFUSED: [(&str, &str); 7] = [
     ("", "/"),
 ];
 
-// Whether the extension is refused for its separator.
+// Returns true if the extension is rejected for its separator.
 fn is_separator<T>(answer: &Result<T, ExtensionError>) -> bool {
     matches!(answer, Err(ExtensionError::Separator))
 }
 
-// Whether all four calls refuse the extension, and leave the path.
+// Returns true if all four calls reject the extension, and leave the path unchanged.
 fn is_refused(alloc: Global, old: &str, extension: &str) -> Result<bool, AllocError> {
     let extension = UnixStr::new(extension);
     let mut buffer = PathBuf::from_text(alloc, old)?;

@@ -1,8 +1,9 @@
 //! Rows of which bytes of a path are filler.
-use unix_path::filler::{filler_len, is_filler, is_trailing, past_filler};
+use unix_path::filler::{after_filler, filler_len, is_filler, is_trailing};
 
-// Bytes, `x` for each that is filler or a lead from in front, the same from behind, and how many
-// bytes of filler stand in front if a slash stands before them.
+// Bytes; an `x` for each byte for which `is_filler` is true; an `x` for each byte for which
+// `is_trailing` is true; and the length of the filler at the beginning of the bytes, if a slash
+// precedes them.
 type Filler = (&'static [u8], &'static [u8], &'static [u8], usize);
 
 static FILLER: [Filler; 14] = [
@@ -40,13 +41,13 @@ fn marks_trailing(bytes: &[u8], crosses: &[u8]) -> bool {
     bytes.len() == crosses.len()
 }
 
-// Whether all is as the row says.
+// Returns true if the calls return what the row says.
 fn has_filler(row: &Filler) -> bool {
     let (bytes, in_front, behind, len) = *row;
     marks_filler(bytes, in_front)
         && marks_trailing(bytes, behind)
         && filler_len(bytes) == len
-        && bytes.get(len..) == Some(past_filler(bytes))
+        && bytes.get(len..) == Some(after_filler(bytes))
 }
 
 #[test]
@@ -66,6 +67,6 @@ static LONG_FILLER: [(&[u8], &[u8]); 3] = [
 #[test]
 fn long_filler_is_passed(rt: HostRuntime) {
     for &(bytes, rest) in &LONG_FILLER {
-        assert!(rt; past_filler(bytes) == rest);
+        assert!(rt; after_filler(bytes) == rest);
     }
 }

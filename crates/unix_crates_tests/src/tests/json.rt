@@ -1,4 +1,4 @@
-//! Rows of paths as JSON, and what a caller proves of them.
+//! Rows of paths as JSON, and what a caller proves about them.
 ghost use Rattle.std.specs.Prelude.{◌≡◌, IfOk};
 ghost use Rattle.unix_path.specs.Buffers.{path_bytes};
 
@@ -9,7 +9,7 @@ use unix_bytes::bytes::UnixStr;
 use unix_path::json::{JsonError, from_json, to_json};
 use unix_path::{Path, PathBuf};
 
-// The path that is read from the JSON value of `path`: it has the same bytes.
+// Returns the path that is read from the JSON value of `path`. It has the same bytes.
 fn write_then_read(alloc: Global, path: Path<'_>) -> Result<PathBuf, JsonError>
     ensures { IfOk result (λ p. path_bytes p ≡ path.entry.bytes.now) }
 {
@@ -17,7 +17,7 @@ fn write_then_read(alloc: Global, path: Path<'_>) -> Result<PathBuf, JsonError>
     from_json(alloc, &value)
 }
 
-// A copy of the path, with the error of JSON if the allocation fails.
+// Returns a copy of the path, or the error of JSON if the allocation fails.
 fn copied(alloc: Global, path: Path<'_>) -> Result<PathBuf, JsonError>
     ensures { IfOk result (λ p. path_bytes p ≡ path.entry.bytes.now) }
 {
@@ -25,7 +25,7 @@ fn copied(alloc: Global, path: Path<'_>) -> Result<PathBuf, JsonError>
     Ok(copy)
 }
 
-// Whether a value was given, and is a string of this text.
+// Returns true if a value was returned and is a string of this text.
 fn is_string(given: Result<Value, JsonError>, text: &str) -> bool {
     match given {
         Ok(value) => value.as_str() == Some(text),
@@ -33,7 +33,7 @@ fn is_string(given: Result<Value, JsonError>, text: &str) -> bool {
     }
 }
 
-// Whether a path was given, and has this text.
+// Returns true if a path was returned and has this text.
 fn is_path(given: Result<PathBuf, JsonError>, text: &str) -> bool {
     match given {
         Ok(path) => path.as_path().as_unix_str() == UnixStr::new(text),
@@ -43,7 +43,7 @@ fn is_path(given: Result<PathBuf, JsonError>, text: &str) -> bool {
 
 static TEXTS: [&str; 6] = ["a\"b", "", "a\\b", "\u{1}", "\u{E9}", "a//b/."];
 
-// Whether the path of this text is written as this text, and read back.
+// Returns true if the path of this text is written as this text, and read back.
 fn reads_back(alloc: Global, text: &str) -> bool {
     let path = Path::from_text(text);
     is_string(to_json(alloc, path), text)
@@ -58,7 +58,7 @@ fn a_written_path_reads_back(rt: HostRuntime) {
     }
 }
 
-// Whether the text is JSON of a value that is no string.
+// Returns true if the text is JSON, and its value is not a string.
 fn is_no_string(alloc: Global, text: &str) -> bool {
     match Value::from_str(alloc, text) {
         Ok(value) => matches!(from_json(alloc, &value), Err(JsonError::NotString)),
@@ -66,7 +66,7 @@ fn is_no_string(alloc: Global, text: &str) -> bool {
     }
 }
 
-// Whether the text is JSON of a string, and of this path.
+// Returns true if the text is a JSON string whose value is this path.
 fn is_json_of(alloc: Global, text: &str, path: &str) -> bool {
     match Value::from_str(alloc, text) {
         Ok(value) => is_path(from_json(alloc, &value), path),

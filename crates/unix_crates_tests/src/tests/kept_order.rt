@@ -1,7 +1,7 @@
 //! Rows of how boxed, shared, and borrowed or owned paths compare and hash, and what a caller
-//! proves of them.
+//! proves about them.
 ghost use Rattle.std.specs.Prelude.{◌↔◌, IsTrue};
-ghost use Rattle.unix_path.specs.Kept.{boxed_bytes};
+ghost use Rattle.unix_path.specs.Pointers.{boxed_bytes};
 ghost use Rattle.unix_path.specs.Parts.{SameValues};
 
 use super::answers::assert_each;
@@ -21,14 +21,14 @@ fn same_boxed(a: &BoxedPath, b: &BoxedPath) -> bool
     *a == *b
 }
 
-// What the value feeds a hasher.
+// Returns what the value feeds a hasher.
 fn hash_input<T: Hash>(value: &T) -> RecordingHasher {
     let mut state = RecordingHasher::new();
     value.hash(&mut state);
     state
 }
 
-// Whether each of the paths has this text.
+// Returns true if each of the paths has this text.
 fn have_text(paths: &[Path<'_>], text: &str) -> bool {
     for path in paths {
         if path.as_unix_str() != UnixStr::new(text) {
@@ -38,7 +38,7 @@ fn have_text(paths: &[Path<'_>], text: &str) -> bool {
     true
 }
 
-// Whether the path is equal to each of the others.
+// Returns true if the path is equal to each of `others`.
 fn equals_each(path: Path<'_>, others: &[Path<'_>]) -> bool {
     for other in others {
         if path != *other || path.cmp(other) != Ordering::Equal {
@@ -48,7 +48,7 @@ fn equals_each(path: Path<'_>, others: &[Path<'_>]) -> bool {
     true
 }
 
-// Whether each of the paths is equal to each of the others.
+// Returns true if each of the paths is equal to each of `others`.
 fn each_equals_each(paths: &[Path<'_>], others: &[Path<'_>]) -> bool {
     for path in paths {
         if !equals_each(*path, others) {
@@ -58,10 +58,10 @@ fn each_equals_each(paths: &[Path<'_>], others: &[Path<'_>]) -> bool {
     true
 }
 
-// What keeps a path: a buffer, a boxed path and a shared one.
+// The types that own a path: a buffer, a boxed path and a shared one.
 type Owners = (PathBuf, BoxedPath, RcPath);
 
-// The path of this text, and those of the owners, and of the borrowed or owned path.
+// Returns the path of this text, and the paths of the owners and of the borrowed or owned path.
 fn views_of<'a>(text: &'a str, owners: &'a Owners, cow: &'a CowPath<'_>) -> [Path<'a>; 5] {
     [
         path(text),
@@ -72,7 +72,8 @@ fn views_of<'a>(text: &'a str, owners: &'a Owners, cow: &'a CowPath<'_>) -> [Pat
     ]
 }
 
-// Whether the five types of `a//b` keep its bytes, and equal those of `a/b`, which keep theirs.
+// Returns true if the five types of path keep the bytes of `a//b` and of `a/b`, and each path
+// `a//b` is equal to each path `a/b`.
 fn compare_alike(owners: &Owners, others: &Owners, owned: CowPath<'_>) -> bool {
     let cow = CowPath::from(&owners.0);
     let paths = views_of("a//b", owners, &cow);
@@ -81,7 +82,7 @@ fn compare_alike(owners: &Owners, others: &Owners, owned: CowPath<'_>) -> bool {
     have_texts && each_equals_each(&paths, &others)
 }
 
-// Whether that is so of owners that are made.
+// Returns true if `compare_alike` holds for owners that are created here.
 fn all_compare_alike(alloc: Global) -> Result<bool, AllocError> {
     let owners = owners_of(alloc, "a//b")?;
     let others = owners_of(alloc, "a/b")?;
@@ -94,7 +95,7 @@ fn all_types_compare_alike(rt: HostRuntime) {
     assert!(rt; matches!(all_compare_alike(rt.alloc()), Ok(true)));
 }
 
-// Whether each of the five types feeds a hasher this input.
+// Returns true if each of the five types feeds a hasher this input.
 fn feed_alike(owners: &Owners, owned: CowPath<'_>, input: RecordingHasher) -> bool {
     let cow = CowPath::from(&owners.0);
     hash_input(&owners.0) == input
@@ -104,7 +105,7 @@ fn feed_alike(owners: &Owners, owned: CowPath<'_>, input: RecordingHasher) -> bo
         && hash_input(&owned) == input
 }
 
-// Whether each type of path with this text feeds a hasher this input.
+// Returns true if each type of path with this text feeds a hasher this input.
 fn all_feed_alike(alloc: Global, text: &str, input: RecordingHasher) -> Result<bool, AllocError> {
     let owners = owners_of(alloc, text)?;
     let owned = CowPath::from(owners.0.clone()?);
@@ -124,7 +125,7 @@ fn all_types_hash_alike(rt: HostRuntime) {
     );
 }
 
-// Whether `less` comes before the two others, which are equal.
+// Returns true if `less` is less than `a` and `b`, which are equal.
 fn are_ordered<T: Ord>(less: &T, a: &T, b: &T) -> bool {
     a == b
         && less != a
@@ -133,7 +134,7 @@ fn are_ordered<T: Ord>(less: &T, a: &T, b: &T) -> bool {
         && a.partial_cmp(less) == Some(Ordering::Greater)
 }
 
-// Whether boxed paths are in order.
+// Returns true if boxed paths are in order.
 fn boxed_are_ordered(alloc: Global) -> Result<bool, AllocError> {
     let less = BoxedPath::from_path(alloc, path("a/b"))?;
     let a = BoxedPath::from_path(alloc, path("a.b//"))?;
@@ -141,7 +142,7 @@ fn boxed_are_ordered(alloc: Global) -> Result<bool, AllocError> {
     Ok(are_ordered(&less, &a, &b) && same_boxed(&a, &b) && !same_boxed(&less, &a))
 }
 
-// Whether shared paths are in order.
+// Returns true if shared paths are in order.
 fn shared_are_ordered(alloc: Global) -> Result<bool, AllocError> {
     let less = RcPath::from_path(alloc, path("a/b"))?;
     let a = RcPath::from_path(alloc, path("a.b//"))?;
@@ -149,7 +150,7 @@ fn shared_are_ordered(alloc: Global) -> Result<bool, AllocError> {
     Ok(are_ordered(&less, &a, &b))
 }
 
-// Whether borrowed and owned paths are in order.
+// Returns true if borrowed and owned paths are in order.
 fn cows_are_ordered(alloc: Global) -> Result<bool, AllocError> {
     let less = CowPath::from(PathBuf::from_text(alloc, "a/b")?);
     let buffer = PathBuf::from_text(alloc, "a.b//")?;
@@ -169,14 +170,14 @@ fn kept_paths_are_ordered(rt: HostRuntime) {
     );
 }
 
-// Whether an ordered map finds a boxed path by an equal one.
+// Returns true if an ordered map finds a boxed path by an equal one.
 fn ordered_map_finds(alloc: Global) -> Result<bool, AllocError> {
     let mut map = BTreeMap::new(alloc);
     map.insert(BoxedPath::from_path(alloc, path("a//b"))?, 1)?;
     Ok(map.get(&BoxedPath::from_path(alloc, path("a/b/."))?) == Some(&1))
 }
 
-// Whether a hashed map finds a shared path by an equal one.
+// Returns true if a hashed map finds a shared path by an equal one.
 fn hashed_map_finds(alloc: Global) -> Result<bool, AllocError> {
     let mut map = HashMap::new(alloc);
     map.insert(RcPath::from_path(alloc, path("a//b"))?, 1)?;
@@ -189,8 +190,8 @@ fn maps_find_equal_paths(rt: HostRuntime) {
     assert!(rt; matches!(hashed_map_finds(rt.alloc()), Ok(true)));
 }
 
-// Whether the path `foo/bar`, the same pushed part by part, and both as borrowed or owned paths are
-// equal, each to each.
+// Returns true if the path `foo/bar`, the same path pushed component by component, and both as
+// borrowed or owned paths are all equal to each other.
 fn receivers_are_equal(alloc: Global) -> Result<bool, AllocError> {
     let borrowed = path("foo/bar");
     let mut owned = PathBuf::new(alloc);

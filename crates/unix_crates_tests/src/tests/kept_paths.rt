@@ -1,5 +1,5 @@
-//! Rows of what boxed, shared, and borrowed or owned paths are made of, and what a caller proves
-//! of them.
+//! Rows of how boxed, shared, and borrowed or owned paths are created, and what a caller proves
+//! about them.
 ghost use Rattle.std.specs.Prelude.{◌≡◌, IsOk, IfOk};
 ghost use Rattle.unix_path.specs.Buffers.{path_bytes};
 
@@ -11,8 +11,8 @@ use std::test::Fail;
 use unix_bytes::bytes::UnixStr;
 use unix_path::{BoxedPath, CowPath, Path, PathBuf, RcPath};
 
-// The buffer, made an owned path, made a buffer again, and then borrowed as a path that is cloned:
-// none of these three steps allocates, so none fails.
+// Converts the buffer to an owned path and back, and then clones it as a borrowed path. None of
+// these three steps allocates, so none fails.
 fn rewrap(alloc: Global, buffer: PathBuf) -> Result<PathBuf, AllocError>
     ensures bytes { IfOk result (λ p. path_bytes p ≡ path_bytes buffer) }
     ensures succeeds { IsOk result }
@@ -22,7 +22,7 @@ fn rewrap(alloc: Global, buffer: PathBuf) -> Result<PathBuf, AllocError>
     Ok(owned)
 }
 
-// The three owners of a copy of `text`.
+// Returns a copy of `text` as each of the three owning path types.
 pub(super) fn owners_of(
     alloc: Global,
     text: &str,
@@ -35,13 +35,13 @@ pub(super) fn owners_of(
     ))
 }
 
-// Whether the path has the bytes of `text`.
+// Returns true if the path has the bytes of `text`.
 fn has_bytes(path: Path<'_>, text: &str) -> bool {
     path.as_unix_str() == UnixStr::new(text)
 }
 
-// Whether a buffer was given and has the bytes of `text`. This function and the next two take the
-// answer of a call, so that a test holds no owner over an assertion.
+// Returns true if a buffer was returned and has the bytes of `text`. This function and the next two
+// consume the result of a call, so that a test has no owner across an assertion.
 pub(super) fn buffer_has_bytes(given: Result<PathBuf, AllocError>, text: &str) -> bool {
     match given {
         Ok(buffer) => has_bytes(buffer.as_path(), text),
@@ -49,7 +49,7 @@ pub(super) fn buffer_has_bytes(given: Result<PathBuf, AllocError>, text: &str) -
     }
 }
 
-// Whether a boxed path was given and has the bytes of `text`.
+// Returns true if a boxed path was returned and has the bytes of `text`.
 fn boxed_has_bytes(given: Result<BoxedPath, AllocError>, text: &str) -> bool {
     match given {
         Ok(boxed) => has_bytes(boxed.as_path(), text),
@@ -57,7 +57,7 @@ fn boxed_has_bytes(given: Result<BoxedPath, AllocError>, text: &str) -> bool {
     }
 }
 
-// Whether a shared path was given and has the bytes of `text`.
+// Returns true if a shared path was returned and has the bytes of `text`.
 fn shared_has_bytes(given: Result<RcPath, AllocError>, text: &str) -> bool {
     match given {
         Ok(shared) => has_bytes(shared.as_path(), text),
@@ -65,17 +65,18 @@ fn shared_has_bytes(given: Result<RcPath, AllocError>, text: &str) -> bool {
     }
 }
 
-// Whether the borrowed or owned path has the bytes of `text`.
+// Returns true if the borrowed or owned path has the bytes of `text`.
 fn cow_has_bytes(cow: CowPath<'_>, text: &str) -> bool {
     has_bytes(cow.as_path(), text)
 }
 
-// Whether both are equal as paths.
+// Returns true if both are equal as paths.
 fn are_equal(cow: CowPath<'_>, other: CowPath<'_>) -> bool {
     cow.as_path() == other.as_path()
 }
 
-// Whether the path is equal to what the buffer becomes, as a view, borrowed and owned.
+// Returns true if the path is equal to the buffer: to a view of it, to it borrowed, and to it
+// owned.
 fn becomes_each(path: Path<'_>, buffer: PathBuf) -> bool {
     let is_view = are_equal(CowPath::from(path), CowPath::from(buffer.as_path()));
     let is_borrowed = are_equal(CowPath::from(path), CowPath::from(&buffer));
@@ -90,19 +91,19 @@ fn paths_become_borrowed_or_owned(rt: HostRuntime) -> Result<(), Fail> {
     Ok(())
 }
 
-// A copy of the path, boxed and unboxed.
+// Returns a copy of the path, boxed and unboxed.
 fn box_then_unbox(alloc: Global, path: Path<'_>) -> Result<PathBuf, AllocError> {
     path.to_path_buf(alloc)?
         .into_boxed_path()?
         .into_path_buf(alloc)
 }
 
-// Whether the three are equal as paths, each to the next.
+// Returns true if the three are equal as paths, each to the next.
 fn equal_each_other(path: Path<'_>, boxed: Path<'_>, buffer: Path<'_>) -> bool {
     path == boxed && boxed == buffer && buffer == path
 }
 
-// Whether a box of the path, and a copy that is boxed and unboxed, are equal to it.
+// Returns true if a boxed copy of the path, and a copy that is boxed and unboxed, are equal to it.
 fn is_boxed(alloc: Global, path: Path<'_>) -> Result<bool, AllocError> {
     let boxed = BoxedPath::from_path(alloc, path)?;
     let buffer = box_then_unbox(alloc, path)?;
@@ -115,7 +116,7 @@ fn paths_are_boxed(rt: HostRuntime) {
     assert!(rt; matches!(answer, Ok(true)));
 }
 
-// Whether a shared path was given and is equal to this one.
+// Returns true if a shared path was returned and is equal to this one.
 fn equals(given: Result<RcPath, AllocError>, path: Path<'_>) -> bool {
     match given {
         Ok(shared) => shared.as_path() == path,
@@ -133,27 +134,28 @@ fn paths_are_shared(rt: HostRuntime) -> Result<(), Fail> {
     Ok(())
 }
 
-// `foo/`, with room behind it.
+// Returns `foo/`, with spare capacity.
 fn buffer_with_room(alloc: Global) -> Result<PathBuf, AllocError> {
     let mut buffer = PathBuf::with_capacity(alloc, 4096)?;
     buffer.push(path("foo/"))?;
     Ok(buffer)
 }
 
-// Whether a box of `foo/`, a clone of the box and the buffer that it becomes have these bytes.
+// Returns true if a box of `foo/`, a clone of the box and the buffer that it becomes have these
+// bytes.
 fn boxes_keep_the_bytes(alloc: Global) -> Result<bool, AllocError> {
     let boxed = BoxedPath::from_path_buf(buffer_with_room(alloc)?)?;
     let is_kept = has_bytes(boxed.as_path(), "foo/") && boxed_has_bytes(boxed.clone(), "foo/");
     Ok(buffer_has_bytes(boxed.into_path_buf(alloc), "foo/") && is_kept)
 }
 
-// Whether a shared `foo/` has a clone of these bytes.
+// Returns true if a clone of a shared `foo/` has these bytes.
 fn shares_keep_the_bytes(alloc: Global) -> Result<bool, AllocError> {
     let shared = RcPath::from_path_buf(alloc, buffer_with_room(alloc)?)?;
     Ok(shared_has_bytes(shared.clone(), "foo/"))
 }
 
-// Whether the box that the buffer `foo/` becomes has these bytes.
+// Returns true if the box that the buffer `foo/` becomes has these bytes.
 fn a_buffer_becomes_a_box(alloc: Global) -> Result<bool, AllocError> {
     let boxed = buffer_with_room(alloc)?.into_boxed_path();
     Ok(boxed_has_bytes(boxed, "foo/"))
@@ -172,20 +174,22 @@ fn boxed_and_shared_paths_keep_the_bytes(rt: HostRuntime) {
     );
 }
 
-// Whether a clone of the path `foo/`, and a box of one, have these bytes.
+// Returns true if a clone of the path `foo/`, and a box of a clone, have these bytes.
 fn copies_keep_the_bytes(alloc: Global, path: &CowPath<'_>) -> Result<bool, AllocError> {
     let is_kept = cow_has_bytes(path.clone()?, "foo/");
     let boxed = BoxedPath::from_cow(alloc, path.clone()?);
     Ok(boxed_has_bytes(boxed, "foo/") && is_kept)
 }
 
-// Whether what is made of the path `foo/` has these bytes: a clone, a box, and an owned path.
+// Returns true if what is created from the path `foo/` has these bytes: a clone, a box, and an
+// owned path.
 fn keeps_the_bytes(alloc: Global, path: CowPath<'_>) -> Result<bool, AllocError> {
     let is_kept = copies_keep_the_bytes(alloc, &path)?;
     Ok(buffer_has_bytes(path.into_owned(alloc), "foo/") && is_kept)
 }
 
-// Whether the buffer `foo/` keeps its bytes as a path, and once it is made one and a buffer again.
+// Returns true if the buffer `foo/` keeps its bytes as a path, and when it is converted to a path
+// and back.
 fn a_buffer_keeps_the_bytes(alloc: Global) -> Result<bool, AllocError> {
     let is_kept = keeps_the_bytes(alloc, CowPath::from(buffer_with_room(alloc)?))?;
     Ok(buffer_has_bytes(rewrap(alloc, buffer_with_room(alloc)?), "foo/") && is_kept)
@@ -199,7 +203,7 @@ fn borrowed_and_owned_paths_keep_the_bytes(rt: HostRuntime) {
     assert!(rt; matches!(a_buffer_keeps_the_bytes(alloc), Ok(true)));
 }
 
-// Whether the buffers that an owned text and owned bytes become have the bytes of `text`.
+// Returns true if the buffers that an owned text and owned bytes become have the bytes of `text`.
 fn owned_keep_a_name(alloc: Global, text: &str) -> Result<bool, AllocError> {
     let of_text = PathBuf::from(String::from_str(alloc, text)?);
     let of_bytes = PathBuf::from(UnixStr::new(text).to_unix_string(alloc)?);
@@ -220,12 +224,12 @@ fn a_buffer_keeps_a_name(rt: HostRuntime) {
     );
 }
 
-// Whether the debug text of the borrowed or owned path is `/tmp` in quotes.
+// Returns true if the debug text of the borrowed or owned path is `/tmp` in quotes.
 fn cow_has_debug_text(alloc: Global, cow: CowPath<'_>) -> bool {
     is_debug_text(alloc, &cow, "\"/tmp\"")
 }
 
-// Whether the debug text of each owner is `/tmp` in quotes, and so is that of a borrowed path.
+// Returns true if the debug text of each owner, and of a borrowed path, is `/tmp` in quotes.
 fn have_debug_text(alloc: Global, owners: &(PathBuf, BoxedPath, RcPath)) -> bool {
     let wanted = "\"/tmp\"";
     is_debug_text(alloc, &owners.0, wanted)
@@ -234,7 +238,8 @@ fn have_debug_text(alloc: Global, owners: &(PathBuf, BoxedPath, RcPath)) -> bool
         && cow_has_debug_text(alloc, CowPath::from(&owners.0))
 }
 
-// Whether the debug text of each type of path that keeps `/tmp` is that in quotes.
+// Returns true if the debug text of each type of path that owns or borrows `/tmp` is `/tmp` in
+// quotes.
 fn are_quoted(alloc: Global) -> Result<bool, AllocError> {
     let owners = owners_of(alloc, "/tmp")?;
     let owned = CowPath::from(owners.0.clone()?);

@@ -3,14 +3,14 @@ use super::views::path;
 use std::alloc::{AllocError, Global};
 use std::collections::{BTreeMap, HashMap};
 
-// Whether a hashed map finds an equal path, and no other.
+// Returns true if a hashed map finds an equal path, and no other.
 fn hashed_map_finds(alloc: Global) -> Result<bool, AllocError> {
     let mut map = HashMap::new(alloc);
     map.insert(path("a//b"), 1)?;
     Ok(map.get(&path("a/b/.")) == Some(&1) && map.get(&path("./a/b")).is_none())
 }
 
-// Whether an ordered map finds an equal path, and no other.
+// Returns true if an ordered map finds an equal path, and no other.
 fn ordered_map_finds(alloc: Global) -> Result<bool, AllocError> {
     let mut map = BTreeMap::new(alloc);
     map.insert(path("a//b"), 1)?;

@@ -1,4 +1,4 @@
-//! Rows of equality, order and hash, and what a caller proves of them.
+//! Rows of equality, order and hash, and what a caller proves about them.
 ghost use Rattle.std.specs.Prelude.{◌≡◌, ◌↔◌, IsTrue, fold};
 ghost use Rattle.std.specs.Ordering.{nat_cmp};
 ghost use Rattle.std.specs.Cmp.Lexicographic.{slice_cmp};
@@ -77,7 +77,7 @@ fn feed_path<H: Hasher>(a: Path<'_>, state: &mut H)
     a.hash(state);
 }
 
-// What the path feeds a hasher.
+// Returns what the path feeds a hasher.
 fn hash_input(text: &str) -> RecordingHasher {
     let mut state = RecordingHasher::new();
     feed_path(path(text), &mut state);
@@ -122,7 +122,8 @@ static ORDERS: [(&str, &str, Ordering); 30] = [
     ),
 ];
 
-// Whether two paths, and walks over both, compare so; equal paths feed a hasher alike.
+// Returns true if two paths, and walks over both, compare this way, and equal paths feed a hasher
+// the same input.
 fn is_ordered(a: &str, b: &str, order: Ordering) -> bool {
     let (p, q) = (path(a), path(b));
     let (walk, other) = (p.components(), q.components());
@@ -156,7 +157,7 @@ fn walks_are_equal_by_what_is_left(rt: HostRuntime) {
     );
 }
 
-// Whether the components ascend, and no two are equal.
+// Returns true if the components are strictly increasing.
 fn are_ascending(kinds: &[Component<'_>]) -> bool {
     for (i, x) in kinds.iter().enumerate() {
         for (j, y) in kinds.iter().enumerate() {
@@ -194,8 +195,8 @@ fn components_and_names(rt: HostRuntime) {
     );
 }
 
-// What paths feed a hasher, counted out by hand: for each part its bytes, a slash, and zeros up to
-// the next multiple of eight bytes.
+// What paths feed a hasher, counted out by hand: for each component its bytes, a slash, and zeros
+// up to the next multiple of eight bytes.
 static HASH_INPUTS: [(&str, &str); 14] = [
     ("", ""),
     ("/", "//\0\0\0\0\0\0"),
@@ -216,7 +217,7 @@ static HASH_INPUTS: [(&str, &str); 14] = [
     ),
 ];
 
-// Whether the path feeds a hasher the bytes of `input`.
+// Returns true if the path feeds a hasher the bytes of `input`.
 fn feeds(text: &str, input: &str) -> bool {
     let mut state = RecordingHasher::new();
     state.write(input.as_bytes());
@@ -230,7 +231,7 @@ fn rows_of_what_is_fed(rt: HostRuntime) {
     }
 }
 
-// Whether no two of the paths feed a hasher alike.
+// Returns true if no two of the paths feed a hasher the same input.
 fn feed_differently(texts: &[&str]) -> bool {
     for (i, a) in texts.iter().enumerate() {
         for (j, b) in texts.iter().enumerate() {
@@ -242,7 +243,7 @@ fn feed_differently(texts: &[&str]) -> bool {
     true
 }
 
-// What the component feeds a hasher.
+// Returns what the component feeds a hasher.
 fn component_hash_input(part: Component<'_>) -> RecordingHasher {
     let mut state = RecordingHasher::new();
     feed_component(part, &mut state);

@@ -1,6 +1,6 @@
-//! What a caller proves of ancestors, and how a walk over them ends.
+//! What a caller proves about ancestors, and how a walk over them ends.
 ghost use Rattle.std.specs.Prelude.{◌≡◌, IfOk, map};
-ghost use Rattle.unix_path.specs.Ancestors.{ancestors_left};
+ghost use Rattle.unix_path.specs.Ancestors.{remaining_ancestors};
 
 use super::answers::assert_each;
 use super::views::path;
@@ -8,15 +8,15 @@ use std::alloc::{AllocError, Global};
 use unix_bytes::bytes::UnixStr;
 use unix_path::{Ancestors, Path};
 
-// What a caller proves of a walk over the ancestors.
+// Collects a walk over the ancestors, with what a caller proves about it.
 fn list_ancestors(alloc: Global, walk: Ancestors<'_>) -> Result<Vec<Path<'_>>, AllocError>
     ensures { IfOk result (λ list.
-        map (λ path. path.bytes.now) list.items ≡ ancestors_left walk.entry) }
+        map (λ path. path.bytes.now) list.items ≡ remaining_ancestors walk.entry) }
 {
     walk.collect(alloc)
 }
 
-// Whether the list was given, and is that of `/foo/bar`.
+// Returns true if the list was returned and is the list of the ancestors of `/foo/bar`.
 fn is_list(given: Result<Vec<Path<'_>>, AllocError>) -> bool {
     match given {
         Ok(list) => list.len() == 3 && list[1].as_unix_str() == UnixStr::new("/foo"),

@@ -1,10 +1,10 @@
-//! Rows of the parts of a path, from both ends.
+//! Rows of the components of a path, from both ends.
 use super::answers::assert_each;
 use super::views::path;
 use unix_bytes::bytes::UnixStr;
 use unix_path::{Component, Path, is_separator};
 
-// A path, and the bytes of its parts.
+// A path, and the bytes of its components.
 static LISTS_OF_PARTS: [(&str, &[&str]); 31] = [
     ("", &[]),
     ("foo", &["foo"]),
@@ -39,7 +39,7 @@ static LISTS_OF_PARTS: [(&str, &[&str]); 31] = [
     ("/tmp/foo.txt", &["/", "tmp", "foo.txt"]),
 ];
 
-// Whether these are the parts, from the front.
+// Returns true if these are the components, from the first to the last.
 fn gives(text: &str, parts: &[&str]) -> bool {
     let mut walk = path(text).iter();
     for part in parts {
@@ -50,7 +50,7 @@ fn gives(text: &str, parts: &[&str]) -> bool {
     walk.next().is_none() && walk.next_back().is_none()
 }
 
-// Whether these are the parts, from the end.
+// Returns true if these are the components, taken from the last to the first.
 fn gives_back(text: &str, parts: &[&str]) -> bool {
     let mut walk = path(text).into_iter();
     for part in parts.iter().rev() {
@@ -87,8 +87,8 @@ fn has_components(text: &str, parts: &[&str]) -> bool {
     walk.next().is_none()
 }
 
-// Whether the path has a root and is absolute if its text begins with a slash, and is relative
-// otherwise.
+// Returns true if the path has a root and is absolute if its text begins with a slash, and is
+// relative otherwise.
 fn has_right_root(text: &str) -> bool {
     let (path, is_rooted) = (path(text), text.as_bytes().starts_with(b"/"));
     path.has_root() == is_rooted
@@ -96,7 +96,7 @@ fn has_right_root(text: &str) -> bool {
         && path.is_relative() != is_rooted
 }
 
-// Whether each walk gives these parts.
+// Returns true if each walk yields these components.
 fn has_parts(text: &str, parts: &[&str]) -> bool {
     gives(text, parts) && gives_back(text, parts) && has_components(text, parts)
 }
@@ -127,7 +127,7 @@ fn separators(rt: HostRuntime) {
     );
 }
 
-// Whether the view has these bytes.
+// Returns true if the view has these bytes.
 fn has_bytes(view: Path<'_>, bytes: &[u8]) -> bool {
     view.as_unix_str() == UnixStr::from_bytes(bytes)
 }

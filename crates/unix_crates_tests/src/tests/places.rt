@@ -1,6 +1,6 @@
-//! Where answers lie, as a caller proves it, and how long they live.
+//! Where results lie in memory, as a caller proves it, and how long they live.
 ghost use Rattle.std.specs.Prelude.{◌≡◌, length, IfSome};
-ghost use Rattle.unix_path.specs.Places.{BeginsAt, EndsAt, LiesIn, place_of};
+ghost use Rattle.unix_path.specs.Slices.{BeginsAt, EndsAt, LiesIn, memory_offset};
 ghost use Rattle.unix_path.specs.Rest.{rest};
 
 use super::answers::assert_each;
@@ -8,7 +8,7 @@ use super::views::{is_path, path, view};
 use unix_bytes::bytes::UnixStr;
 use unix_path::{Ancestors, Component, Path};
 
-// The grandparent, in the path's own memory, from its beginning on.
+// Returns the grandparent: a slice of the path's own memory that begins where the path begins.
 fn grandparent<'a>(path: Path<'a>) -> Option<Path<'a>>
     ensures inside { IfSome result (λ p. LiesIn p.bytes path.entry.bytes) }
     ensures start { IfSome result (λ p. BeginsAt p.bytes path.entry.bytes 0) }
@@ -19,7 +19,8 @@ fn grandparent<'a>(path: Path<'a>) -> Option<Path<'a>>
     parent.parent()
 }
 
-// What is left behind a base, in the path's own memory, up to the end of the last part.
+// Returns the rest after a base: a slice of the path's own memory that ends where the last
+// component ends.
 fn left_behind<'a>(path: Path<'a>, base: Path<'_>) -> Option<Path<'a>>
     ensures inside { IfSome result (λ p. LiesIn p.bytes path.entry.bytes) }
     ensures end { IfSome result (λ p.
@@ -31,16 +32,16 @@ fn left_behind<'a>(path: Path<'a>, base: Path<'_>) -> Option<Path<'a>>
     }
 }
 
-// What a walk leaves before the last part, from the path's beginning on.
+// Returns the rest of a walk that took the last component. It begins where the path begins.
 fn before_last<'a>(path: Path<'a>) -> Path<'a>
-    ensures { place_of result.bytes ≡ place_of path.entry.bytes }
+    ensures { memory_offset result.bytes ≡ memory_offset path.entry.bytes }
 {
     let mut parts = path.components();
     let _last = parts.next_back();
     parts.as_path()
 }
 
-// The same bytes, as a view made anew.
+// Returns a new view of the same bytes.
 fn viewed_anew<'a>(path: Path<'a>) -> Path<'a>
     ensures { result.bytes ≡ path.entry.bytes }
 {
@@ -64,8 +65,8 @@ fn answers_lie_in_the_path(rt: HostRuntime) {
     );
 }
 
-// What a path answers: each answer outlives the view that gave it, and `left` outlives the base
-// that it was asked with.
+// The results of calls of a path. Each result outlives the view that returned it, and `left`
+// outlives the base that was passed.
 #[derive(Drop)]
 struct Answers<'a> {
     parent: Option<Path<'a>>,
@@ -78,7 +79,7 @@ struct Answers<'a> {
     rest: Path<'a>,
 }
 
-// The answers of a view that ends with this call.
+// Returns the results for a view that exists only during this call.
 fn ask<'a>(text: &'a str) -> Answers<'a> {
     let p = path(text);
     let mut walk = p.components();
@@ -95,7 +96,7 @@ fn ask<'a>(text: &'a str) -> Answers<'a> {
     }
 }
 
-// Whether the names are those of `a//b.c/.`.
+// Returns true if the names are the names of `a//b.c/.`.
 fn are_names(kept: &Answers<'_>) -> bool {
     kept.name == view(Some("b.c"))
         && kept.stem == view(Some("b"))
@@ -103,7 +104,7 @@ fn are_names(kept: &Answers<'_>) -> bool {
         && kept.first == Some(Component::Normal(UnixStr::new("a")))
 }
 
-// Whether the paths are those of `a//b.c/.`.
+// Returns true if the paths are the paths of `a//b.c/.`.
 fn are_paths(kept: &Answers<'_>) -> bool {
     is_path(kept.parent, Some("a"))
         && is_path(kept.left, Some("b.c"))

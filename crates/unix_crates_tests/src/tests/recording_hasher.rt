@@ -1,4 +1,4 @@
-//! A hasher that records what it is fed, up to 64 bytes.
+//! A hasher that records its input, up to 64 bytes.
 ghost use Rattle.std.specs.Prelude.{◌≡◌, ◌+◌, cond, nat_lt, fold, slice_set};
 
 use std::hash::Hasher;
@@ -10,7 +10,7 @@ pub struct RecordingHasher {
 }
 
 impl RecordingHasher {
-    /// A hasher that was fed nothing yet. Does not allocate.
+    /// Returns a hasher without input.
     pub fn new() -> RecordingHasher {
         RecordingHasher {
             bytes: [0; 64],

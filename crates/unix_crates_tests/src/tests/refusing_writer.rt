@@ -1,8 +1,8 @@
-//! A writer that refuses writes.
+//! A writer whose writes fail.
 use std::alloc::Global;
 use std::fmt;
 
-// A writer that takes `most` writes, and refuses all others.
+// A writer that accepts `most` writes, and fails all later ones.
 #[derive(Drop)]
 pub(super) struct RefusingWriter {
     pub(super) text: String,

@@ -1,10 +1,10 @@
-//! Rows of what is left of a walk, and the bytes of components.
+//! Rows of the rests of walks, and the bytes of components.
 use super::answers::assert_each;
 use super::views::path;
 use unix_bytes::bytes::UnixStr;
 use unix_path::Component;
 
-// A path, how many parts are taken off the front and off the end, and what is left.
+// A path, the numbers of components taken from its beginning and from its end, and the rest.
 static RESTS: [(&str, usize, usize, &str); 20] = [
     ("//", 0, 0, "/"),
     ("//", 0, 1, ""),
@@ -28,8 +28,8 @@ static RESTS: [(&str, usize, usize, &str); 20] = [
     ("", 0, 0, ""),
 ];
 
-// Whether `rest` is left of a walk over components, with `front` parts taken first and `behind`
-// parts taken last.
+// Returns true if `rest` is left of a walk over components after `front` components are taken from
+// its beginning and `behind` from its end.
 fn leaves(text: &str, front: usize, behind: usize, rest: &str) -> bool {
     let mut parts = path(text).components();
     let mut is_given = true;
@@ -42,8 +42,8 @@ fn leaves(text: &str, front: usize, behind: usize, rest: &str) -> bool {
     is_given && parts.as_path().as_unix_str() == UnixStr::new(rest)
 }
 
-// Whether `rest` is left of a walk over texts, with `front` parts taken first and `behind` parts
-// taken last.
+// Returns true if `rest` is left of a walk over texts after `front` components are taken from its
+// beginning and `behind` from its end.
 fn texts_leave(text: &str, front: usize, behind: usize, rest: &str) -> bool {
     let mut texts = path(text).iter();
     let mut is_given = true;
@@ -65,7 +65,7 @@ fn rests(rt: HostRuntime) {
     }
 }
 
-// Whether the component has these bytes, also as a path.
+// Returns true if the component has these bytes, and its path has them too.
 fn is_written(part: Component<'_>, text: &str) -> bool {
     let want = UnixStr::new(text);
     part.as_unix_str() == want && part.as_path().as_unix_str() == want

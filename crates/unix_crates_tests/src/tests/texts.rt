@@ -1,12 +1,12 @@
-//! Assertions of texts that calls give, and the texts of errors. A test that makes them holds no
-//! owned text over an assertion, which would make its proof long.
+//! Assertions of texts that calls return, and the texts of errors. A test that makes them has no
+//! owned text across an assertion, which would make its proof long.
 use std::alloc::{AllocError, Global};
 use std::error::Error;
 use std::fmt;
 use std::process::Abort;
 use unix_bytes::bytes::LossyText;
 
-// Whether a text was given, and is this one.
+// Returns true if a text was returned and is this one.
 pub(super) fn is_text(given: Result<String, AllocError>, wanted: &str) -> bool {
     match given {
         Ok(text) => text.as_str() == wanted,
@@ -14,7 +14,7 @@ pub(super) fn is_text(given: Result<String, AllocError>, wanted: &str) -> bool {
     }
 }
 
-// Whether a lossy text was given, and is this one.
+// Returns true if a lossy text was returned and is this one.
 pub(super) fn is_lossy_text(given: Result<LossyText<'_>, AllocError>, wanted: &str) -> bool {
     match given {
         Ok(text) => text.as_str() == wanted,
@@ -22,7 +22,7 @@ pub(super) fn is_lossy_text(given: Result<LossyText<'_>, AllocError>, wanted: &s
     }
 }
 
-// Whether the debug text of the value is this one.
+// Returns true if the debug text of the value is this one.
 pub(super) fn is_debug_text<T: fmt::Debug>(alloc: Global, value: &T, wanted: &str) -> bool {
     is_text(format!(in alloc; "{value:?}"), wanted)
 }
@@ -40,7 +40,7 @@ pub(super) fn assert_debug_text<T: fmt::Debug>(
     assert_text(rt, format!(in alloc; "{value:?}"), wanted);
 }
 
-// The text of the error, a bar, and the text again in a field of this width.
+// Returns the text of the error, a bar, and the text again in a field of this width.
 pub(super) fn text_of_error<E: Error>(
     alloc: Global,
     error: &E,

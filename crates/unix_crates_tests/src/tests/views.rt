@@ -1,4 +1,4 @@
-//! The paths and bytes that the text in a table's row stands for.
+//! The paths and bytes that the text in a table's row represents.
 use unix_bytes::bytes::UnixStr;
 use unix_path::Path;
 
@@ -13,7 +13,7 @@ pub(super) fn view(text: Option<&str>) -> Option<UnixStr<'_>> {
     }
 }
 
-// Whether the path was found that the text stands for, or none without a text.
+// Returns true if the path was found that the text represents, or no path if there is no text.
 pub(super) fn is_path(found: Option<Path<'_>>, text: Option<&str>) -> bool {
     match found {
         Some(path) => Some(path.as_unix_str()) == view(text),

@@ -1,2 +1,2 @@
--- What other crates cite of subjects that are this crate's own.
+-- Lemmas that other crates cite, from modules that are otherwise only for this crate.
 pub mod CallerLemmas

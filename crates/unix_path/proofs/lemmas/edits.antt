@@ -1,5 +1,5 @@
--- Joins, and the cuts of edits.
+-- Joins, and where edits cut a path.
 pub mod JoinLemmas
 pub mod EditLemmas
--- Of this crate alone.
+-- Only for this crate.
 pub mod SeparatorLemmas

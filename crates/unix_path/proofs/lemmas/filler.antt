@@ -1,7 +1,7 @@
--- The filler between parts and behind the last, byte by byte and 16 at once.
+-- The filler between components and after the last, byte by byte and 16 bytes at once.
 pub mod FillerLemmas
 pub mod TrimLemmas
--- Of this crate alone.
+-- Only for this crate.
 mod DotLaneLemmas
 pub mod TrailingBlockLemmas
 pub mod FillerBlockLemmas

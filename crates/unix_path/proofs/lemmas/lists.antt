@@ -1,3 +1,3 @@
--- Lists: their cases, and how they begin and end.
+-- Prefixes and suffixes of lists.
 pub mod PrefixLemmas
 pub mod SuffixLemmas

@@ -4,7 +4,7 @@ pub mod NameLemmas
 pub mod StemLemmas
 pub mod NameCutLemmas
 pub mod NameEndLemmas
--- Of this crate alone.
+-- Only for this crate.
 mod DepthLemmas
 pub mod AncestorLemmas
 pub mod NamedLemmas

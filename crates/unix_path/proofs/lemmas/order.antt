@@ -1,10 +1,10 @@
--- The comparison of two strings, and what a hasher is fed.
+-- The comparison of two strings, and what is fed to a hasher.
 pub mod CommonPrefixLemmas
--- Of this crate alone.
+-- Only for this crate.
 pub mod EightLemmas
 pub mod EqualValueLemmas
 pub mod ComparisonLemmas
-pub mod BehindLemmas
+pub mod AfterCutLemmas
 mod DifferLemmas
 pub mod ApartLemmas
 pub mod KindLemmas

@@ -1,7 +1,7 @@
--- The parts of a string, cut anywhere.
+-- The components of a string, and those of both sides if it is cut at a slash.
 pub mod ValueLemmas
 pub mod PieceLemmas
 pub mod PlaceLemmas
 pub mod PartLemmas
--- Of this crate alone.
+-- Only for this crate.
 pub mod CutLemmas

@@ -1,7 +1,7 @@
--- What is left between the first parts and the last.
+-- The rest between the first components and the last.
 pub mod MiddleLemmas
 pub mod RestLemmas
 pub mod RootLemmas
--- Of this crate alone.
+-- Only for this crate.
 pub mod SplitLemmas
 pub mod SourceLemmas

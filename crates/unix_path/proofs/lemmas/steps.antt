@@ -1,7 +1,7 @@
--- The first part of a string and the last, and what is left without one.
+-- The first and the last component of a string, and the rest without it.
 pub mod SpanLemmas
 pub mod LeadLemmas
 pub mod LastPieceLemmas
--- Of this crate alone.
+-- Only for this crate.
 pub mod LastLemmas
 pub mod StepLemmas

@@ -1,6 +1,6 @@
--- Walks: their places, and what their calls give.
+-- Walks: their indices, and what their calls return.
 pub mod CursorLemmas
--- Of this crate alone.
+-- Only for this crate.
 pub mod OffsetLemmas
 pub mod ComponentLemmas
 pub mod MixedLemmas

@@ -1,4 +1,4 @@
-//! Owned paths from bytes and text, and back.
+//! Conversions between owned paths, bytes and strings.
 ghost use Rattle.std.specs.Prelude.{◌≡◌, [], IfOk, IsOk, string_bytes};
 ghost use Rattle.unix_bytes.specs.Owned.{owned_bytes, owned_capacity};
 ghost use Rattle.unix_path.specs.Buffers.{path_bytes, capacity};
@@ -9,10 +9,10 @@ use std::alloc::{AllocError, Global};
 use unix_bytes::bytes::{UnixStr, UnixString};
 
 impl PathBuf {
-    /// The path with a copy of these bytes.
+    /// Returns the path with a copy of these bytes.
     ///
-    /// Allocates once; fails if the allocation fails. For no bytes does not allocate, and succeeds.
-    /// As Rust's `From<&OsStr>` of `PathBuf`.
+    /// Allocates once, and fails if the allocation fails. If there are no bytes, it does not
+    /// allocate, and succeeds. Like Rust's `From<&OsStr>` of `PathBuf`.
     ///
     /// For `tmp/` it is the path `tmp/`.
     pub fn from_unix_str(alloc: Global, text: UnixStr<'_>) -> Result<PathBuf, AllocError>
@@ -23,10 +23,10 @@ impl PathBuf {
         Ok(PathBuf { inner })
     }
 
-    /// The path with a copy of the text's bytes, in UTF-8.
+    /// Returns the path with a copy of the bytes of `text`, which are UTF-8.
     ///
-    /// Allocates once; fails if the allocation fails. For no bytes does not allocate, and succeeds.
-    /// As Rust's `From<&str>` of `PathBuf`.
+    /// Allocates once, and fails if the allocation fails. If there are no bytes, it does not
+    /// allocate, and succeeds. Like Rust's `From<&str>` of `PathBuf`.
     ///
     /// `PathBuf::from_text(alloc, "/tmp")?` is the path `/tmp`.
     pub fn from_text(alloc: Global, text: &str) -> Result<PathBuf, AllocError>
@@ -36,7 +36,7 @@ impl PathBuf {
         PathBuf::from_unix_str(alloc, UnixStr::new(text))
     }
 
-    /// The path's bytes, in the same memory. Does not allocate. As Rust's
+    /// Returns the path's bytes, in the same memory and with the same capacity. Like Rust's
     /// `PathBuf::into_os_string`.
     ///
     /// For the path `foo/` it is `foo/`.
@@ -51,10 +51,10 @@ impl PathBuf {
 }
 
 impl<'a> Path<'a> {
-    /// A copy of the path that owns its bytes.
+    /// Returns a copy of the path that owns its bytes.
     ///
-    /// Allocates once; fails if the allocation fails. For no bytes does not allocate, and succeeds.
-    /// As Rust's `Path::to_path_buf`.
+    /// Allocates once, and fails if the allocation fails. If the path is empty, it does not
+    /// allocate, and succeeds.
     ///
     /// For `foo/` it is another `foo/`.
     #[must_use]
@@ -66,8 +66,7 @@ impl<'a> Path<'a> {
     }
 }
 
-/// The path with these bytes, in the same memory. Does not allocate. As Rust's `From<OsString>` of
-/// `PathBuf`.
+/// Converts the bytes into a path, in the same memory. Like Rust's `From<OsString>` of `PathBuf`.
 ///
 /// For `foo/` it is the path `foo/`.
 impl From<UnixString> for PathBuf {
@@ -79,8 +78,7 @@ impl From<UnixString> for PathBuf {
     }
 }
 
-/// The path with the text's bytes, in the same memory. Does not allocate. As Rust's `From<String>`
-/// of `PathBuf`.
+/// Converts the text into the path with its bytes, in the same memory.
 ///
 /// For the text `/tmp/` it is the path `/tmp/`.
 impl From<String> for PathBuf {
@@ -94,7 +92,7 @@ impl From<String> for PathBuf {
     }
 }
 
-/// The bytes that `into_unix_string` gives. Does not allocate. As Rust's `From<PathBuf>` of
+/// Converts the path into its bytes, as `into_unix_string` does. Like Rust's `From<PathBuf>` of
 /// `OsString`.
 ///
 /// For the path `foo/` it is `foo/`.

@@ -1,22 +1,23 @@
-//! Edits of owned paths, and edited copies of paths. Those of an extension stand in
-//! `buf/extensions.rt`.
+//! Edits of owned paths, and edited copies of paths. `buf/extensions.rt` contains the edits of an
+//! extension.
 ghost use Rattle.std.specs.Prelude.{◌≡◌, ◌+◌, ◌^◌, ◌<◌, ◌≤◌, ◌++◌, length, take};
 ghost use Rattle.std.specs.Prelude.{false, [], IfOk, OnOk, OnErr, IsOk, is_some};
-ghost use Rattle.unix_bytes.specs.Owned.{owned_bytes, owned_room, owned_capacity};
+ghost use Rattle.unix_bytes.specs.Owned.{owned_bytes, owned_spare_capacity, owned_capacity};
 ghost use Rattle.unix_path.specs.Buffers.{path_bytes, capacity};
 ghost use Rattle.unix_path.specs.Edits.{popped_of, with_name_of};
-ghost use Rattle.unix_path.specs.Joins.{is_open, join_of};
+ghost use Rattle.unix_path.specs.Joins.{needs_no_separator, join_of};
 ghost use Rattle.unix_path.specs.Parents.{parent_of};
 ghost use Rattle.unix_path.specs.Parts.{is_rooted};
 ghost use Rattle.unix_path.specs.Scan.{separator_bytes};
 
 use crate::buf::PathBuf;
-use crate::lasts::is_open;
 use crate::path::Path;
+use crate::path_end::needs_no_separator;
 use std::alloc::{AllocError, Global};
 use unix_bytes::bytes::{UnixStr, UnixString};
 
-// The byte that a join puts between its base and a path without a root, if any.
+// Returns the byte that a join puts between its base and a path without a root, or `None` if it
+// puts none there.
 #[inline]
 #[tactic(auto, using(crate::proofs::lemmas::edits::JoinLemmas::rootless_joins))]
 fn join_separator(base: &[u8], path: Path<'_>) -> Option<u8>
@@ -24,14 +25,14 @@ fn join_separator(base: &[u8], path: Path<'_>) -> Option<u8>
     ensures { join_of base.now path.entry.bytes.now
         ≡ (base.now ++ separator_bytes result) ++ path.entry.bytes.now }
 {
-    if is_open(base) {
+    if needs_no_separator(base) {
         return None;
     }
     Some(b'/')
 }
 
-// How many bytes of its base a join keeps, and the byte that it puts between them and the path,
-// if any.
+// Returns how many bytes of its base a join keeps, and the byte that it puts between them and the
+// path, if any.
 #[inline]
 #[tactic(auto, using(crate::proofs::lemmas::edits::SeparatorLemmas::join_cases))]
 fn join_cut(base: &[u8], path: Path<'_>) -> (usize, Option<u8>)
@@ -45,7 +46,7 @@ fn join_cut(base: &[u8], path: Path<'_>) -> (usize, Option<u8>)
     (base.len(), join_separator(base, path))
 }
 
-// The number of bytes in all: `keep`, the separator's byte if there is one, and those of the slice.
+// Returns the sum of `keep`, the separator's length (0 or 1) and the slice's length.
 #[inline]
 pub(super) fn total_len(keep: usize, separator: Option<u8>, more: &[u8]) -> usize
     requires { keep < 2 ^ 63 }
@@ -57,12 +58,17 @@ pub(super) fn total_len(keep: usize, separator: Option<u8>, more: &[u8]) -> usiz
     }
 }
 
-// Adds the separator's byte, if there is one, and then the slice.
+// Appends the separator's byte, if there is one, and then the slice.
 #[inline]
-fn push_end(text: &mut UnixString, separator: Option<u8>, more: &[u8]) -> Result<(), AllocError>
+fn push_with_separator(
+    text: &mut UnixString,
+    separator: Option<u8>,
+    more: &[u8],
+) -> Result<(), AllocError>
     ensures ok { OnOk result
         (owned_bytes text.new ≡ (owned_bytes text.old ++ separator_bytes separator) ++ more.now) }
-    ensures succeeds { length (separator_bytes separator ++ more.now) ≤ owned_room text.old
+    ensures succeeds { length (separator_bytes separator ++ more.now)
+        ≤ owned_spare_capacity text.old
         → IsOk result }
     ensures capacity { owned_capacity text.old ≤ owned_capacity text.new }
 {
@@ -72,9 +78,9 @@ fn push_end(text: &mut UnixString, separator: Option<u8>, more: &[u8]) -> Result
     text.push(UnixStr::from_bytes(more))
 }
 
-// A path of the base, the separator's byte if there is one, and the slice. Allocates once, or not
-// at all for no bytes.
-pub(super) fn copy_of(
+// Returns the path that consists of the base, the separator's byte if there is one, and the slice.
+// Allocates once, or not at all if the result is empty.
+pub(super) fn concat_with_separator(
     alloc: Global,
     base: &[u8],
     separator: Option<u8>,
@@ -86,16 +92,18 @@ pub(super) fn copy_of(
 {
     let mut inner = UnixString::with_capacity(alloc, total_len(base.len(), separator, more))?;
     inner.push(UnixStr::from_bytes(base))?;
-    push_end(&mut inner, separator, more)?;
+    push_with_separator(&mut inner, separator, more)?;
     Ok(PathBuf { inner })
 }
 
 impl PathBuf {
-    /// Joins `path` to the end. If `path` begins with `/`, it replaces all bytes; otherwise a `/`
-    /// comes between, unless there are no bytes or they end in `/`.
+    /// Joins `path` to the end.
+    ///
+    /// If `path` begins with `/`, it replaces all bytes. Otherwise a `/` is put before it, unless
+    /// the bytes are empty or end in `/`.
     ///
     /// Allocates only if the join is longer than the capacity, and then once. If the allocation
-    /// fails, the bytes stay as they were. As Rust's `PathBuf::push`.
+    /// fails, the bytes are unchanged.
     ///
     /// `/foo/bar` after a push of `./baz` is `/foo/bar/./baz`, and `foo` after a push of the empty
     /// path is `foo/`.
@@ -112,16 +120,17 @@ impl PathBuf {
         if path.has_root() {
             return self.replace(path);
         }
-        if is_open(self.as_path().bytes) {
+        if needs_no_separator(self.as_path().bytes) {
             return self.inner.push(path.as_unix_str());
         }
-        // The room for both comes first, so that a failed allocation leaves the bytes as they were.
+        // Reserves capacity for the slash and the path first, so that a failed allocation leaves
+        // the bytes unchanged.
         self.inner.reserve(1 + path.bytes.len())?;
         self.inner.push(UnixStr::from_bytes(b"/"))?;
         self.inner.push(path.as_unix_str())
     }
 
-    // Replaces all bytes. It isn't inlined, so that `push`, which always is, stays small.
+    // Replaces all bytes. Not inlined, so that `push`, which always is, stays small.
     #[inline(never)]
     fn replace(&mut self, path: Path<'_>) -> Result<(), AllocError>
         ensures ok { OnOk result (path_bytes self.new ≡ path.entry.bytes.now) }
@@ -132,10 +141,10 @@ impl PathBuf {
         self.replace_end(0, None, path.bytes)
     }
 
-    /// Cuts the path to its parent and returns true. If there is no parent, leaves the bytes as
-    /// they were and returns false.
+    /// Shortens the path to its parent and returns true. If there is no parent, leaves the bytes
+    /// unchanged and returns false.
     ///
-    /// What stands behind the last part goes with it. Does not allocate. As Rust's `PathBuf::pop`.
+    /// The filler before and after the last component is removed with it.
     ///
     /// `foo//bar/.` after `pop` is `foo`.
     #[tactic(auto, using(crate::proofs::lemmas::edits::EditLemmas::pop_cases))]
@@ -151,11 +160,11 @@ impl PathBuf {
         true
     }
 
-    /// Pops if there is a file name, and then pushes the name.
+    /// Removes the file name if there is one, as `pop` does, and then pushes the new name.
     ///
-    /// The name isn't checked: one that begins with `/` replaces all bytes, and `..` stays.
+    /// The name isn't checked: a name that begins with `/` replaces all bytes, and `..` is kept.
     /// Allocates only if the result is longer than the capacity, and then once. If the allocation
-    /// fails, the bytes stay as they were. As Rust's `PathBuf::set_file_name`.
+    /// fails, the bytes are unchanged.
     ///
     /// `foo/.` with the file name `bar` is `bar`, and `foo/..` is `foo/../bar`.
     #[tactic(auto, using(crate::proofs::lemmas::edits::SeparatorLemmas::beginnings))]
@@ -171,12 +180,12 @@ impl PathBuf {
         self.replace_end(keep, separator, name.bytes)
     }
 
-    /// Replaces what follows the first `keep` bytes by the separator's byte, if there is one, and
-    /// the slice.
+    /// Replaces everything after the first `keep` bytes by the separator's byte, if there is one,
+    /// and the slice.
     ///
-    /// The bytes aren't checked: `stem_end` and `name_end` say how many an extension keeps.
-    /// Allocates only if the result is longer than the capacity, and then once. If the allocation
-    /// fails, the bytes stay as they were. Not in Rust's std.
+    /// The bytes aren't checked. `stem_end` and `name_end` return how many bytes an edit of the
+    /// extension keeps. Allocates only if the result is longer than the capacity, and then once. If
+    /// the allocation fails, the bytes are unchanged.
     ///
     /// `a/b.rs` with its end after 3 bytes replaced by a dot and `txt` is `a/b.txt`.
     #[inline]
@@ -200,15 +209,15 @@ impl PathBuf {
         let growth = total_len(keep, separator, more).saturating_sub(len);
         self.inner.reserve(growth)?;
         self.inner.truncate(keep);
-        push_end(&mut self.inner, separator, more)
+        push_with_separator(&mut self.inner, separator, more)
     }
 }
 
 impl<'a> Path<'a> {
-    /// A copy of the path, with another pushed onto it.
+    /// Returns a copy of the path, with `path` pushed onto it.
     ///
-    /// Allocates once; fails if the allocation fails. For an empty result does not allocate, and
-    /// succeeds. As Rust's `Path::join`.
+    /// Allocates once, and fails if the allocation fails. If the result is empty, it does not
+    /// allocate, and succeeds.
     ///
     /// `/etc` joined with `passwd` is `/etc/passwd`, and `a` with the empty path is `a/`.
     #[must_use]
@@ -218,13 +227,13 @@ impl<'a> Path<'a> {
         ensures succeeds { join_of self.now.bytes.now path.entry.bytes.now ≡ [] → IsOk result }
     {
         let (keep, separator) = join_cut(self.bytes, path);
-        copy_of(alloc, &self.bytes[..keep], separator, path.bytes)
+        concat_with_separator(alloc, &self.bytes[..keep], separator, path.bytes)
     }
 
-    /// A copy of the path, with this file name as `PathBuf::set_file_name` sets it.
+    /// Returns a copy of the path, with its file name set as by `PathBuf::set_file_name`.
     ///
-    /// Allocates once; fails if the allocation fails. For an empty result does not allocate, and
-    /// succeeds. As Rust's `Path::with_file_name`.
+    /// Allocates once, and fails if the allocation fails. If the result is empty, it does not
+    /// allocate, and succeeds.
     ///
     /// `/tmp/foo.txt` with the file name `bar.txt` is `/tmp/bar.txt`.
     #[must_use]

@@ -1,4 +1,4 @@
-//! Extensions set and added, in place and on copies of a path.
+//! Setting and adding extensions, in place and on copies of a path.
 ghost use Rattle.std.specs.Prelude.{◌≡◌, ◌≤◌, ◌↔◌, true, false, [], ◌++◌, length, take, None};
 ghost use Rattle.std.specs.Prelude.{Some, IfOk, IfSome, OnOk, OnErr, IsOk, IsErrOf, is_some};
 ghost use Rattle.std.specs.Fmt.{padded};
@@ -10,7 +10,7 @@ ghost use Rattle.unix_path.specs.Parts.{values};
 ghost use Rattle.unix_path.specs.Scan.{separator_bytes};
 
 use crate::buf::PathBuf;
-use crate::buf::edits::{copy_of, total_len};
+use crate::buf::edits::{concat_with_separator, total_len};
 use crate::path::Path;
 use crate::stems::{dot_before, has_slash};
 use std::alloc::{AllocError, Global};
@@ -18,22 +18,21 @@ use std::error::Error;
 use std::fmt;
 use unix_bytes::bytes::UnixStr;
 
-/// Why an extension couldn't be set or added.
+/// The error of setting or adding an extension.
 ///
-/// Each variant is printed as the text beside it, padded by width, precision, fill and alignment.
-/// Not in Rust's std, which panics if the extension holds a separator.
+/// Each variant is printed as the text in its comment, padded by width, precision, fill and
+/// alignment. Rust has no such error: it panics if the extension contains a separator.
 ///
-/// `a` with the extension `x/y` is refused with `Separator`.
+/// Setting the extension `x/y` on `a` fails with `Separator`.
 #[derive(Debug, Drop)]
 pub enum ExtensionError {
-    /// The extension holds a `/`, and would add parts: `extension contains a separator`.
+    /// The extension contains a `/`, and would add components: `extension contains a separator`.
     Separator,
     /// An allocation failed: `out of memory`.
     Memory(AllocError),
 }
 
-/// The texts that the variants name, padded by width, precision, fill and alignment. Does not
-/// allocate.
+/// Writes the variant's text, padded by width, precision, fill and alignment.
 ///
 /// `ExtensionError::Separator` is printed as `extension contains a separator`.
 impl fmt::Display for ExtensionError {
@@ -53,9 +52,9 @@ impl fmt::Display for ExtensionError {
 
 impl Error for ExtensionError {}
 
-/// `Memory`, with the error of the allocation. Does not allocate.
+/// Converts the error of an allocation into `Memory`.
 ///
-/// With it `?` works on a `PathBuf::push` in a function whose error is an `ExtensionError`.
+/// This lets `?` work on a `PathBuf::push` in a function whose error is an `ExtensionError`.
 impl From<AllocError> for ExtensionError {
     ghost use Rattle.unix_path.specs.declared.buf.extensions.ExtensionError.TheVariants.{Memory};
 
@@ -67,14 +66,14 @@ impl From<AllocError> for ExtensionError {
 }
 
 impl PathBuf {
-    /// Replaces what stands behind the stem of the file name by a dot and the extension, or by
-    /// nothing for an empty extension, and returns true. If there is no file name, leaves the bytes
-    /// as they were and returns false.
+    /// Replaces everything after the stem of the file name by a dot and the extension, and returns
+    /// true. An empty extension adds no dot. If there is no file name, leaves the bytes unchanged
+    /// and returns false.
     ///
-    /// The error is `Separator` exactly if the extension holds a `/`, whether or not there is a
-    /// file name, and comes before anything is allocated; it is `Memory` if the allocation fails.
-    /// Each leaves the bytes as they were. Allocates only if the result is longer than the
-    /// capacity, and then once. As Rust's `PathBuf::set_extension`, which panics for a separator.
+    /// The error is `Separator` if and only if the extension contains a `/`, whether or not there
+    /// is a file name. It is returned before anything is allocated. The error is `Memory` if the
+    /// allocation fails. Both errors leave the bytes unchanged. Allocates only if the result is
+    /// longer than the capacity, and then once. Rust panics for a separator.
     ///
     /// `foo.rs/.` with the extension `txt` is `foo.txt`.
     #[tactic(auto, using(crate::proofs::lemmas::edits::EditLemmas::extension_cases))]
@@ -106,14 +105,14 @@ impl PathBuf {
         Ok(true)
     }
 
-    /// Replaces what stands behind the file name by a dot and the extension. The bytes stay as they
-    /// were if the extension is empty or there is no file name. Returns whether there is a file
-    /// name.
+    /// Replaces everything after the file name by a dot and the extension. Leaves the bytes
+    /// unchanged if the extension is empty or there is no file name. Returns true if and only if
+    /// there is a file name.
     ///
-    /// The error is `Separator` exactly if the extension holds a `/`, whether or not there is a
-    /// file name, and comes before anything is allocated; it is `Memory` if the allocation fails.
-    /// Each leaves the bytes as they were. Allocates only if the result is longer than the
-    /// capacity, and then once. As Rust's `PathBuf::add_extension`, which panics for a separator.
+    /// The error is `Separator` if and only if the extension contains a `/`, whether or not there
+    /// is a file name. It is returned before anything is allocated. The error is `Memory` if the
+    /// allocation fails. Both errors leave the bytes unchanged. Allocates only if the result is
+    /// longer than the capacity, and then once. Rust panics for a separator.
     ///
     /// `foo.tar/.` with the extension `gz` added is `foo.tar.gz`.
     #[tactic(auto, using(crate::proofs::lemmas::names::NameEndLemmas::added_cases))]
@@ -148,7 +147,7 @@ impl PathBuf {
         Ok(true)
     }
 
-    // Does what `replace_end` does, and grows by no more bytes than it needs.
+    // Does the same as `replace_end`, but grows by no more bytes than it needs.
     #[inline]
     fn replace_end_exact(
         &mut self,
@@ -174,12 +173,12 @@ impl PathBuf {
 }
 
 impl<'a> Path<'a> {
-    /// A copy of the path, with this extension as `PathBuf::set_extension` sets it.
+    /// Returns a copy of the path, with its extension set as by `PathBuf::set_extension`.
     ///
-    /// The error is `Separator` exactly if the extension holds a `/`, and comes before anything is
-    /// allocated; it is `Memory` if the allocation fails. Allocates once; for an empty result does
-    /// not allocate, and succeeds. As Rust's `Path::with_extension`, but that one panics for a
-    /// separator, and gives `..` for `..a` whatever the extension.
+    /// The error is `Separator` if and only if the extension contains a `/`. It is returned before
+    /// anything is allocated. The error is `Memory` if the allocation fails. Allocates once. If the
+    /// result is empty, it does not allocate, and succeeds. Rust panics for a separator, and
+    /// returns `..` for `..a` whatever the extension.
     ///
     /// `foo.rs` with the extension `txt` is `foo.txt`, and `..` stays `..`.
     #[tactic(auto, using(crate::proofs::lemmas::edits::EditLemmas::extension_cases))]
@@ -200,18 +199,22 @@ impl<'a> Path<'a> {
             return Err(ExtensionError::Separator);
         }
         let copy = match self.stem_end() {
-            Some(end) => copy_of(alloc, &self.bytes[..end], dot_before(bytes), bytes)?,
+            Some(end) => concat_with_separator(
+                alloc,
+                &self.bytes[..end],
+                dot_before(bytes),
+                bytes,
+            )?,
             None => self.to_path_buf(alloc)?,
         };
         Ok(copy)
     }
 
-    /// A copy of the path, with this extension added as `PathBuf::add_extension` adds it.
+    /// Returns a copy of the path, with the extension added as by `PathBuf::add_extension`.
     ///
-    /// The error is `Separator` exactly if the extension holds a `/`, and comes before anything is
-    /// allocated; it is `Memory` if the allocation fails. Allocates once; for an empty result does
-    /// not allocate, and succeeds. As Rust's `Path::with_added_extension`, which panics for a
-    /// separator.
+    /// The error is `Separator` if and only if the extension contains a `/`. It is returned before
+    /// anything is allocated. The error is `Memory` if the allocation fails. Allocates once. If the
+    /// result is empty, it does not allocate, and succeeds. Rust panics for a separator.
     ///
     /// `foo.tar` with the extension `gz` added is `foo.tar.gz`, and `..` stays `..`.
     #[tactic(auto, using(crate::proofs::lemmas::names::NameEndLemmas::added_cases))]
@@ -233,7 +236,7 @@ impl<'a> Path<'a> {
         }
         let copy = match self.name_end() {
             Some(end) if !added.is_empty() => {
-                copy_of(alloc, &self.bytes[..end], Some(b'.'), added)?
+                concat_with_separator(alloc, &self.bytes[..end], Some(b'.'), added)?
             }
             _ => self.to_path_buf(alloc)?,
         };

@@ -1,4 +1,4 @@
-//! Equality, order and hash of owned paths, which are those of their views.
+//! Equality, order and hash of owned paths, which are the same as for `Path`.
 ghost use Rattle.std.specs.Prelude.{◌≡◌, ◌↔◌, IsTrue, Some};
 ghost use Rattle.std.specs.Ordering.{is_eq};
 ghost use Rattle.std.specs.Cmp;
@@ -15,8 +15,8 @@ use crate::buf::PathBuf;
 use std::cmp::Ordering;
 use std::hash::{Hash, Hasher};
 
-/// Two owned paths are equal if their values are, as `Path` has it: `a//b` equals `a/b`. Does not
-/// allocate.
+/// Two owned paths are equal if and only if their components are, as for `Path`: `a//b` equals
+/// `a/b`.
 impl PartialEq for PathBuf {
     ghost eq = { λ x y. is_eq (values_cmp (values (path_bytes x)) (values (path_bytes y))) };
 
@@ -49,8 +49,7 @@ impl PartialOrd for PathBuf {
     }
 }
 
-/// Owned paths are ordered by their values, as `Path` has it: `a/b` comes before `a.b`. Does not
-/// allocate.
+/// Owned paths are ordered by their components, as for `Path`: `a/b` comes before `a.b`.
 impl Ord for PathBuf {
     ghost cmp = { λ x y. values_cmp (values (path_bytes x)) (values (path_bytes y)) };
 
@@ -65,8 +64,8 @@ impl Ord for PathBuf {
     }
 }
 
-/// The hash of `as_path`, which is the same for `a//b` and `a/b`. A key of several paths should
-/// feed something between them, as `Path` says. Does not allocate.
+/// Hashes the path like `as_path`: `a//b` and `a/b` have the same hash. A key of several paths
+/// should feed something between them, as explained for `Path`.
 impl Hash for PathBuf {
     ghost hash_input = { λ path. hash_input_of (values (path_bytes path)) };
 

@@ -1,4 +1,4 @@
-//! The parts that a walk gives.
+//! The components that a walk yields.
 ghost use Rattle.std.specs.Prelude.{◌≡◌, ◌↔◌, IsTrue};
 ghost use Rattle.unix_path.specs.Parts.{value_bytes};
 ghost use Rattle.unix_path.specs.Views.{value_of};
@@ -6,28 +6,28 @@ ghost use Rattle.unix_path.specs.Views.{value_of};
 use crate::path::Path;
 use unix_bytes::bytes::UnixStr;
 
-/// One part of a path.
+/// One component of a path.
 ///
-/// Two are equal if they are of one kind and, if they are names, have the same bytes. In their
-/// order `RootDir` comes first, then `CurDir`, then `ParentDir`, then the names by their bytes. A
-/// hasher is fed the part's bytes, a slash, and zeros up to a multiple of eight bytes. As Rust's
-/// `Component`, which also has `Prefix`.
+/// Two components are equal if and only if they are of one kind and, if they are names, have the
+/// same bytes. `RootDir` sorts first, then `CurDir`, then `ParentDir`, then the names by their
+/// bytes. A hasher is fed the component's bytes, a slash, and zeros up to a multiple of eight
+/// bytes. Rust's `Component` also has `Prefix`.
 ///
-/// The parts of `foo/../bar` are `Normal` of `foo`, `ParentDir`, and `Normal` of `bar`.
+/// The components of `foo/../bar` are `Normal` of `foo`, `ParentDir`, and `Normal` of `bar`.
 #[derive(Clone, Copy, Debug, PartialEq, Eq, PartialOrd, Ord)]
 pub enum Component<'a> {
-    /// The root that a path begins with, as in `/tmp`.
+    /// The root at the start of a path, such as `/tmp`.
     RootDir,
-    /// A `.` that a path begins with, as in `./tmp`. Any later one is dropped.
+    /// A `.` at the start of a path, such as `./tmp`. Any later `.` is filler.
     CurDir,
-    /// The parent directory, `..`, which is kept as it stands.
+    /// A `..`, which is kept unresolved.
     ParentDir,
-    /// A name, as `tmp` in `/tmp`.
+    /// A name, such as `tmp` in `/tmp`.
     Normal(UnixStr<'a>),
 }
 
 impl<'a> Component<'a> {
-    /// The part's bytes: `/`, `.`, `..` or the name. Does not allocate. As Rust's
+    /// Returns the component's bytes: `/`, `.`, `..` or the name. Like Rust's
     /// `Component::as_os_str`.
     ///
     /// For `Component::ParentDir` it is `..`.
@@ -44,8 +44,7 @@ impl<'a> Component<'a> {
         }
     }
 
-    /// The part's bytes as a path of their own. Does not allocate. As `AsRef<Path>` of Rust's
-    /// `Component`.
+    /// Returns the component's bytes as a path. Like `AsRef<Path>` of Rust's `Component`.
     ///
     /// For `Component::RootDir` it is the path `/`.
     #[inline]
@@ -55,7 +54,7 @@ impl<'a> Component<'a> {
         Path::new(self.as_unix_str())
     }
 
-    // Whether two components have the same value.
+    // Returns true if and only if the two components have the same value.
     #[inline]
     pub(crate) fn has_same_value(self, other: Component<'_>) -> bool
         ensures { IsTrue result ↔ (value_of self.entry ≡ value_of other.entry) }

@@ -1,19 +1,18 @@
-//! What a component feeds a hasher.
+//! The hash of a component.
 ghost use Rattle.std.specs.Prelude.{◌≡◌, ◌<◌, ◌++◌, length, take, fold};
 ghost use Rattle.std.specs.Hash.{le_bytes};
 ghost use Rattle.std.proofs.Common.{rules};
-ghost use Rattle.unix_path.specs.Hashed.{end_mark, in_eights, value_input};
+ghost use Rattle.unix_path.specs.Hashed.{terminator, in_eights, value_input};
 ghost use Rattle.unix_path.specs.Views.{value_of};
 
 use crate::cursor::Component;
 use std::hash::{Hash, Hasher};
 
-// Fewer than eight bytes, with a slash and zeros behind them, as a number whose lowest byte is the
-// first.
+// Returns `rest`, a slash, and zeros, as a little-endian number of eight bytes.
 #[inline]
-fn last_eight(rest: &[u8]) -> u64
+fn padded_tail(rest: &[u8]) -> u64
     requires { length rest.now < 8 }
-    ensures { le_bytes 8 result ≡ take 8 (rest.now ++ end_mark) }
+    ensures { le_bytes 8 result ≡ take 8 (rest.now ++ terminator) }
 {
     match rest {
         [] => u64::from_le_bytes([b'/', 0, 0, 0, 0, 0, 0, 0]),
@@ -28,22 +27,25 @@ fn last_eight(rest: &[u8]) -> u64
     }
 }
 
-// Feeds the bytes with a slash and zeros behind them, eight in a write.
+// Feeds a hasher the bytes, a slash, and zeros up to a multiple of eight bytes, in writes of eight
+// bytes.
 #[inline]
 fn feed_bytes<H: Hasher>(bytes: &[u8], state: &mut H)
-    ensures { state.new ≡ fold H.write state.old (in_eights (bytes.now ++ end_mark)) }
+    ensures { state.new ≡ fold H.write state.old (in_eights (bytes.now ++ terminator)) }
 {
     let mut rest = bytes;
     while rest.len() >= 8 {
         state.write(&rest[..8]);
         rest = &rest[8..];
     }
-    state.write_u64(last_eight(rest));
+    state.write_u64(padded_tail(rest));
 }
 
-/// Feeds the bytes of `as_unix_str`, a slash, and zeros up to a multiple of eight bytes, eight in
-/// each write. So a hasher can read whole words. Since no name in a path has a slash, what is fed
-/// tells where a part ends. Does not allocate. The form is this crate's own.
+/// Feeds a hasher the bytes of `as_unix_str`, a slash, and zeros up to a multiple of eight bytes,
+/// in writes of eight bytes.
+///
+/// A hasher can therefore read whole words. No name in a path contains a slash, so the slash shows
+/// where a component ends. The format is this crate's own.
 ///
 /// For `Component::ParentDir` it is `../` and five zeros.
 impl Hash for Component<'_> {

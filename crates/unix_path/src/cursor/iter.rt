@@ -1,6 +1,6 @@
-//! The walk over a path's parts, each as its bytes.
+//! The walk that yields components as byte strings.
 ghost use Rattle.std.specs.Prelude.{◌≡◌};
-ghost use Rattle.unix_path.specs.Places.{LiesIn, place_of};
+ghost use Rattle.unix_path.specs.Slices.{LiesIn, memory_offset};
 
 use crate::cursor::{Component, Components};
 use crate::path::Path;
@@ -8,12 +8,12 @@ use std::fmt;
 use std::iter::FusedIterator;
 use unix_bytes::bytes::UnixStr;
 
-/// A walk over a path's parts, each as its bytes, from both ends.
+/// A walk that yields each component of a path as a byte string, from both ends.
 ///
-/// It does not allocate, and copying it copies a view. A walk that has ended gives nothing more at
-/// either end. As Rust's `std::path::Iter`.
+/// A copy goes on independently and copies no bytes. A walk that has ended yields nothing more at
+/// either end.
 ///
-/// For `///foo///bar` it gives `/`, `foo` and `bar`.
+/// For `///foo///bar` it yields `/`, `foo` and `bar`.
 #[must_use]
 #[derive(Clone, Copy)]
 pub struct Iter<'a> {
@@ -24,7 +24,7 @@ impl<'a> Iter<'a> {
     ghost use Rattle.unix_path.specs.Cursor.{cursor_rest, cursor_source, cursor_start};
     ghost use Rattle.unix_path.specs.Cursor.{iter_rest, iter_source, iter_start};
 
-    // The walk over the parts that `components` has left, each as its bytes.
+    // Returns the walk that yields the components that remain in `components`, as byte strings.
     #[inline]
     pub(crate) fn new(components: Components<'a>) -> Iter<'a>
         ensures rest { iter_rest result ≡ cursor_rest components.entry }
@@ -34,8 +34,7 @@ impl<'a> Iter<'a> {
         Iter { components }
     }
 
-    /// The bytes that are left, as `Components::as_path` gives them. Does not allocate. As Rust's
-    /// `std::path::Iter::as_path`.
+    /// Returns the bytes that remain, as `Components::as_path` does.
     ///
     /// For `/tmp//foo/` after one `next` it is `tmp//foo`.
     #[must_use]
@@ -43,7 +42,7 @@ impl<'a> Iter<'a> {
     pub fn as_path(&self) -> Path<'a>
         ensures bytes { result.bytes.now ≡ iter_rest self.now }
         ensures place { LiesIn result.bytes (iter_source self.now) }
-        ensures start { place_of result.bytes ≡ iter_start self.now }
+        ensures start { memory_offset result.bytes ≡ iter_start self.now }
     {
         self.components.as_path()
     }
@@ -78,19 +77,19 @@ impl<'a> DoubleEndedIterator for Iter<'a> {
 
 impl FusedIterator for Iter<'_> {}
 
-// The parts that are left, each as its bytes, in a list.
+// The bytes of each component that remains, as a list.
 #[derive(Clone, Copy)]
-struct ListedBytes<'a>(Iter<'a>);
+struct BytesList<'a>(Iter<'a>);
 
-impl fmt::Debug for ListedBytes<'_> {
+impl fmt::Debug for BytesList<'_> {
     fn fmt<W: fmt::Write>(&self, f: &mut fmt::Formatter<W>) -> fmt::Result {
         f.debug_list().entries(self.0).finish()
     }
 }
 
-/// The parts that are left, each as its bytes: `Iter(["/", "tmp"])` for `/tmp`. Does not allocate.
+/// Writes the bytes of each component that remains: `Iter(["/", "tmp"])` for `/tmp`.
 impl fmt::Debug for Iter<'_> {
     fn fmt<W: fmt::Write>(&self, f: &mut fmt::Formatter<W>) -> fmt::Result {
-        f.debug_tuple("Iter").field(&ListedBytes(*self)).finish()
+        f.debug_tuple("Iter").field(&BytesList(*self)).finish()
     }
 }

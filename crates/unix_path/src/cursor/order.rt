@@ -1,4 +1,4 @@
-//! Equality and order of walks, by the values that they have left.
+//! Equality and order of walks, by the components that remain.
 ghost use Rattle.std.specs.Prelude.{◌≡◌, ◌↔◌, IsTrue, Some};
 ghost use Rattle.std.specs.Ordering.{is_eq};
 ghost use Rattle.std.specs.Cmp;
@@ -13,8 +13,8 @@ use crate::compare::{compare, is_same};
 use crate::cursor::Components;
 use std::cmp::Ordering;
 
-/// Two walks are equal if the values that they have left are: the walks over `a//b` and `a/b` are
-/// equal. Does not allocate. As `PartialEq` of Rust's `Components`.
+/// Two walks are equal if and only if the same components remain in both: the walks over `a//b` and
+/// `a/b` are equal.
 impl PartialEq for Components<'_> {
     ghost eq = { λ x y. is_eq (values_cmp (cursor_values x) (cursor_values y)) };
 
@@ -44,11 +44,10 @@ impl PartialOrd for Components<'_> {
     }
 }
 
-/// Walks are ordered by the first of their values left that differ, as `Component` orders these; if
-/// none differs, a walk with fewer left comes first. Does not allocate. As `Ord` of Rust's
-/// `Components`.
+/// Walks are ordered by the first of their remaining components that differ, as `Component` orders
+/// them. If none differ, the walk with fewer remaining components comes first.
 ///
-/// The walk over `a/b` comes before that over `a.b`.
+/// The walk over `a/b` comes before the walk over `a.b`, since the name `a` comes before `a.b`.
 impl Ord for Components<'_> {
     ghost cmp = { λ x y. values_cmp (cursor_values x) (cursor_values y) };
 

@@ -1,4 +1,4 @@
-//! The walk over a path and its parents.
+//! The walk over a path and its ancestors.
 ghost use Rattle.std.specs.Prelude.{◌≡◌};
 
 use crate::path::Path;
@@ -6,10 +6,9 @@ use std::iter::FusedIterator;
 
 /// A walk over a path, its parent, the parent's parent, and so on.
 ///
-/// It does not allocate, and copying it copies a view. A walk that has ended gives nothing more. As
-/// Rust's `Ancestors`.
+/// A copy goes on independently and copies no bytes. A walk that has ended yields nothing more.
 ///
-/// For `/foo` it gives `/foo` and `/`.
+/// For `/foo` it yields `/foo` and `/`.
 #[must_use]
 #[derive(Clone, Copy, Debug)]
 pub struct Ancestors<'a> {
@@ -18,12 +17,12 @@ pub struct Ancestors<'a> {
 
 impl<'a> Ancestors<'a> {
     ghost use Rattle.unix_path.specs.Parents.{ancestors_of};
-    ghost use Rattle.unix_path.specs.Ancestors.{ancestors_left};
+    ghost use Rattle.unix_path.specs.Ancestors.{remaining_ancestors};
 
-    // The walk that begins with `path`.
+    // Returns the walk that begins with `path`.
     #[inline]
     pub(crate) fn new(path: Path<'a>) -> Ancestors<'a>
-        ensures { ancestors_left result ≡ ancestors_of path.entry.bytes.now }
+        ensures { remaining_ancestors result ≡ ancestors_of path.entry.bytes.now }
     {
         Ancestors { next: Some(path) }
     }
@@ -31,13 +30,13 @@ impl<'a> Ancestors<'a> {
 
 impl<'a> Iterator for Ancestors<'a> {
     ghost use Rattle.std.specs.Iterator.{YieldsFirstBy, item_count};
-    ghost use Rattle.unix_path.specs.Ancestors.{ancestors_left};
+    ghost use Rattle.unix_path.specs.Ancestors.{remaining_ancestors};
 
     type Item = Path<'a>;
 
-    ghost next_gives = { YieldsFirstBy (λ path. path.bytes.now) ancestors_left };
+    ghost next_gives = { YieldsFirstBy (λ path. path.bytes.now) remaining_ancestors };
 
-    ghost remaining = { item_count ancestors_left };
+    ghost remaining = { item_count remaining_ancestors };
 
     #[inline]
     fn next(&mut self) -> Option<Path<'a>> {

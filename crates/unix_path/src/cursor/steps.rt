@@ -1,22 +1,23 @@
-//! The first and the last part, found in the bytes that a walk has left.
+//! The first and the last component of the bytes that remain in a walk.
 ghost use Rattle.std.specs.Prelude.{◌≡◌, ℕ, ◌+◌, ◌-◌, ◌<◌, ◌≤◌, true, false, length, IsTrue};
 ghost use Rattle.std.specs.Prelude.{◌∷◌, take, drop};
 ghost use Rattle.std.specs.Str.{bytes_eq};
 ghost use Rattle.unix_path.specs.Parts.{cur_dir, parts, inner_parts};
-ghost use Rattle.unix_path.specs.Scan.{begins_with_parent, ends_with_parent, is_filler, EndsInPart};
+ghost use Rattle.unix_path.specs.Scan.{starts_with_parent_dir, ends_with_parent_dir, is_filler};
+ghost use Rattle.unix_path.specs.Scan.{EndsInPart};
 ghost use Rattle.unix_path.specs.Scan.{is_trailing};
 ghost use Rattle.unix_path.specs.Views.{value_of};
 ghost use Rattle.unix_path.specs.Steps.{StepsFirst, TakesLast};
 
 use crate::cursor::Component;
 use crate::filler::{filler_len, is_filler, is_trailing};
-use crate::firsts::{begins_with_parent, name_step, parent_step};
-use crate::lasts::ends_with_parent;
+use crate::first_component::{name_step, parent_dir_step, starts_with_parent_dir};
+use crate::path_end::ends_with_parent_dir;
 use std::simd::prelude::*;
 use unix_bytes::bytes::UnixStr;
-use unix_bytes::search::past_last;
+use unix_bytes::search::after_last;
 
-// Whether the path begins with a root or with a `.` that counts.
+// Returns true if and only if the path begins with the root or a leading `.`.
 #[inline]
 pub(crate) fn has_lead(path: &[u8]) -> bool
     ensures { result ≡ is_filler path.now 0 }
@@ -24,7 +25,7 @@ pub(crate) fn has_lead(path: &[u8]) -> bool
     !path.is_empty() && is_filler(path, 0)
 }
 
-// The root or the `.` that a path begins with.
+// Returns the root or the leading `.` that the path begins with.
 #[inline]
 fn lead(path: &[u8]) -> Component<'_>
     requires some { 0 < length path.now }
@@ -39,9 +40,10 @@ fn lead(path: &[u8]) -> Component<'_>
     }
 }
 
-// The root or the `.` that a path begins with, and how many bytes it and the filler behind it take.
+// Splits off the root or leading `.`, and the filler after it. Returns the length of both together,
+// and the component.
 #[inline]
-fn lead_step(path: &[u8]) -> (usize, Component<'_>)
+fn split_lead(path: &[u8]) -> (usize, Component<'_>)
     requires some { 0 < length path.now }
     requires lead { is_filler path.now 0 ≡ true }
     ensures { StepsFirst path.now result.0 (value_of result.1) }
@@ -49,17 +51,18 @@ fn lead_step(path: &[u8]) -> (usize, Component<'_>)
     (1 + filler_len(&path[1..]), lead(path))
 }
 
-// The first part, and how many bytes it and the filler behind it take.
+// Splits off the first component, and the filler after it. Returns the length of both together, and
+// the component.
 #[inline(always)]
-pub(crate) fn first_step(path: &[u8], has_lead: bool) -> (usize, Component<'_>)
+pub(crate) fn split_first_component(path: &[u8], has_lead: bool) -> (usize, Component<'_>)
     requires some { 0 < length path.now }
     requires lead { has_lead ≡ is_filler path.now 0 }
     ensures { StepsFirst path.now result.0 (value_of result.1) }
 {
     if has_lead {
-        lead_step(path)
-    } else if begins_with_parent(path) {
-        (parent_step(path), Component::ParentDir)
+        split_lead(path)
+    } else if starts_with_parent_dir(path) {
+        (parent_dir_step(path), Component::ParentDir)
     } else {
         let (end, step) = name_step(path);
         let name = UnixStr {
@@ -69,10 +72,11 @@ pub(crate) fn first_step(path: &[u8], has_lead: bool) -> (usize, Component<'_>)
     }
 }
 
-// True only if each of the 16 bytes from `at` on is a slash, or a `.` after a slash. `at` is not 0.
+// Returns true if each of the 16 bytes that start at `at` is a slash, or a `.` directly after a
+// slash. `at` must not be 0.
 #[inline]
-fn is_trailing_block(path: &[u8], at: usize) -> bool
-    requires behind { 0 < at }
+fn is_trailing_simd16(path: &[u8], at: usize) -> bool
+    requires after { 0 < at }
     requires in_range { at + 16 ≤ length path.now }
     ensures { IsTrue result → ((k : ℕ) → at ≤ k → k < at + 16 → is_trailing path.now k ≡ true) }
 {
@@ -84,8 +88,8 @@ fn is_trailing_block(path: &[u8], at: usize) -> bool
     other.to_bitmask() == 0
 }
 
-// How many of the first `len` bytes are left if blocks of 16 bytes that are all filler are taken
-// off their end. It stops if 16 bytes or fewer are left.
+// Drops blocks of 16 bytes that are all filler from the end of the first `len` bytes, while more
+// than 16 bytes remain. Returns how many bytes remain.
 #[inline(never)]
 fn trimmed_blocks_len(path: &[u8], len: usize) -> usize
     requires { len ≤ length path.now }
@@ -93,14 +97,14 @@ fn trimmed_blocks_len(path: &[u8], len: usize) -> usize
     ensures same { parts (take result path.now) ≡ parts (take len path.now) }
 {
     let mut end = len;
-    while end > 16 && is_trailing_block(path, end - 16) {
+    while end > 16 && is_trailing_simd16(path, end - 16) {
         end -= 16;
     }
     end
 }
 
-// The place where the last part among the first `len` bytes ends. If eight bytes or more stand
-// behind that part, which is rare, blocks of 16 are looked at.
+// Returns the index where the last component among the first `len` bytes ends, or 0 if there is
+// none. If at least eight bytes of filler follow it, which is rare, reads blocks of 16 bytes.
 #[inline]
 pub(crate) fn trimmed_len(path: &[u8], len: usize) -> usize
     requires { len ≤ length path.now }
@@ -118,18 +122,18 @@ pub(crate) fn trimmed_len(path: &[u8], len: usize) -> usize
     end
 }
 
-// The root or the name that a path ends with, and how many bytes are left without it and the filler
-// before it.
+// Splits off the last component, which is the root or a name, and the filler before it. Returns how
+// many bytes remain, and the component.
 #[inline(always)]
-pub(crate) fn last_name_step(path: &[u8]) -> (usize, Component<'_>)
+pub(crate) fn split_last_root_or_name(path: &[u8]) -> (usize, Component<'_>)
     requires some { 0 < length path.now }
     requires no_dot { bytes_eq path.now cur_dir ≡ false }
-    requires no_parent { ends_with_parent path.now ≡ false }
+    requires no_parent { ends_with_parent_dir path.now ≡ false }
     requires ends { EndsInPart path.now }
     ensures in_range { result.0 ≤ length path.now }
     ensures takes { TakesLast path.now (take result.0 path.now) (value_of result.1) }
 {
-    let start = past_last(path, b'/');
+    let start = after_last(path, b'/');
     if start == path.len() {
         return (0, Component::RootDir);
     }
@@ -139,9 +143,10 @@ pub(crate) fn last_name_step(path: &[u8]) -> (usize, Component<'_>)
     (trimmed_len(path, start), Component::Normal(name))
 }
 
-// The last part, and how many bytes are left without it and the filler before it.
+// Splits off the last component, and the filler before it. Returns how many bytes remain, and the
+// component.
 #[inline(always)]
-pub(super) fn last_step(path: &[u8]) -> (usize, Component<'_>)
+pub(super) fn split_last_component(path: &[u8]) -> (usize, Component<'_>)
     requires some { 0 < length path.now }
     requires ends { EndsInPart path.now }
     ensures in_range { result.0 ≤ length path.now }
@@ -149,9 +154,9 @@ pub(super) fn last_step(path: &[u8]) -> (usize, Component<'_>)
 {
     if path == b".".as_slice() {
         (0, Component::CurDir)
-    } else if ends_with_parent(path) {
+    } else if ends_with_parent_dir(path) {
         (trimmed_len(path, path.len() - 2), Component::ParentDir)
     } else {
-        last_name_step(path)
+        split_last_root_or_name(path)
     }
 }

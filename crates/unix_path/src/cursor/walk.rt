@@ -1,43 +1,44 @@
-//! The walk over a path's parts.
+//! The walk over a path's components.
 ghost use Rattle.std.specs.Prelude.{◌≡◌, ◌<◌, ◌^◌, [], length, None, IfSome};
 ghost use Rattle.unix_path.specs.Parts.{values};
 ghost use Rattle.unix_path.specs.Rest.{rest};
 ghost use Rattle.unix_path.specs.Steps.{HasLast, IsWalk, IsWalk-prop};
 ghost use Rattle.unix_path.specs.Views.{value_of};
-ghost use Rattle.unix_path.specs.Places.{LiesIn, place_of};
+ghost use Rattle.unix_path.specs.Slices.{LiesIn, memory_offset};
 
 use crate::cursor::Component;
-use crate::cursor::steps::{first_step, has_lead, last_step, trimmed_len};
+use crate::cursor::steps::{has_lead, split_first_component, split_last_component, trimmed_len};
 use crate::path::Path;
 use std::fmt;
 use std::iter::FusedIterator;
 
-/// A walk over the parts of a path, from both ends.
+/// A walk over the components of a path, from both ends.
 ///
-/// It stands for the bytes that are left, from the first part not yet taken to the end of the last.
-/// It does not allocate, and copying it copies a view. A walk that has ended gives nothing more at
-/// either end. As Rust's `Components`.
+/// It represents the bytes that remain, from the beginning of the first component not yet yielded
+/// to the end of the last component not yet yielded. A copy goes on independently and copies no
+/// bytes. A walk that has ended yields nothing more at either end.
 ///
-/// For `///foo///bar` it gives the root, `foo` and `bar`.
-// Only this file knows the fields, and it may change them: `cursor_rest` and `cursor_source` of
-// specs/Cursor say what they stand for, and contracts and proofs elsewhere speak of a walk through
-// these words alone. Only `OffsetLemmas` and the proofs of this file's functions unfold
+/// For `///foo///bar` it yields the root, `foo` and `bar`.
+// Only this file uses the fields, and it may change them. `cursor_rest` and `cursor_source` in
+// specs/Cursor define what they represent, and contracts and proofs elsewhere describe a walk only
+// with these definitions. Only `OffsetLemmas` and the proofs of this file's functions unfold
 // `cursor_rest`.
 #[must_use]
 #[derive(Clone, Copy)]
 pub struct Components<'a> {
     source: &'a [u8],
-    // What is left stands between these places of the source.
+    // The bytes that remain lie between these indices of the source.
     start: usize,
     end: usize,
-    // Whether the source begins with a root or with a `.` that counts, and whether that is left.
+    // Whether the source begins with the root or a leading `.`, and whether this component remains.
     has_lead: bool,
-    lead_left: bool,
-    ghost fields: { IsWalk source.now start end has_lead lead_left } by { IsWalk-prop _ _ _ _ _ },
+    lead_pending: bool,
+    ghost fields: { IsWalk source.now start end has_lead
+        lead_pending } by { IsWalk-prop _ _ _ _ _ },
 }
 
-// The last part of a path, the place `end` where it ends, and the place `before` where what is left
-// without it ends.
+// The last component of a path, the index `end` where it ends, and the index `before` where the
+// rest without it ends.
 #[derive(Clone, Copy)]
 pub(crate) struct LastPart<'a> {
     pub(crate) before: usize,
@@ -49,20 +50,20 @@ impl<'a> Components<'a> {
     ghost use Rattle.unix_path.specs.Cursor.{cursor_rest, cursor_source, cursor_start};
     ghost use Rattle.unix_path.specs.Cursor.{cursor_values, GivesFirstPart, GivesLastPart};
 
-    // The walk over the parts of a path. The filler behind the last part is left out at once: for
-    // `foo/` it stands for `foo`.
+    // Returns the walk over the components of a path. Drops trailing filler at once: for `foo/` the
+    // walk represents `foo`.
     #[inline]
     pub(crate) fn new(path: &'a [u8]) -> Components<'a>
         ensures rest { cursor_rest result ≡ rest path.now 0 0 }
         ensures place { LiesIn (cursor_source result) path.entry }
-        ensures start { cursor_start result ≡ place_of path.entry }
+        ensures start { cursor_start result ≡ memory_offset path.entry }
         ensures values { cursor_values result ≡ values path.now }
         ensures len { length (cursor_values result) < 2 ^ 64 }
     {
         Components::whole(path)
     }
 
-    // The walk that stands for the bytes of a path up to the end of its last part.
+    // Returns the walk that represents the bytes of a path up to the end of its last component.
     #[inline]
     fn whole(path: &'a [u8]) -> Components<'a>
         ensures rest { cursor_rest result ≡ rest path.now 0 0 }
@@ -75,14 +76,14 @@ impl<'a> Components<'a> {
             start: 0,
             end: trimmed_len(path, path.len()),
             has_lead: lead,
-            lead_left: lead,
+            lead_pending: lead,
         }
     }
 
-    /// The bytes that are left, as a slice of the source, from the first part not yet taken to the
-    /// end of the last. If none is left, it is empty, and stands where the last part that `next`
-    /// gave ends, or where the first one that `next_back` gave begins. Does not allocate. As Rust's
-    /// `Components::as_path`.
+    /// Returns the bytes that remain, as a slice of the path.
+    ///
+    /// If none remain, the slice is empty. It then lies at the end of the last yielded component if
+    /// `next` yielded it, and at its beginning if `next_back` did.
     ///
     /// For `/tmp//foo/` after one `next` it is `tmp//foo`.
     #[must_use]
@@ -91,14 +92,14 @@ impl<'a> Components<'a> {
     pub fn as_path(&self) -> Path<'a>
         ensures bytes { result.bytes.now ≡ cursor_rest self.now }
         ensures place { LiesIn result.bytes (cursor_source self.now) }
-        ensures start { place_of result.bytes ≡ cursor_start self.now }
+        ensures start { memory_offset result.bytes ≡ cursor_start self.now }
     {
         Path {
             bytes: &self.source[self.start..self.end],
         }
     }
 
-    // Takes the last part that is left. Always inlined, as `next` is.
+    // Removes and returns the last component that remains. Always inlined, like `next`.
     #[inline(always)]
     #[tactic(auto, unfolding(crate::specs::Cursor::cursor_rest, crate::specs::Steps::IsWalk))]
     fn take_last(&mut self) -> Option<Component<'a>>
@@ -106,18 +107,18 @@ impl<'a> Components<'a> {
         ensures source { self.new.source ≡ self.old.source }
         ensures start { self.new.start ≡ self.old.start }
     {
-        let left = self.as_path().bytes;
-        if left.is_empty() {
+        let pending = self.as_path().bytes;
+        if pending.is_empty() {
             return None;
         }
-        let (len, last) = last_step(left);
+        let (len, last) = split_last_component(pending);
         self.end = self.start + len;
-        self.lead_left = self.lead_left && len > 0;
+        self.lead_pending = self.lead_pending && len > 0;
         Some(last)
     }
 
-    // The last part of a path, with its place. Always inlined, so that a caller pays only for the
-    // fields that it reads.
+    // Returns the last component of a path with its indices. Always inlined, so that a caller pays
+    // only for the fields that it reads.
     #[inline(always)]
     pub(crate) fn last_part(path: &'a [u8]) -> Option<LastPart<'a>>
         ensures none { result ≡ None → values path.now ≡ [] }
@@ -147,17 +148,17 @@ impl<'a> Iterator for Components<'a> {
 
     ghost remaining = { item_count cursor_values };
 
-    // Always inlined, so that a loop over the parts keeps the walk in registers.
+    // Always inlined, so that a loop over the components keeps the walk in registers.
     #[inline(always)]
     #[tactic(auto, unfolding(crate::specs::Cursor::cursor_rest, crate::specs::Steps::IsWalk))]
     fn next(&mut self) -> Option<Component<'a>> {
-        let left = self.as_path().bytes;
-        if left.is_empty() {
+        let pending = self.as_path().bytes;
+        if pending.is_empty() {
             return None;
         }
-        let (len, first) = first_step(left, self.lead_left);
+        let (len, first) = split_first_component(pending, self.lead_pending);
         self.start += len;
-        self.lead_left = false;
+        self.lead_pending = false;
         Some(first)
     }
 }
@@ -167,7 +168,7 @@ impl<'a> DoubleEndedIterator for Components<'a> {
 
     ghost next_back_gives = { GivesLastPart };
 
-    // Always inlined, as `next` is.
+    // Always inlined, like `next`.
     #[inline(always)]
     fn next_back(&mut self) -> Option<Component<'a>> {
         self.take_last()
@@ -176,21 +177,21 @@ impl<'a> DoubleEndedIterator for Components<'a> {
 
 impl FusedIterator for Components<'_> {}
 
-// The parts that are left, as a list.
+// The components that remain, as a list.
 #[derive(Clone, Copy)]
-struct ListedParts<'a>(Components<'a>);
+struct ComponentList<'a>(Components<'a>);
 
-impl fmt::Debug for ListedParts<'_> {
+impl fmt::Debug for ComponentList<'_> {
     fn fmt<W: fmt::Write>(&self, f: &mut fmt::Formatter<W>) -> fmt::Result {
         f.debug_list().entries(self.0).finish()
     }
 }
 
-/// The parts that are left, as `Components([RootDir, Normal("tmp")])`. Does not allocate.
+/// Writes the components that remain, for example `Components([RootDir, Normal("tmp")])`.
 impl fmt::Debug for Components<'_> {
     fn fmt<W: fmt::Write>(&self, f: &mut fmt::Formatter<W>) -> fmt::Result {
         f.debug_tuple("Components")
-            .field(&ListedParts(*self))
+            .field(&ComponentList(*self))
             .finish()
     }
 }

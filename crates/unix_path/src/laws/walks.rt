@@ -2,7 +2,7 @@
 ghost use Rattle.std.specs.Iterator.{YieldsFirstBy};
 ghost use Rattle.std.specs.Iterator.Runs.{EveryRun, ItemsMapTo, ItemsMapToReversed};
 ghost use Rattle.unix_bytes.specs.declared.bytes.UnixStr.{UnixStr};
-ghost use Rattle.unix_path.specs.Ancestors.{ancestors_left};
+ghost use Rattle.unix_path.specs.Ancestors.{remaining_ancestors};
 ghost use Rattle.unix_path.specs.Cursor.{cursor_values, GivesFirstPart, GivesLastPart};
 ghost use Rattle.unix_path.specs.Cursor.{iter_bytes, name_bytes, GivesFirstName, GivesLastName};
 ghost use Rattle.unix_path.specs.Cursor.{cursor_rest, iter_rest};
@@ -10,12 +10,14 @@ ghost use Rattle.unix_path.specs.Views.{value_of};
 ghost use Rattle.unix_path.specs.CallsMixed.{EndsMeet, RestIsBetween};
 ghost use Rattle.unix_path.specs.declared.path.Path.{Path};
 
-/// What is left of a walk comes in order from the front, and in reverse from behind.
+/// The items that remain in a walk are yielded in order by `next`, and in reverse by `next_back`.
 ///
-/// With it the prover closes what a chain over a walk gives. Calling it does nothing. Not in Rust's
-/// std.
+/// This holds for `Components` (`parts`, `parts_back`), for `Iter` (`items`, `items_back`), and for
+/// `Ancestors` (`ancestors`), which has only `next`. With this law the prover can show what a chain
+/// of iterators over a walk yields.
 ///
-/// If `a` and `b` are left of a walk, `next` gives `a`, then `b`; `next_back` gives `b`, then `a`.
+/// If `a` and `b` remain in a walk, `next` yields `a`, then `b`, and `next_back` yields `b`, then
+/// `a`.
 pub fn walks_in_order()
     ensures parts { EveryRun GivesFirstPart
         (λ run. ItemsMapTo run value_of (cursor_values run.from)) }
@@ -26,20 +28,20 @@ pub fn walks_in_order()
     ensures items_back { EveryRun {A = UnixStr} GivesLastName
         (λ run. ItemsMapToReversed run name_bytes (iter_bytes run.from)) }
     ensures ancestors { EveryRun {A = Path}
-        (YieldsFirstBy (λ path. path.bytes.now) ancestors_left)
-        (λ run. ItemsMapTo run (λ path. path.bytes.now) (ancestors_left run.from)) }
+        (YieldsFirstBy (λ path. path.bytes.now) remaining_ancestors)
+        (λ run. ItemsMapTo run (λ path. path.bytes.now) (remaining_ancestors run.from)) }
 {}
 
-/// However calls of `next` and `next_back` are mixed, what was given in front, what is left, and
-/// what was given behind, read backwards, are what was left before.
+/// However calls of `next` and `next_back` are mixed, the items that remained before are those that
+/// `next` yielded, then those that remain, then those that `next_back` yielded, in reverse.
 ///
-/// That holds of every list of calls on every walk, of `Components` (`parts`) and of `Iter`
-/// (`items`). The bytes that are left, which `as_path` gives, are the rest after as many parts in
-/// front and behind as were given (`rest`, `items_rest`). Calling it does nothing. Not in Rust's
-/// std.
+/// This holds for every list of calls on every walk of `Components` (`parts`) and of `Iter`
+/// (`items`). The bytes that remain, which `as_path` returns, are the rest of the bytes before. The
+/// rest lacks one leading component for each item that `next` yielded, and one trailing component
+/// for each item that `next_back` yielded (`rest`, `items_rest`).
 ///
-/// On `/a/b/c`, `next`, `next_back` and `next` give the root and `a` in front, `c` behind, and
-/// leave `b`.
+/// On `/a/b/c`, `next`, `next_back` and `next` yield the root and `a` from the front and `c` from
+/// the back, and `b` remains.
 pub fn ends_meet()
     ensures parts { EndsMeet value_of cursor_values GivesFirstPart GivesLastPart }
     ensures rest { RestIsBetween cursor_rest GivesFirstPart GivesLastPart }

@@ -1,17 +1,17 @@
-//! How far two paths are written alike.
+//! The leading bytes that two paths have in common, up to a slash.
 ghost use Rattle.std.specs.Prelude.{◌≡◌, ◌≤◌, length};
 ghost use Rattle.unix_path.specs.CommonDir.{common_dir_of};
 
 use crate::path::Path;
-use unix_bytes::search::{common_len, past_last};
+use unix_bytes::search::{after_last, common_len};
 
 impl<'a> Path<'a> {
-    /// The place just after the last `/` of the longest string that both paths begin with, or 0 if
-    /// that string has none.
+    /// Returns the index just after the last `/` of the longest common prefix of both paths, or 0
+    /// if that prefix contains no `/`.
     ///
-    /// The place is a number of bytes, and not of parts. If it isn't 0, the two paths compare as
-    /// what follows it in each of them; a `/` or a piece `.` that this begins with is filler there,
-    /// and no part. Does not allocate. Not in Rust's std.
+    /// The prefix is compared byte by byte, not by components. If the index isn't 0, the two paths
+    /// compare as their bytes after it do. A `/` or a `.` piece at the start of these bytes is
+    /// filler, not a component.
     ///
     /// For `a/./b` and `a/b` it is 2, and for `a/b` and `ab` it is 0.
     #[must_use]
@@ -22,6 +22,6 @@ impl<'a> Path<'a> {
         ensures in_second { result ≤ length other.entry.bytes.now }
     {
         let common = common_len(self.bytes, other.bytes);
-        past_last(&self.bytes[..common], b'/')
+        after_last(&self.bytes[..common], b'/')
     }
 }

@@ -1,21 +1,20 @@
-//! The file name of a path, its stem, its extension and its prefix.
+//! The file name of a path, and the name's stem, extension and prefix.
 ghost use Rattle.std.specs.Prelude.{◌≡◌, ◌≤◌, length, take, option_map, IfSome};
 ghost use Rattle.unix_path.specs.Parts.{values};
 ghost use Rattle.unix_path.specs.Names.{file_name_of, stem_of, extension_of, file_prefix_of};
 ghost use Rattle.unix_path.specs.Edits.{before_name_of, stem_end_of};
 ghost use Rattle.unix_path.specs.Extensions.{name_end_of};
 
-use crate::cursor::{Component, Components, last_name_step, trimmed_len};
-use crate::lasts::ends_in_name;
+use crate::cursor::{Component, Components, split_last_root_or_name, trimmed_len};
 use crate::names::name_prefix;
 use crate::path::Path;
+use crate::path_end::ends_in_name;
 use crate::stems::stem_end;
 use unix_bytes::bytes::UnixStr;
 
 impl<'a> Path<'a> {
-    /// The last part, if it is a name. `None` if there is no part, or if the last is the root, `.`
-    /// or `..`. Does not allocate. As Rust's `Path::file_name`, whose documentation names only
-    /// `..`.
+    /// Returns the last component if it is a name. Returns `None` if the path is empty, or if the
+    /// last component is the root, `.` or `..`. Rust's documentation mentions only `..`.
     ///
     /// For `foo.txt/.//` it is `foo.txt`.
     #[must_use]
@@ -33,8 +32,9 @@ impl<'a> Path<'a> {
         }
     }
 
-    /// The file name up to its last dot, or all of it if it has no dot, or if its last dot is the
-    /// first byte. `None` if there is no file name. Does not allocate. As Rust's `Path::file_stem`.
+    /// Returns the file name up to its last dot, or `None` if there is no file name.
+    ///
+    /// Returns the whole name if it has no dot, or if its last dot is its first byte.
     ///
     /// For `foo.tar.gz` it is `foo.tar`, and for `.foo` it is `.foo`.
     #[must_use]
@@ -51,9 +51,10 @@ impl<'a> Path<'a> {
         })
     }
 
-    /// The file name's bytes after its last dot, without the dot. `None` if there is no file name,
-    /// if it has no dot, or if its last dot is the first byte. Does not allocate. As Rust's
-    /// `Path::extension`.
+    /// Returns the part of the file name after its last dot, without the dot.
+    ///
+    /// Returns `None` if there is no file name, if it has no dot, or if its last dot is its first
+    /// byte.
     ///
     /// For `foo.tar.gz` it is `gz`, and for `foo.` it is empty.
     #[must_use]
@@ -75,8 +76,8 @@ impl<'a> Path<'a> {
         })
     }
 
-    /// The file name up to the first dot behind its first byte, or all of it if there is no such
-    /// dot. `None` if there is no file name. Does not allocate. As Rust's `Path::file_prefix`.
+    /// Returns the file name up to its first dot, ignoring a leading dot. Returns the whole name if
+    /// it has no other dot, and `None` if there is no file name.
     ///
     /// For `foo.tar.gz` it is `foo`, and for `.foo.rs` it is `.foo`.
     #[must_use]
@@ -93,8 +94,9 @@ impl<'a> Path<'a> {
         }
     }
 
-    /// The path without its file name and the filler around it, or all of the path if there is no
-    /// file name: what `with_file_name` joins a name to. Does not allocate. Not in Rust's std.
+    /// Returns the path without its file name and the filler around it, or the whole path if there
+    /// is no file name. The result is a prefix of the path's bytes; `with_file_name` joins a name
+    /// to it.
     ///
     /// For `a//b/.` it is `a`, and for `a/..` it is `a/..`.
     #[must_use]
@@ -106,14 +108,14 @@ impl<'a> Path<'a> {
         let Some(end) = self.name_end() else {
             return *self;
         };
-        let (len, _name) = last_name_step(&self.bytes[..end]);
+        let (len, _name) = split_last_root_or_name(&self.bytes[..end]);
         Path {
             bytes: &self.bytes[..len],
         }
     }
 
-    /// The place just after the stem of the file name, or `None` if there is no file name: up to
-    /// there `with_extension` keeps the path. Does not allocate. Not in Rust's std.
+    /// Returns the index just after the stem of the file name, or `None` if there is no file name.
+    /// `with_extension` keeps the path up to this index.
     ///
     /// For `a/foo.rs/` it is 5.
     #[must_use]
@@ -128,11 +130,10 @@ impl<'a> Path<'a> {
         Some(stem_end(&self.bytes[..end], 0))
     }
 
-    /// The place just after the file name, or `None` if there is none: up to there
-    /// `with_added_extension` keeps the path. Only the last part's end is read, and what stands
-    /// behind it. Does not allocate. Not in Rust's std.
+    /// Returns the index just after the file name, or `None` if there is no file name.
+    /// `with_added_extension` keeps the path up to this index.
     ///
-    /// For `a/foo.rs/` it is 8.
+    /// Reads only the end of the last component and the filler after it. For `a/foo.rs/` it is 8.
     #[must_use]
     #[inline]
     pub fn name_end(&self) -> Option<usize>

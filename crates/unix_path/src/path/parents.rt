@@ -1,21 +1,21 @@
 //! The parent of a path, and its ancestors.
 ghost use Rattle.std.specs.Prelude.{◌≡◌, ◌<◌, ◌≤◌, ◌^◌, length, take, option_map, IfSome};
 ghost use Rattle.unix_path.specs.Parents.{parent_of, ancestors_of};
-ghost use Rattle.unix_path.specs.Places.{BeginsAt, LiesIn};
+ghost use Rattle.unix_path.specs.Slices.{BeginsAt, LiesIn};
 
 use crate::cursor::{Ancestors, Component, Components};
 use crate::path::Path;
 
 impl<'a> Path<'a> {
-    ghost use Rattle.unix_path.specs.Ancestors.{ancestors_left};
+    ghost use Rattle.unix_path.specs.Ancestors.{remaining_ancestors};
 
-    /// The path without its last part, as a slice of this path's bytes, in the same memory, which
-    /// begins where they begin. `None` if there is no part, or if the last is the root.
+    /// Returns the path without its last component, or `None` if the path is empty or its last
+    /// component is the root.
     ///
-    /// The parent of a single name is the empty path, which has no parent. Does not allocate. As
-    /// Rust's `Path::parent`.
+    /// The result is a prefix of this path's bytes, in the same memory. The parent of a single name
+    /// is the empty path, which has no parent.
     ///
-    /// For `/tmp//foo/.` it is `/tmp`.
+    /// The parent of `/tmp//foo/.` is `/tmp`.
     #[must_use]
     #[inline]
     pub fn parent(&self) -> Option<Path<'a>>
@@ -31,7 +31,7 @@ impl<'a> Path<'a> {
         }
     }
 
-    // How many bytes the parent has, or `None` if there is no parent. It isn't inlined, so that
+    // Returns the length of the parent, or `None` if there is no parent. Not inlined, so that
     // `parent` and `pop`, which call it, stay small.
     #[inline(never)]
     pub(crate) fn parent_len(&self) -> Option<usize>
@@ -48,14 +48,13 @@ impl<'a> Path<'a> {
         }
     }
 
-    /// A walk over the path itself, its parent, the parent's parent, and so on. Does not allocate.
-    /// As Rust's `Path::ancestors`.
+    /// Returns a walk over the path itself, its parent, the parent's parent, and so on.
     ///
-    /// For `../a` it gives `../a`, `..` and the empty path.
+    /// For `../a` it yields `../a`, `..` and the empty path.
     #[inline]
     pub fn ancestors(&self) -> Ancestors<'a>
-        ensures left { ancestors_left result ≡ ancestors_of self.now.bytes.now }
-        ensures len { length (ancestors_left result) < 2 ^ 64 }
+        ensures pending { remaining_ancestors result ≡ ancestors_of self.now.bytes.now }
+        ensures len { length (remaining_ancestors result) < 2 ^ 64 }
     {
         Ancestors::new(*self)
     }

@@ -1,4 +1,4 @@
--- Answers in a buffer, and how many bytes they have.
+-- Results in a buffer, and their lengths.
 pub mod LayoutLemmas
 pub mod WritingLemmas
 pub mod RangeLemmas

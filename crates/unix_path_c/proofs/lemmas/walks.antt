@@ -1,5 +1,5 @@
--- Walks over parts, ancestors and chunks, by places alone.
-pub mod BytesLeftLemmas
+-- Walks over components, ancestors and chunks, by indices only.
+pub mod RemainingLemmas
 pub mod TakeFirstLemmas
 pub mod TakeLastLemmas
 pub mod NameLemmas

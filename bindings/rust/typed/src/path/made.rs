@@ -1,4 +1,4 @@
-//! Paths that are made of others. Each is allocated once.
+//! Methods that make a path from others. Each allocates at most once.
 use super::Path;
 use crate::memory::made;
 use crate::path_buf::PathBuf;
@@ -7,7 +7,7 @@ use alloc::boxed::Box;
 use unix_path_rattle::owned;
 
 impl Path {
-    /// A copy of its own. As Rust's `Path::to_path_buf`.
+    /// Copies the path to a new [`PathBuf`].
     ///
     /// ```
     /// use unix_path_typed::{Path, PathBuf};
@@ -19,11 +19,11 @@ impl Path {
         PathBuf::of(self.bytes().to_vec())
     }
 
-    /// The shortest path with the parts of this one: its canonical form, which all equal paths
-    /// share.
+    /// Returns the canonical form: the shortest path with the same components, which all equal
+    /// paths share.
     ///
-    /// As collecting [`components`](Path::components), but in one call, and allocated once. Not in
-    /// Rust's std.
+    /// Equivalent to collecting [`components`](Path::components), but in one call of the library
+    /// and with one allocation. Not in Rust's std.
     ///
     /// ```
     /// use unix_path_typed::{Path, PathBuf};
@@ -38,10 +38,11 @@ impl Path {
         PathBuf::of(made(owned::canonical(path), path.len()))
     }
 
-    /// `path` joined to this path: `path` alone if it has a root; else both, with a slash between
-    /// them if one is missing.
+    /// Joins a trusted path to this path; for a request from outside use `join_beneath` of the
+    /// crate `unix_path_rattle`.
     ///
-    /// As Rust's `Path::join`.
+    /// The result is `path` if it has a root; otherwise it is both paths, with a slash between them
+    /// if one is missing. Nothing is resolved, so `..` may lead out of this path.
     ///
     /// ```
     /// use unix_path_typed::{Path, PathBuf};
@@ -55,10 +56,8 @@ impl Path {
         PathBuf::of(made(owned::join(base, path), base.len() + 1 + path.len()))
     }
 
-    /// The path with `file_name` in place of its file name, or with `file_name` joined to it if it
-    /// has none.
-    ///
-    /// As Rust's `Path::with_file_name`.
+    /// Returns the path with its file name replaced by `file_name`, or with `file_name` joined to
+    /// it if it has no file name.
     ///
     /// ```
     /// use unix_path_typed::{Path, PathBuf};
@@ -73,11 +72,10 @@ impl Path {
         PathBuf::of(made(owned::with_file_name(path, name), room))
     }
 
-    /// The path with `extension` in place of its own, or added if it has none. An empty `extension`
-    /// takes the old one away. A path without a file name stays as it is.
+    /// Returns the path with the extension of its file name replaced, or added if there is none. An
+    /// empty `extension` removes the old one. A path without a file name is unchanged.
     ///
-    /// As Rust's `Path::with_extension`, except that Rust's gives `..` for `..a` whatever the
-    /// extension is.
+    /// Rust's `Path::with_extension` returns `..` for `..a` whatever the extension is.
     ///
     /// ```
     /// use unix_path_typed::{Path, PathBuf};
@@ -87,7 +85,8 @@ impl Path {
     ///
     /// # Panics
     ///
-    /// If the extension has a slash, as Rust's does; in `unix_path` 1.0.1 it adds parts.
+    /// Panics if the extension contains a slash, as in Rust; in `unix_path` 1.0.1 it adds
+    /// components.
     #[must_use]
     #[inline]
     pub fn with_extension<S: AsRef<UnixStr>>(&self, extension: S) -> PathBuf {
@@ -96,7 +95,7 @@ impl Path {
         PathBuf::of(made(owned::with_extension(path, extension), room))
     }
 
-    /// The same path as one that can grow, in the same memory. As Rust's `Path::into_path_buf`.
+    /// Converts to a [`PathBuf`], in the same memory.
     ///
     /// ```
     /// use unix_path_typed::{Path, PathBuf};

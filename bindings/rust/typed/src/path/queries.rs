@@ -1,4 +1,5 @@
-//! Questions about a path, and about two. Answers lie in the path, and no call allocates.
+//! Methods that answer a question about one or two paths. They return slices of the path, and none
+//! allocates.
 use super::Path;
 use crate::error::StripPrefixError;
 use crate::unix_str::UnixStr;
@@ -6,7 +7,7 @@ use crate::walks::{Ancestors, Components, Iter};
 use unix_path_rattle as calls;
 
 impl Path {
-    /// Whether the path begins with a slash. As Rust's `Path::is_absolute`.
+    /// Returns true if the path begins with a slash.
     ///
     /// ```
     /// use unix_path_typed::Path;
@@ -19,7 +20,7 @@ impl Path {
         calls::is_absolute(self.bytes())
     }
 
-    /// Whether the path doesn't begin with a slash. As Rust's `Path::is_relative`.
+    /// Returns true if the path does not begin with a slash.
     ///
     /// ```
     /// assert!(unix_path_typed::Path::new("a/").is_relative());
@@ -30,8 +31,7 @@ impl Path {
         !self.is_absolute()
     }
 
-    /// Whether the path begins with a slash, as [`is_absolute`](Path::is_absolute). As Rust's
-    /// `Path::has_root`.
+    /// Returns true if the path begins with a slash, like [`is_absolute`](Path::is_absolute).
     ///
     /// ```
     /// assert!(unix_path_typed::Path::new("/a").has_root());
@@ -42,9 +42,7 @@ impl Path {
         self.is_absolute()
     }
 
-    /// The path without its last part, unless that is the root or there is none.
-    ///
-    /// As Rust's `Path::parent`.
+    /// Returns the path without its last component, or `None` if that is the root or there is none.
     ///
     /// ```
     /// use unix_path_typed::Path;
@@ -58,9 +56,7 @@ impl Path {
         calls::parent(self.bytes()).map(Path::of)
     }
 
-    /// The path, its parent, the parent of that, and so on.
-    ///
-    /// As Rust's `Path::ancestors`.
+    /// Returns an iterator over the path, its parent, that parent's parent, and so on.
     ///
     /// ```
     /// use unix_path_typed::Path;
@@ -71,7 +67,7 @@ impl Path {
         Ancestors::new(self)
     }
 
-    /// The last part, if it is a name. As Rust's `Path::file_name`.
+    /// Returns the last component if it is a name.
     ///
     /// ```
     /// use unix_path_typed::Path;
@@ -84,9 +80,8 @@ impl Path {
         calls::file_name(self.bytes()).map(UnixStr::of)
     }
 
-    /// The file name up to its last dot; all of it if it has no dot, or if that dot is first.
-    ///
-    /// As Rust's `Path::file_stem`.
+    /// Returns the file name up to its last dot, or all of it if it has no dot or only a leading
+    /// one.
     ///
     /// ```
     /// use unix_path_typed::Path;
@@ -99,9 +94,8 @@ impl Path {
         calls::file_stem(self.bytes()).map(UnixStr::of)
     }
 
-    /// The file name behind its last dot; `None` if it has no dot, or if that dot is first.
-    ///
-    /// As Rust's `Path::extension`.
+    /// Returns the part of the file name after its last dot, or `None` if it has no dot or only a
+    /// leading one.
     ///
     /// ```
     /// use unix_path_typed::Path;
@@ -115,9 +109,10 @@ impl Path {
         calls::extension(self.bytes()).map(UnixStr::of)
     }
 
-    /// The file name up to its first dot behind its first byte; all of it if there is no such dot.
+    /// Returns the file name up to its first dot after the first byte, or all of it if there is no
+    /// such dot.
     ///
-    /// As Rust's `Path::file_prefix`; not in `unix_path` 1.0.1.
+    /// Not in `unix_path` 1.0.1.
     ///
     /// ```
     /// use unix_path_typed::Path;
@@ -130,14 +125,13 @@ impl Path {
         calls::file_prefix(self.bytes()).map(UnixStr::of)
     }
 
-    /// What follows `base` in the path. Fails exactly if [`starts_with`](Path::starts_with) is
-    /// false.
+    /// Returns what follows `base` in the path. Fails if and only if
+    /// [`starts_with`](Path::starts_with) is false.
     ///
-    /// As Rust's `Path::strip_prefix`, except that an answer of no bytes may stand elsewhere in the
-    /// path.
+    /// An empty result may be at another position in the path than in Rust's `Path::strip_prefix`.
     ///
-    /// What follows may climb, as `../etc` does below. To keep a path below a directory, use
-    /// `Request::join_below` of the crate `unix_path_rattle`.
+    /// The result may escape, like `../etc` below. To keep a request beneath a directory, join them
+    /// with `join_beneath` of the crate `unix_path_rattle`.
     ///
     /// ```
     /// use unix_path_typed::Path;
@@ -155,10 +149,10 @@ impl Path {
         }
     }
 
-    /// Whether the parts of `base` begin those of the path. As Rust's `Path::starts_with`.
+    /// Returns true if the components of the path start with those of `base`.
     ///
     /// A path that starts with a directory may still leave it, since no `..` is resolved. To keep a
-    /// path below a directory, use `Request::join_below` of the crate `unix_path_rattle`.
+    /// request beneath a directory, join them with `join_beneath` of the crate `unix_path_rattle`.
     ///
     /// ```
     /// use unix_path_typed::Path;
@@ -172,7 +166,7 @@ impl Path {
         calls::starts_with(self.bytes(), base.as_ref().bytes())
     }
 
-    /// Whether the parts of `child` end those of the path. As Rust's `Path::ends_with`.
+    /// Returns true if the components of the path end with those of `child`.
     ///
     /// ```
     /// use unix_path_typed::Path;
@@ -185,10 +179,10 @@ impl Path {
         calls::ends_with(self.bytes(), child.as_ref().bytes())
     }
 
-    /// The parts of the path, one by one from either end.
+    /// Returns an iterator over the components of the path, from either end.
     ///
-    /// Slashes in a row count as one. A trailing slash is dropped, and so is each `.` except one
-    /// that stands first. As Rust's `Path::components`.
+    /// Repeated slashes count as one. A trailing slash is dropped, and so is each `.` except a
+    /// leading one.
     ///
     /// ```
     /// use unix_path_typed::{Component::*, Path};
@@ -202,7 +196,7 @@ impl Path {
         Components::new(self)
     }
 
-    /// The parts of the path as text, one by one from either end. As Rust's `Path::iter`.
+    /// Returns an iterator over the components of the path as text, from either end.
     ///
     /// ```
     /// assert!(unix_path_typed::Path::new("/tmp//a").iter().eq(["/", "tmp", "a"]));

@@ -1,11 +1,11 @@
-//! Edits of a path, beside those of std.
+//! Edits of a path, compared with edits of std.
 use crate::strings::*;
 use std::ffi::OsStr;
 use std::os::unix::ffi::OsStrExt;
 use std::panic::{catch_unwind, AssertUnwindSafe};
 use unix_path_typed::{Path, PathBuf, UnixStr};
 
-/// A path on both sides, whose edits have to leave the same.
+/// A path on both sides. The edits of both have to leave the same bytes.
 #[derive(Default)]
 struct Both(PathBuf, std::path::PathBuf);
 
@@ -63,7 +63,7 @@ fn of_random_paths() {
     }
 }
 
-/// Many edits one after the other, on paths that grow.
+/// Applies many edits in order to paths that grow.
 #[test]
 fn in_a_row() {
     let mut random = Random::new();
@@ -71,7 +71,7 @@ fn in_a_row() {
         let mut both = Both::default();
         for _ in 0..500 {
             let number = random.below(6);
-            // Without this a path seldom grows.
+            // A path with a root replaces the path, so most of the strings get no leading slash.
             let other: Vec<u8> = match random.below(8) {
                 0 => random.string(),
                 _ => random
@@ -85,7 +85,7 @@ fn in_a_row() {
     }
 }
 
-/// A slash in an extension is refused, and the path stays.
+/// Checks that a slash in an extension is refused, and leaves the path unchanged.
 #[test]
 fn separators_in_extensions() {
     for s in ["a.b", "..", ""] {

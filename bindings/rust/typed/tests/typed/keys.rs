@@ -1,5 +1,5 @@
 //! Paths as keys of maps, looked up by another spelling.
-#[path = "../../../tests/face/feeds.rs"]
+#[path = "../../../tests/calls/feeds.rs"]
 mod feeds;
 
 use crate::strings::*;
@@ -11,7 +11,8 @@ use std::{rc::Rc, sync::Arc};
 use unix_path_rattle::ByComponents;
 use unix_path_typed::{Path, PathBuf, UnixStr, UnixString};
 
-/// What a path feeds: its parts and then an end, be it borrowed, owned or a walk.
+/// Returns what a path feeds a hasher: its components and then an end. Checks that it is the same
+/// for a borrowed path, an owned path and a walk.
 fn fed_by_path(path: &Path) -> Vec<u8> {
     let fed = fed_by(path);
     let parts = path.components().map(fed_by);
@@ -27,7 +28,9 @@ fn fed_by_path(path: &Path) -> Vec<u8> {
     fed
 }
 
-/// So no two different paths collide under each key of a hasher, nor two different lists of paths.
+/// Checks that equal paths feed a hasher the same, that different paths do not, and that no feed is
+/// a prefix of another. Therefore no two different paths, or lists of paths, collide under every
+/// key of a hasher.
 #[test]
 fn hashers_are_fed_the_parts() {
     let mut feeds = HashMap::new();
@@ -39,7 +42,8 @@ fn hashers_are_fed_the_parts() {
     }
     let sorted: BTreeSet<_> = feeds.values().collect();
     assert_eq!(sorted.len(), feeds.len());
-    // If one begins with another, so does the one right after that other.
+    // In this order, a feed that is a prefix of another is also a prefix of the feed right after
+    // it.
     let sorted: Vec<_> = sorted.into_iter().collect();
     assert!(sorted.windows(2).all(|pair| !pair[1].starts_with(pair[0])));
 }
@@ -57,7 +61,7 @@ fn texts_feed_their_bytes() {
     assert_ne!(fed_by(text), fed_by(UnixStr::new("a/b")));
 }
 
-/// Each path is found by each of its spellings, as in a map of std's paths.
+/// Checks that each path is found by each of its spellings, as in a map of std's paths.
 #[test]
 fn maps() {
     let (mut hashed, mut ordered) = (HashMap::new(), BTreeMap::new());
@@ -103,7 +107,7 @@ fn other_spellings() {
     assert_eq!(texts.get(UnixStr::new("a")), Some(&1));
 }
 
-/// Two paths that share a number under one key don't under most others.
+/// Checks that two paths whose hashes collide under one key do not collide under most other keys.
 #[test]
 fn keys_of_hashers_count() {
     let keys: Vec<RandomState> = (0..64).map(|_| RandomState::new()).collect();

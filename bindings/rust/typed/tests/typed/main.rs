@@ -1,4 +1,4 @@
-//! What the types answer, beside those of `std::path`.
+//! What the types return, compared with those of `std::path`.
 mod edits;
 mod keys;
 mod owners;

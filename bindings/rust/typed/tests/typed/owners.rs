@@ -1,4 +1,4 @@
-//! Paths and texts in other types that own them.
+//! Paths and text in other types that own them.
 use std::borrow::{Borrow, Cow};
 use std::io;
 use std::rc::Rc;
@@ -86,7 +86,7 @@ fn room_of_texts() {
     assert!(text.is_empty() && text.capacity() == 3);
 }
 
-/// Each type that may be given where a path is asked for.
+/// Passes each type that is accepted as a path.
 #[test]
 fn parameters() {
     let path = Path::new("/a/b");

@@ -1,4 +1,4 @@
-//! What is asked of two paths and made of two.
+//! Questions about two paths, and paths made from two.
 use crate::strings::*;
 use std::borrow::Cow;
 use std::cmp::Ordering::{Greater, Less};
@@ -11,8 +11,8 @@ fn hash_of(key: impl Hash) -> u64 {
     hasher.finish()
 }
 
-/// All two of which the shorter has at most four bytes, and many random ones with one that is like
-/// it, and one that is not.
+/// Runs the check on all pairs whose shorter string has at most four bytes, and on many random
+/// strings, each with one that is similar and one that is not.
 fn each(check: fn(&[u8], &[u8])) {
     let (short, shorter) = (short(6), short(4));
     for a in &short {
@@ -63,14 +63,16 @@ fn made_of_two() {
         if b.contains(&b'/') {
             return;
         }
-        // The method of std that doesn't edit looks for a file name only behind the cut.
+        // std's `with_extension` looks for a file name only after it has removed the extension. Its
+        // `set_extension` looks before.
         let mut want = path.to_path_buf();
         want.set_extension(want_name);
         assert_eq!(bytes(&p.with_extension(name)), std_bytes(&want));
     });
 }
 
-/// Parts that are taken off and joined again, or pushed one by one, are the same path.
+/// Checks that components that are removed and joined again, or pushed one by one, form the same
+/// path.
 #[test]
 fn parts_make_the_path() {
     each(|a, b| {
@@ -83,7 +85,7 @@ fn parts_make_the_path() {
     });
 }
 
-/// Each of these pairs is equal, whichever stands first.
+/// Checks that each of these pairs is equal, in either order.
 macro_rules! are_equal {
     ($($one:expr, $($other:expr),+;)*) => {$($(
         assert!(PartialEq::eq(&$one, &$other));
@@ -91,7 +93,7 @@ macro_rules! are_equal {
     )+)*};
 }
 
-/// The first of each pair is less than the other, and that is greater than it.
+/// Checks that the first of each pair is less than the other, and the other greater than it.
 macro_rules! are_ordered {
     ($($one:expr, $($other:expr),+;)*) => {$($(
         assert_eq!(PartialOrd::partial_cmp(&$one, &$other), Some(Less));
@@ -99,7 +101,7 @@ macro_rules! are_ordered {
     )+)*};
 }
 
-/// Paths are compared as paths with each type that holds one.
+/// Checks that a path is compared by components with each type that can be a path.
 #[test]
 fn paths_equal_other_types() {
     let (path, text) = (Path::new("a//b/."), UnixStr::new("a/b"));
@@ -115,7 +117,7 @@ fn paths_equal_other_types() {
     assert!(buf != *Path::new("a") && buf != *UnixStr::new("a") && buf != *"a");
 }
 
-/// Texts are compared by bytes.
+/// Checks that text is compared by bytes.
 #[test]
 fn texts_equal_other_types() {
     let (text, string) = (UnixStr::new("a//b"), UnixString::from("a//b"));
@@ -128,7 +130,7 @@ fn texts_equal_other_types() {
     assert!(string != *UnixStr::new("a/b") && cow != *UnixStr::new("a/b") && *text != *"a/b");
 }
 
-/// The order by parts is not that by bytes here.
+/// Checks orders of different types. The order by components differs from the order by bytes here.
 #[test]
 fn orders_across_types() {
     let (path, text) = (Path::new("a/b"), UnixStr::new("a.b"));

@@ -1,8 +1,8 @@
-//! The rows of `tests/rows.txt`, asked of the types.
+//! The rows of `tests/rows.txt`, checked with the types.
 #[path = "../../../src/ffi/calls.rs"]
 #[macro_use]
 mod calls;
-#[path = "../../../tests/face/rows/reader.rs"]
+#[path = "../../../tests/calls/rows/reader.rs"]
 mod reader;
 
 use crate::strings::{bytes, ours};
@@ -24,7 +24,7 @@ impl Answer for Cow<'_, str> {
     }
 }
 
-/// What was found in the path, and where.
+/// What was found in the path, and its index.
 impl<S: AsRef<UnixStr> + ?Sized> Answer for Option<&S> {
     fn fields(self, path: &[u8]) -> Vec<String> {
         let place = |bytes: &[u8]| bytes.as_ptr() as usize - path.as_ptr() as usize;
@@ -41,7 +41,7 @@ impl Answer for Result<&Path, StripPrefixError> {
     }
 }
 
-/// The calls that are operators of the types, or other methods.
+/// Calls that are operators of the types, or other methods.
 trait Renamed {
     fn is_utf8(&self) -> bool;
     fn equal(&self, other: &UnixStr) -> bool;
@@ -57,7 +57,7 @@ impl Renamed for Path {
         self == Path::new(other)
     }
 
-    /// The one from the other side and `==` have to know of it.
+    /// Returns the order. Checks that the opposite order and `==` agree with it.
     fn compare(&self, other: &UnixStr) -> Ordering {
         let order = self.cmp(Path::new(other));
         assert_eq!(Path::new(other).cmp(self), order.reverse());
@@ -66,24 +66,27 @@ impl Renamed for Path {
     }
 }
 
-/// Names the calls that the types lack, so that a row of another call is asked or isn't compiled.
+/// Names the calls that the types lack, so that a row of another call is either checked or a
+/// compile error.
 macro_rules! lacking {
     ($($name:ident($($other:tt)?))*) => {
+        #[allow(clippy::wrong_self_convention)]
         trait Lacking {
             $(fn $name(&self $(, $other: &UnixStr)?) -> bool {
                 unreachable!()
             })*
         }
         impl Lacking for Path {}
-        static LEFT_OUT: &[&str] = &["next_chunk", "join_below", $(stringify!($name)),*];
+        static LEFT_OUT: &[&str] = &["next_chunk", $(stringify!($name)),*];
     };
 }
 lacking! {
-    hash() is_canonical() climbs() check_request() common_dir(_) with_added_extension(_)
-    join_verbatim(_) way(_) resolved() key() from_key() key_end()
+    hash() is_canonical() escapes() check_request() request_is_root() ends_in_slash() common_dir(_)
+    with_added_extension(_) join_beneath(_) join_in_root(_) join_verbatim(_) relative_path(_)
+    resolved() key() from_key() key_range_end()
 }
 
-/// The path with that extension, of which a slash makes the method panic.
+/// Returns the path with that extension. The method panics for a slash.
 fn with_extension(a: &[u8], b: &[u8]) -> Vec<String> {
     catch_unwind(|| ours(a).with_extension(UnixStr::from_bytes(b)).fields(a))
         .unwrap_or_else(|_| vec!["!separator".to_string()])
@@ -98,7 +101,8 @@ fn component(bytes: &[u8]) -> Component<'_> {
     }
 }
 
-/// The parts, which have to come from behind too, each with the place of what is left before it.
+/// Returns the components, each with its index, at which the rest began before it was taken. Checks
+/// that they are the same from the back.
 fn parts(path: &[u8]) -> Vec<String> {
     let (mut rest, mut taken, mut fields) = (ours(path).components(), vec![], vec![]);
     let whole = bytes(rest.as_path());
@@ -125,7 +129,7 @@ fn ancestors(path: &[u8]) -> Vec<String> {
     fields.into_iter().map(|mut it| it.remove(0)).collect()
 }
 
-/// The calls that are asked in a way of their own, and then those of each other shape.
+/// Returns the calls that are checked in their own way, and then the calls of each other shape.
 fn all_calls() -> Vec<Call> {
     let mut calls: Vec<Call> = vec![
         ("components", 1, |a, _| parts(a)),

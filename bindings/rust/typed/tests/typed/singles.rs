@@ -1,4 +1,4 @@
-//! Walks over a path, and what is asked of one.
+//! Walks over a path, and questions about one path.
 use crate::strings::*;
 use std::ffi::OsStr;
 use unix_path_typed::{Component, Components, Iter, Path, PathBuf};
@@ -15,13 +15,13 @@ fn as_std(part: Component<'_>) -> std::path::Component<'_> {
     }
 }
 
-/// All that is short, and many random ones.
+/// Runs the check on all short strings and on many random ones.
 fn each(check: fn(&[u8])) {
     short(6).iter().for_each(|s| check(s));
     random(100_000).iter().for_each(|s| check(s));
 }
 
-/// Takes parts from both ends by the bits of a number, and looks at what is left before each.
+/// Takes components from both ends by the bits of a number, and checks the rest before each.
 fn walk_by(s: &[u8], bits: u32) {
     let (mut parts, mut want) = (ours(s).components(), theirs(s).components());
     let (mut texts, mut want_texts) = (ours(s).iter(), theirs(s).iter());
@@ -60,7 +60,7 @@ fn walks() {
     });
 }
 
-/// The walks as paths and texts, and as debug texts.
+/// Checks walks as paths, as text, and as debug text.
 fn walk_views<'a>(parts: &Components<'a>, texts: &Iter<'a>, want: &std::path::Components<'_>) {
     let left = want.as_path().as_os_str();
     assert_eq!(bytes(parts), std_bytes(left));
@@ -87,7 +87,7 @@ fn views_of_walks() {
     });
 }
 
-/// The file name up to its first dot behind its first byte.
+/// Returns the file name up to its first dot after the first byte.
 fn file_prefix(path: &std::path::Path) -> Option<&OsStr> {
     let name = path.file_name()?;
     let dot = (1..name.len()).find(|at| std_bytes(name)[*at] == b'.');

@@ -1,5 +1,5 @@
-//! The byte strings that the tests take, and both sides' views of them.
-#[path = "../../../tests/face/short_strings.rs"]
+//! The byte strings of the tests, and the views of them on both sides.
+#[path = "../../../tests/calls/short_strings.rs"]
 mod short_strings;
 
 pub use short_strings::over;
@@ -7,7 +7,7 @@ use std::ffi::OsStr;
 use std::os::unix::ffi::OsStrExt;
 use unix_path_typed::{Path, UnixStr};
 
-/// The strings of at most `longest` bytes over `/`, `.` and `a`, shorter ones first.
+/// Returns the strings of at most `longest` bytes over `/`, `.` and `a`, shorter ones first.
 pub fn short(longest: usize) -> Vec<Vec<u8>> {
     over(b"/.a", longest)
 }
@@ -20,7 +20,7 @@ impl Random {
         Random(0x2545_F491_4F6C_DD1D)
     }
 
-    /// A number below this one.
+    /// Returns a number below this one.
     pub fn below(&mut self, end: usize) -> usize {
         self.0 ^= self.0 << 13;
         self.0 ^= self.0 >> 7;
@@ -28,8 +28,8 @@ impl Random {
         (self.0 >> 16) as usize % end
     }
 
-    /// Up to 24 bytes: half of them `/` or `.`, and the others letters, NUL, a newline, a quote,
-    /// and bytes of which some make UTF-8.
+    /// Returns up to 24 bytes: half of them `/` or `.`, and the rest letters, NUL, a newline, a
+    /// quote, and bytes that may form UTF-8.
     pub fn string(&mut self) -> Vec<u8> {
         let letters = b"////...//.ab\0\n\"\xC3\xA9\xE2\x82\xAC\xFF";
         (0..self.below(25))
@@ -37,8 +37,8 @@ impl Random {
             .collect()
     }
 
-    /// A string that shares something with this one: its front, its end, or all of it, and in some
-    /// place what may leave its parts as they are.
+    /// Returns a string that shares its beginning, its end, or all of it with this one, sometimes
+    /// with an insertion that may leave its components unchanged.
     pub fn variant(&mut self, s: &[u8]) -> Vec<u8> {
         let cut = self.below(s.len() + 1);
         let kept = [&s[..cut], &s[cut..], s][self.below(3)];
@@ -48,7 +48,7 @@ impl Random {
     }
 }
 
-/// Random strings, the same in every run.
+/// Returns random strings, the same in every run.
 pub fn random(count: usize) -> Vec<Vec<u8>> {
     let mut random = Random::new();
     (0..count).map(|_| random.string()).collect()
@@ -62,22 +62,22 @@ pub fn theirs(bytes: &[u8]) -> &std::path::Path {
     std::path::Path::new(OsStr::from_bytes(bytes))
 }
 
-/// The bytes of our path or text.
+/// Returns the bytes of our path or text.
 pub fn bytes<S: AsRef<UnixStr> + ?Sized>(text: &S) -> &[u8] {
     text.as_ref().as_bytes()
 }
 
-/// The bytes of a path or text of std.
+/// Returns the bytes of a path or text of std.
 pub fn std_bytes<S: AsRef<OsStr> + ?Sized>(text: &S) -> &[u8] {
     text.as_ref().as_bytes()
 }
 
-/// The bytes, and where they stand unless there are none.
+/// Returns the bytes, and their address unless there are none.
 pub fn place(found: &[u8]) -> (&[u8], Option<*const u8>) {
     (found, found.first().map(|first| first as *const u8))
 }
 
-/// Both answers are the same bytes in the same place.
+/// Checks that both results are the same bytes at the same index.
 #[track_caller]
 pub fn same_place(ours: Option<&UnixStr>, theirs: Option<&OsStr>, of: &[u8]) {
     let ours = ours.map(|ours| place(ours.as_bytes()));

@@ -1,4 +1,4 @@
-//! Paths as text, beside std.
+//! Paths as text, compared with std.
 use crate::strings::*;
 use std::ffi::OsStr;
 use std::os::unix::ffi::OsStrExt;
@@ -34,7 +34,7 @@ fn of_texts() {
     }
 }
 
-/// Marks that stand on the letter before them, and what has an escape of its own.
+/// Checks the debug text of combining marks, and of characters with their own escapes.
 #[test]
 fn escapes() {
     for text in [
@@ -76,8 +76,8 @@ fn printed_in_a_field() {
     }
 }
 
-/// Checks that a path of these bytes is printed in a field as one of std is, with each style: a
-/// fill, an alignment and flags, before a width `w` and a precision `p`.
+/// Checks that a path of these bytes is printed in a field as std prints it, with each style: a
+/// fill, an alignment and flags, followed by a width `w` and a precision `p`.
 macro_rules! prints_as_std {
     ($bytes:expr, $w:expr, $p:expr, $($style:literal)*) => {$(
         prints_as_std!(@ $bytes, concat!("{:", $style, "w$}"), w = $w);

@@ -1,4 +1,4 @@
-//! Requests for memory of calls that make copies of paths.
+//! Allocations of calls that copy paths.
 use super::super::path;
 use super::{report, report_path};
 use serde_json::Value;
@@ -50,7 +50,7 @@ fn path_with_name(rt: HostRuntime) -> Result<(), Fail> {
     )
 }
 
-// The result of a test whose call gives a copy with another extension.
+// Returns the result of a test whose call returns a copy with another extension.
 fn report_copy(given: Result<PathBuf, ExtensionError>, text: &str) -> Result<(), Fail> {
     match given {
         Ok(buffer) => report_path(Ok(buffer), text),

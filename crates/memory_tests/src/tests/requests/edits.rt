@@ -1,4 +1,4 @@
-//! Requests for memory of edits of a buffer.
+//! Allocations of edits of a buffer.
 use super::super::{holds, path};
 use super::{buffer_with_room, report};
 use std::alloc::AllocError;
@@ -6,7 +6,7 @@ use std::test::Fail;
 use unix_path::bytes::UnixStr;
 use unix_path::{ExtensionError, PathBuf};
 
-// The result of a test whose call edits the path `before`.
+// Returns the result of a test whose call edits the path `before`.
 fn report_edit(
     edited: Result<(), AllocError>,
     buffer: &PathBuf,
@@ -45,7 +45,7 @@ fn end_replaced(rt: HostRuntime) -> Result<(), Fail> {
     report_edit(edited, &buffer, "a/b.rs", "a/b.rs.bak")
 }
 
-// The result of a test whose call edits the extension of `foo/.`.
+// Returns the result of a test whose call edits the extension of `foo/.`.
 fn report_extension(edited: Result<bool, ExtensionError>, buffer: &PathBuf) -> Result<(), Fail> {
     match edited {
         Ok(is_made) => report(true, is_made && holds(buffer, "foo.bar")),
@@ -109,7 +109,7 @@ fn path_with_less_room(rt: HostRuntime) -> Result<(), Fail> {
     )
 }
 
-// What `ab` is after no push, and after each of three, which all grow the buffer.
+// The path `ab` after no push, and after each of three pushes, which all grow the buffer.
 const AB_AFTER_PUSHES: [&str; 4] = [
     "ab",
     "ab/c",
@@ -117,8 +117,8 @@ const AB_AFTER_PUSHES: [&str; 4] = [
     "ab/c/0123456789/0123456789012345678901234567890123456789",
 ];
 
-// Whether the path holds what the pushes before the refused one left: the next is longer than its
-// capacity.
+// Returns true if the path is what the pushes before the failed push left, and the failed push
+// would make it longer than its capacity.
 fn is_cut_short(buffer: &PathBuf) -> bool {
     let [none, one, two, three] = AB_AFTER_PUSHES;
     let next = if holds(buffer, none) {

@@ -1,4 +1,4 @@
-//! Requests for memory of calls that make boxed, shared, and borrowed or owned paths.
+//! Allocations of calls that create boxed, shared, and borrowed or owned paths.
 use super::super::path;
 use super::{buffer_with_room, report, report_path};
 use std::alloc::AllocError;
@@ -6,7 +6,7 @@ use std::test::Fail;
 use unix_path::bytes::UnixStr;
 use unix_path::{BoxedPath, CowPath, PathBuf, RcPath};
 
-// The result of a test whose call gives the boxed path `foo/`.
+// Returns the result of a test whose call returns the boxed path `foo/`.
 fn report_boxed(given: Result<BoxedPath, AllocError>) -> Result<(), Fail> {
     match given {
         Ok(boxed) => report(true, boxed.as_path().as_unix_str() == UnixStr::new("foo/")),
@@ -14,7 +14,7 @@ fn report_boxed(given: Result<BoxedPath, AllocError>) -> Result<(), Fail> {
     }
 }
 
-// The result of a test whose call gives the shared path `foo/`.
+// Returns the result of a test whose call returns the shared path `foo/`.
 fn report_shared(given: Result<RcPath, AllocError>) -> Result<(), Fail> {
     match given {
         Ok(shared) => report(true, shared.as_path().as_unix_str() == UnixStr::new("foo/")),

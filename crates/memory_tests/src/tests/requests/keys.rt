@@ -1,4 +1,4 @@
-//! Requests for memory of calls that make keys, ranges of keys, and paths of keys.
+//! Allocations of calls that create keys, ranges of keys, and paths of keys.
 use super::super::path;
 use super::{report, report_path};
 use path_keys::{KeyError, PathKey, path_of};
@@ -13,7 +13,16 @@ fn key_made(rt: HostRuntime) -> Result<(), Fail> {
     }
 }
 
-// A key that has no room for another stays as it was if it can't be set.
+#[test]
+fn key_of_bytes(rt: HostRuntime) -> Result<(), Fail> {
+    match PathKey::from_bytes(rt.alloc(), b"\x61\x00\x62\x00") {
+        Ok(key) => report(true, key.as_bytes() == b"\x61\x00\x62\x00".as_slice()),
+        Err(KeyError::Memory(_)) => report(false, true),
+        Err(KeyError::NotAKey) => report(true, false),
+    }
+}
+
+// Sets a key without enough capacity to another path. If that fails, the key is unchanged.
 #[test]
 fn key_set(rt: HostRuntime) -> Result<(), Fail> {
     let mut key = PathKey::new(rt.alloc());

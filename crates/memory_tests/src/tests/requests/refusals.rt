@@ -1,10 +1,10 @@
-//! Requests for memory of calls that are refused for another reason, which is told before any.
+//! Allocations of calls that fail for another reason, which they report before they allocate.
 use super::super::{holds, path};
 use super::report;
-use path_keys::{KeyError, path_of};
+use path_keys::{KeyError, PathKey, path_of};
 use path_runs::edits::rejoin;
 use path_within::WithinError;
-use path_within::way::way;
+use path_within::relative::relative_path;
 use path_within::within::{join_verbatim, join_within};
 use serde_json::Value;
 use std::alloc::AllocError;
@@ -13,7 +13,7 @@ use unix_path::bytes::UnixStr;
 use unix_path::json::{JsonError, from_json, to_json};
 use unix_path::{ExtensionError, Path, PathBuf};
 
-// The result of a test whose call refuses an extension for its slash.
+// Returns the result of a test whose call rejects an extension for its slash.
 fn report_separator<T: Drop>(given: Result<T, ExtensionError>, is_left: bool) -> Result<(), Fail> {
     match given {
         Err(ExtensionError::Separator) => report(true, is_left),
@@ -66,7 +66,7 @@ fn null_not_read(rt: HostRuntime) -> Result<(), Fail> {
     }
 }
 
-// The result of a test whose call finds no path.
+// Returns the result of a test whose call finds no path.
 fn report_none(given: Result<Option<PathBuf>, AllocError>) -> Result<(), Fail> {
     match given {
         Ok(found) => report(true, found.is_none()),
@@ -80,16 +80,16 @@ fn other_path_not_rejoined(rt: HostRuntime) -> Result<(), Fail> {
 }
 
 #[test]
-fn no_way_from_root(rt: HostRuntime) -> Result<(), Fail> {
-    report_none(way(rt.alloc(), path("/a"), path("b")))
+fn no_relative_path_from_root(rt: HostRuntime) -> Result<(), Fail> {
+    report_none(relative_path(rt.alloc(), path("/a"), path("b")))
 }
 
 #[test]
-fn no_way_from_above(rt: HostRuntime) -> Result<(), Fail> {
-    report_none(way(rt.alloc(), path("../x"), path("y")))
+fn no_relative_path_from_above(rt: HostRuntime) -> Result<(), Fail> {
+    report_none(relative_path(rt.alloc(), path("../x"), path("y")))
 }
 
-// The result of a test whose call refuses a request that leaves its root.
+// Returns the result of a test whose call rejects a request that leaves its root.
 fn report_escape(given: Result<PathBuf, WithinError>) -> Result<(), Fail> {
     match given {
         Err(WithinError::Escapes) => report(true, true),
@@ -99,7 +99,7 @@ fn report_escape(given: Result<PathBuf, WithinError>) -> Result<(), Fail> {
 }
 
 #[test]
-fn climb_not_joined(rt: HostRuntime) -> Result<(), Fail> {
+fn escape_not_joined(rt: HostRuntime) -> Result<(), Fail> {
     report_escape(join_within(rt.alloc(), path("/srv"), path("a/../..")))
 }
 
@@ -120,6 +120,15 @@ fn nul_not_joined_verbatim(rt: HostRuntime) -> Result<(), Fail> {
 #[test]
 fn no_key_not_read(rt: HostRuntime) -> Result<(), Fail> {
     match path_of(rt.alloc(), b"\x61") {
+        Err(KeyError::NotAKey) => report(true, true),
+        Err(KeyError::Memory(_)) => report(false, true),
+        Ok(_) => report(true, false),
+    }
+}
+
+#[test]
+fn bytes_of_no_key_not_copied(rt: HostRuntime) -> Result<(), Fail> {
+    match PathKey::from_bytes(rt.alloc(), b"\x61") {
         Err(KeyError::NotAKey) => report(true, true),
         Err(KeyError::Memory(_)) => report(false, true),
         Ok(_) => report(true, false),

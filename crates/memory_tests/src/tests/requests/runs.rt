@@ -1,4 +1,4 @@
-//! Requests for memory of calls that make spellings, joins, walks and lists of edits.
+//! Allocations of canonical forms, joins, walks and lists of edits.
 use super::super::{holds, path};
 use super::{report, report_path};
 use path_runs::canonical::{canonical, collected};
@@ -9,7 +9,7 @@ use std::test::Fail;
 use unix_path::PathBuf;
 use unix_path::bytes::UnixStr;
 
-// The canonical spelling of `SOURCE`.
+// The canonical form of `SOURCE`.
 const SPELLING: &str = "./01234567/0123456789/0123456789012345678901234567890123456789";
 
 const SOURCE: &str = ".//01234567/./0123456789//0123456789012345678901234567890123456789/.";
@@ -57,7 +57,7 @@ fn path_walked(rt: HostRuntime) -> Result<(), Fail> {
     }
 }
 
-// What `ab` is after this many of the edits.
+// Returns the path that the first `done` edits of `ab` leave.
 fn edited_text(done: usize) -> &'static str {
     match done {
         0 => "ab",
@@ -84,7 +84,7 @@ fn edits_applied(rt: HostRuntime) -> Result<(), Fail> {
     }
 }
 
-// The path that the first of these extensions leave.
+// Returns the path that the first `done` of these extensions leave.
 fn extended_text(done: usize) -> &'static str {
     match done {
         0 => "ab",

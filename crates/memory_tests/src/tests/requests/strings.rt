@@ -1,4 +1,4 @@
-//! Requests for memory of calls that make byte strings and lossy texts.
+//! Allocations of calls that create byte strings and lossy texts.
 use super::{buffer_with_room, has_bytes, report};
 use std::alloc::AllocError;
 use std::test::Fail;

@@ -1,4 +1,4 @@
-//! Requests for memory of tables of paths.
+//! Allocations of tables of paths.
 use super::super::{holds, path};
 use super::{buffer_with_room, report};
 use path_table::PathTable;
@@ -6,13 +6,13 @@ use std::alloc::{AllocError, Global};
 use std::test::Fail;
 use unix_path::{Path, PathBuf};
 
-// As many paths as fit one node of the table.
+// As many paths as fit into one node of the table.
 const TEXTS: [&str; 15] = [
     "/", "a/b", "a/b/c", "a/b//d/.", "a/b/e", "a/b/f", "a/b/g", "a.b", "b", "c", "d", "e", "f",
     "g", "h",
 ];
 
-// A table of the first paths, with the place of each among them.
+// Returns a table of the first paths, each with its index as the value.
 fn table_of(alloc: Global, count: usize) -> Result<PathTable<usize>, AllocError> {
     let mut table = PathTable::new(alloc);
     for place in 0..count.min(TEXTS.len()) {
@@ -21,7 +21,8 @@ fn table_of(alloc: Global, count: usize) -> Result<PathTable<usize>, AllocError>
     Ok(table)
 }
 
-// Whether the table has each of the paths. The key has room for them.
+// Returns true if the table has each path of `TEXTS`. `key` is a buffer with enough capacity for
+// each.
 fn has_each(table: &PathTable<usize>, key: &mut PathBuf) -> Result<bool, AllocError> {
     for place in 0..TEXTS.len() {
         key.clear();
@@ -40,7 +41,8 @@ fn has_at(found: &[(Path<'_>, &usize)], place: usize, rest: &str, value: usize) 
     }
 }
 
-// Whether these are the six rows under `a/b`, of which the first, third and last are looked at.
+// Returns true if these are the six entries under `a/b`. Only the first, third and last are
+// compared.
 fn are_under(found: &[(Path<'_>, &usize)]) -> bool {
     found.len() == 6
         && has_at(found, 0, "", 1)
@@ -64,13 +66,13 @@ fn first_path_inserted(rt: HostRuntime) -> Result<(), Fail> {
     }
 }
 
-// Whether the table has the key beside all those paths.
+// Returns true if the table has the key in addition to the paths of `TEXTS`.
 fn has_one_more(table: &PathTable<usize>, key: &mut PathBuf) -> Result<bool, AllocError> {
     let is_in = table.get(key) == Some(&7) && table.len() == 16;
     Ok(is_in && has_each(table, key)?)
 }
 
-// Whether the table has those paths and not the key.
+// Returns true if the table has the paths of `TEXTS`, but not the key.
 fn is_as_before(
     alloc: Global,
     table: &PathTable<usize>,
@@ -93,7 +95,7 @@ fn path_inserted(rt: HostRuntime) -> Result<(), Fail> {
     }
 }
 
-// The value takes the place of the one that an equal path has.
+// Replaces the value of an equal path.
 #[test]
 fn equal_path_inserted(rt: HostRuntime) -> Result<(), Fail> {
     let alloc = rt.alloc();

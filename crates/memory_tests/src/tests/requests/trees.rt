@@ -1,4 +1,4 @@
-//! Requests for memory of trees of paths. The name of `LONG` bytes has a key that isn't made on the
+//! Allocations of trees of paths. The name of `LONG` bytes has a key that does not fit on the
 //! stack.
 use super::super::path;
 use super::report;
@@ -16,7 +16,7 @@ fn long_name(alloc: Global) -> Result<Vec<u8>, AllocError> {
     Ok(name)
 }
 
-// A tree with 1 at the long name, and 2 at the empty path.
+// Returns a tree with 1 at the long name, and 2 at the empty path.
 fn tree_with(alloc: Global, name: &[u8]) -> Result<PathTree<u32>, AllocError> {
     let mut tree = PathTree::new(alloc);
     tree.insert(Path::from_bytes(name), 1)?;
@@ -24,7 +24,7 @@ fn tree_with(alloc: Global, name: &[u8]) -> Result<PathTree<u32>, AllocError> {
     Ok(tree)
 }
 
-// Whether the tree has both entries still.
+// Returns true if the tree still has both entries.
 fn is_as_before(tree: &PathTree<u32>, key: &PathKey) -> bool {
     tree.len() == 2 && tree.get(key) == Some(&1)
 }
@@ -40,7 +40,8 @@ fn tree_path_inserted(rt: HostRuntime) -> Result<(), Fail> {
     }
 }
 
-// One path beside 64 makes the tree ask for marks, without which it goes on.
+// Inserts the 65th path, for which the tree allocates a Bloom filter. If this allocation fails, the
+// tree works without the filter.
 #[test]
 fn tree_path_marked(rt: HostRuntime) -> Result<(), Fail> {
     let alloc = rt.alloc();
@@ -124,7 +125,7 @@ fn tree_paths_under(rt: HostRuntime) -> Result<(), Fail> {
     }
 }
 
-// Whether the tree has the first paths of these, as many as the list of what is at them, and that.
+// Returns true if the tree has exactly these paths, with these values.
 fn has_first(tree: &PathTree<u32>, wanted: &[(Path<'_>, u32)]) -> bool {
     for (path, value) in wanted {
         match tree.get_path(*path) {
@@ -187,7 +188,7 @@ fn tree_paths_changed(rt: HostRuntime) -> Result<(), Fail> {
     }
 }
 
-// Sixteen files in a folder, whose copies need more than one node of the tree.
+// Moves sixteen files in a directory, whose copies need more than one node of the tree.
 #[test]
 fn tree_moved(rt: HostRuntime) -> Result<(), Fail> {
     let alloc = rt.alloc();

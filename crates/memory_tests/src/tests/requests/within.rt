@@ -1,15 +1,15 @@
-//! Requests for memory of calls that make resolved paths, ways and joins within.
+//! Allocations of resolved paths, relative paths and joins within.
 use super::super::{holds, path};
 use super::{report, report_path};
+use path_within::relative::relative_path;
 use path_within::resolved::resolved;
-use path_within::way::way;
 use path_within::within::{join_verbatim, join_within};
 use path_within::{Request, Root, WithinError};
 use std::alloc::{AllocError, Global};
 use std::test::Fail;
 use unix_path::PathBuf;
 
-// The result of a test whose call gives a join that stays under its root.
+// Returns the result of a test whose call returns a join that stays under its root.
 fn report_join(given: Result<PathBuf, WithinError>, text: &str) -> Result<(), Fail> {
     match given {
         Ok(buffer) => report_path(Ok(buffer), text),
@@ -61,8 +61,11 @@ fn path_joined_verbatim(rt: HostRuntime) -> Result<(), Fail> {
     report_join(given, "/srv/www/a/b")
 }
 
-// The result of a test whose call gives a way.
-fn report_way(given: Result<Option<PathBuf>, AllocError>, text: &str) -> Result<(), Fail> {
+// Returns the result of a test whose call returns a relative path.
+fn report_relative_path(
+    given: Result<Option<PathBuf>, AllocError>,
+    text: &str,
+) -> Result<(), Fail> {
     match given {
         Ok(Some(found)) => report(true, holds(&found, text)),
         Ok(None) => report(true, false),
@@ -71,39 +74,51 @@ fn report_way(given: Result<Option<PathBuf>, AllocError>, text: &str) -> Result<
 }
 
 #[test]
-fn way_found(rt: HostRuntime) -> Result<(), Fail> {
-    report_way(way(rt.alloc(), path("/a/b/c"), path("/a/d")), "../../d")
+fn relative_path_found(rt: HostRuntime) -> Result<(), Fail> {
+    report_relative_path(
+        relative_path(rt.alloc(), path("/a/b/c"), path("/a/d")),
+        "../../d",
+    )
 }
 
 #[test]
-fn way_between_unresolved_found(rt: HostRuntime) -> Result<(), Fail> {
-    let given = way(rt.alloc(), path("/a//b/c"), path("/a/./d"));
-    report_way(given, "../../d")
+fn relative_path_between_unresolved_found(rt: HostRuntime) -> Result<(), Fail> {
+    let given = relative_path(rt.alloc(), path("/a//b/c"), path("/a/./d"));
+    report_relative_path(given, "../../d")
 }
 
 #[test]
-fn way_from_root_found(rt: HostRuntime) -> Result<(), Fail> {
-    report_way(way(rt.alloc(), path("/"), path("/a/b")), "a/b")
+fn relative_path_from_root_found(rt: HostRuntime) -> Result<(), Fail> {
+    report_relative_path(relative_path(rt.alloc(), path("/"), path("/a/b")), "a/b")
 }
 
 #[test]
-fn way_between_paths_above_found(rt: HostRuntime) -> Result<(), Fail> {
-    report_way(way(rt.alloc(), path("../../x"), path("../../y")), "../y")
+fn relative_path_between_paths_above_found(rt: HostRuntime) -> Result<(), Fail> {
+    report_relative_path(
+        relative_path(rt.alloc(), path("../../x"), path("../../y")),
+        "../y",
+    )
 }
 
 #[test]
-fn way_between_dots_found(rt: HostRuntime) -> Result<(), Fail> {
-    report_way(way(rt.alloc(), path("a/b."), path("a/c.")), "../c.")
+fn relative_path_between_dots_found(rt: HostRuntime) -> Result<(), Fail> {
+    report_relative_path(
+        relative_path(rt.alloc(), path("a/b."), path("a/c.")),
+        "../c.",
+    )
 }
 
 #[test]
-fn way_from_above_found(rt: HostRuntime) -> Result<(), Fail> {
-    report_way(way(rt.alloc(), path(".."), path("../..")), "..")
+fn relative_path_from_above_found(rt: HostRuntime) -> Result<(), Fail> {
+    report_relative_path(relative_path(rt.alloc(), path(".."), path("../..")), "..")
 }
 
 #[test]
-fn way_between_same_found(rt: HostRuntime) -> Result<(), Fail> {
-    report_way(way(rt.alloc(), path("/a/b"), path("/a//c/../b")), "")
+fn relative_path_between_same_found(rt: HostRuntime) -> Result<(), Fail> {
+    report_relative_path(
+        relative_path(rt.alloc(), path("/a/b"), path("/a//c/../b")),
+        "",
+    )
 }
 
 #[test]
@@ -130,9 +145,9 @@ fn root_verbatim(rt: HostRuntime) -> Result<(), Fail> {
     }
 }
 
-// The request of this path.
+// Returns the request of this path.
 fn request(text: &str) -> Result<Request<'_>, Fail> {
-    match Request::new(path(text)) {
+    match Request::beneath(path(text)) {
         Ok(request) => Ok(request),
         Err(_) => Err(Fail::new("wrong")),
     }
@@ -150,7 +165,7 @@ fn plain_request_joined(rt: HostRuntime) -> Result<(), Fail> {
     report_path(root.join(rt.alloc(), request("b/c")?), "/srv/www/b/c")
 }
 
-// The result of a test that joins the request in place of `/tmp`.
+// Returns the result of a test that replaces `/tmp` by the join with the request.
 fn report_joined_into(alloc: Global, text: &str) -> Result<(), Fail> {
     let root = Root::verbatim(alloc, path("/srv/www"))?;
     let mut buffer = PathBuf::from_text(alloc, "/tmp")?;

@@ -1,5 +1,5 @@
 //! Calls that promise to need no memory, of boxed, shared, and borrowed or owned paths.
-use super::super::{drought, path};
+use super::super::{exhaust, path};
 use super::{debug_has, display_has, hash_same, is_view};
 use std::alloc::{AllocError, Global};
 use std::test::Fail;
@@ -29,7 +29,7 @@ fn is_borrowed(buffer: &PathBuf) -> bool {
         && hash_same(&borrowed, &path("foo"))
 }
 
-// An owned path with no spare capacity is kept where it is.
+// Returns true if owned paths without spare capacity are converted without an allocation.
 fn is_kept(alloc: Global, first: PathBuf, second: PathBuf) -> bool {
     CowPath::from(first).into_owned(alloc).is_ok()
         && BoxedPath::from_cow(alloc, CowPath::from(second)).is_ok()
@@ -55,7 +55,7 @@ fn kept_paths_need_no_memory(rt: HostRuntime) -> Result<(), Fail> {
     let shared = RcPath::from_path(alloc, path("foo"))?;
     let buffer = PathBuf::from_text(alloc, "foo")?;
     let other = PathBuf::from_text(alloc, "foo")?;
-    let _dry = drought(alloc)?;
+    let _exhausted = exhaust(alloc)?;
     assert!(rt; is_boxed(alloc, boxed));
     assert!(rt; is_shared(&shared));
     assert!(rt; is_borrowed(&buffer));

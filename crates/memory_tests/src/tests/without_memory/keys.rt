@@ -1,11 +1,11 @@
 //! Calls that promise to need no memory, of keys.
-use super::super::{drought, fails, path};
+use super::super::{exhaust, fails, path};
 use path_keys::{KeyError, PathKey, is_key, key_len, path_of, write_key, write_path_of};
 use std::alloc::Global;
 use std::test::Fail;
 
-// Whether a key takes other paths in the room that it has, and stays as it was if that is too
-// small.
+// Returns true if a key can be set to other paths within its capacity, and is unchanged if its
+// capacity is too small.
 fn is_set_in_its_room(key: &mut PathKey) -> bool {
     let is_set = key.set(path("/x")).is_ok() && key.as_bytes() == b"\x00\x01x\x00".as_slice();
     let long = "a-path-that-is-longer-than-what-it-was-made-for/by-far";
@@ -13,7 +13,8 @@ fn is_set_in_its_room(key: &mut PathKey) -> bool {
     is_set && stays && key.set(path("")).is_ok() && key.as_bytes().is_empty()
 }
 
-// Whether bytes that are no key are told as that, and a key that there is no memory to read is not.
+// Returns true if bytes that are not a key are reported as such, and a key that cannot be read for
+// lack of memory is not.
 fn is_told(alloc: Global) -> bool {
     let is_no_key = match path_of(alloc, b"\x61\x00\x00\x01") {
         Err(KeyError::NotAKey) => true,
@@ -27,7 +28,21 @@ fn is_told(alloc: Global) -> bool {
     is_no_key && is_no_memory && is_empty && is_key(b"\x61\x00")
 }
 
-// Whether a key is counted and written to a buffer, and its path is, and those of no key aren't.
+// Returns true if bytes that are not a key are refused, and a key fails only for lack of memory.
+fn is_told_of_bytes(alloc: Global) -> bool {
+    let is_no_key = match PathKey::from_bytes(alloc, b"\x61\x00\x00\x01") {
+        Err(KeyError::NotAKey) => true,
+        _ => false,
+    };
+    let is_no_memory = match PathKey::from_bytes(alloc, b"\x61\x00") {
+        Err(KeyError::Memory(_)) => true,
+        _ => false,
+    };
+    is_no_key && is_no_memory && PathKey::from_bytes(alloc, b"").is_ok()
+}
+
+// Returns true if a key is counted and written to a buffer, its path is written too, and bytes that
+// are not a key have no path.
 fn is_written() -> bool {
     let mut buffer = [0u8; 4];
     let len = write_key(path("a//b"), &mut buffer);
@@ -42,12 +57,12 @@ fn keys_are_set_and_read_without_memory(rt: HostRuntime) -> Result<(), Fail> {
     let alloc = rt.alloc();
     let mut key = PathKey::from_path(alloc, path("a//b"))?;
     let empty = PathKey::from_path(alloc, path(""))?;
-    let _dry = drought(alloc)?;
+    let _exhausted = exhaust(alloc)?;
     let is_set = is_set_in_its_room(&mut key);
     let is_made = PathKey::from_path(alloc, path("")).is_ok()
         && fails(PathKey::from_path(alloc, path("a")));
     let has_range = empty.range_under().is_ok();
-    let is_told = is_told(alloc);
+    let is_told = is_told(alloc) && is_told_of_bytes(alloc);
     assert!(rt; is_set && is_made && has_range && is_told && is_written());
     Ok(())
 }

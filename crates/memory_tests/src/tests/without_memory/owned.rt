@@ -1,11 +1,11 @@
-//! Calls that promise to need no memory, of buffers, walks, spellings and edits.
-use super::super::{drought, path};
+//! Calls that promise to need no memory, of buffers, walks, canonical forms and edits.
+use super::super::{exhaust, path};
 use super::{debug_has, hash_same};
 use path_runs::canonical::{canonical, collected, is_canonical, write_canonical};
 use path_runs::edits::{Edit, apply, rejoin};
 use path_runs::walk::{Turn, walk};
+use path_within::relative::{relative_path, write_relative_path};
 use path_within::resolved::{resolved, write_resolved};
-use path_within::way::{way, write_way};
 use path_within::within::join_verbatim;
 use path_within::{Request, Root};
 use std::alloc::Global;
@@ -13,7 +13,7 @@ use std::test::Fail;
 use unix_path::bytes::UnixStr;
 use unix_path::{Path, PathBuf};
 
-// A path with no spare capacity has none to give back.
+// Returns true if a path without spare capacity keeps its capacity.
 fn stays_full(mut full: PathBuf) -> bool {
     full.shrink_to_fit().is_ok()
         && full.shrink_to(0).is_ok()
@@ -30,7 +30,7 @@ fn is_read(buffer: &PathBuf) -> bool {
         && buffer.as_path() == path("foo")
 }
 
-// An edit whose result isn't longer than the path needs no memory.
+// Returns true if edits whose result is not longer than the path succeed.
 fn is_edited(mut buffer: PathBuf) -> bool {
     buffer.set_file_name(UnixStr::new("bar")).is_ok()
         && buffer.set_file_name(UnixStr::new("b")).is_ok()
@@ -49,12 +49,13 @@ fn runs_over_nothing(alloc: Global) -> bool {
         && collected(alloc, path("").components()).is_ok()
 }
 
-// Without a byte nothing is resolved or joined.
+// Returns true if empty paths are resolved and joined.
 fn resolves_nothing(alloc: Global) -> bool {
     resolved(alloc, path("")).is_ok() && join_verbatim(alloc, path(""), path("")).is_ok()
 }
 
-// A way from a path to itself is the empty path.
+// Returns true if a relative path is found from each path to itself. It is empty, so it needs no
+// memory.
 fn leads_nowhere(alloc: Global) -> bool {
     let paths = [
         path(""),
@@ -63,14 +64,13 @@ fn leads_nowhere(alloc: Global) -> bool {
         path("/a/b."),
         path("a//../b/"),
     ];
-    paths
-        .iter()
-        .all(|same| matches!(way(alloc, *same, *same), Ok(Some(_))))
+    paths.iter().all(|same| matches!(relative_path(alloc, *same, *same), Ok(Some(_))))
 }
 
-// A join below a root needs no memory if the buffer has room for both and a byte more.
+// Returns true if a join below a root succeeds in a buffer that has capacity for the root, the
+// request and one more byte.
 fn is_joined_into(root: &Root, buffer: &mut PathBuf, text: &str) -> bool {
-    match Request::below(path(text)) {
+    match Request::in_root(path(text)) {
         Ok(request) => {
             root.join_into(buffer, request).is_ok()
                 && root.contains(buffer.as_path())
@@ -80,10 +80,10 @@ fn is_joined_into(root: &Root, buffer: &mut PathBuf, text: &str) -> bool {
     }
 }
 
-// A join that is written to a buffer of the caller's needs no memory, whatever the request is.
+// Returns true if a join is written to the caller's buffer.
 fn is_written_below(text: &str) -> bool {
     let mut out = [0_u8; 32];
-    match Request::below(path(text)) {
+    match Request::in_root(path(text)) {
         Ok(request) => {
             let len = request.write_below(path("/srv/./www/"), &mut out);
             len <= 32 && Path::from_bytes(&out[..len]).starts_with(path("/srv/www"))
@@ -93,8 +93,8 @@ fn is_written_below(text: &str) -> bool {
 }
 
 fn requests_are_read() -> bool {
-    let is_refused = Request::new(path("..")).is_err() && Request::below(path("\0")).is_err();
-    match Request::new(path("a/../b/")) {
+    let is_refused = Request::beneath(path("..")).is_err() && Request::in_root(path("\0")).is_err();
+    match Request::beneath(path("a/../b/")) {
         Ok(request) => {
             is_refused
                 && request.file_name() == Some(UnixStr::new("b"))
@@ -115,7 +115,7 @@ fn spelling_is_written() -> bool {
     write_canonical(path("/.//a/b/."), &mut out) == 4 && path("/a/b") == Path::from_bytes(&out)
 }
 
-// Returns true if a path is written resolved, both if it is and if it isn't resolved as it stands.
+// Returns true if a path is written resolved, whether it is already resolved or not.
 fn resolved_is_written() -> bool {
     let mut out = [0_u8; 4];
     write_resolved(path("a/../..//b/."), &mut out) == 4
@@ -124,14 +124,15 @@ fn resolved_is_written() -> bool {
         && out == *b"/a/c"
 }
 
-// Returns true if ways are written, both between plain paths and between others.
-fn way_is_written() -> bool {
+// Returns true if relative paths are written between plain paths and between paths with `..` or
+// filler, and if nothing is returned where there is no relative path.
+fn relative_path_is_written() -> bool {
     let mut out = [0_u8; 7];
-    write_way(path("/a/b/c"), path("/a/d"), &mut out) == Some(7)
+    write_relative_path(path("/a/b/c"), path("/a/d"), &mut out) == Some(7)
         && out == *b"../../d"
-        && write_way(path("../x/./y"), path("../z//"), &mut out) == Some(7)
+        && write_relative_path(path("../x/./y"), path("../z//"), &mut out) == Some(7)
         && out == *b"../../z"
-        && write_way(path(".."), path("a"), &mut out).is_none()
+        && write_relative_path(path(".."), path("a"), &mut out).is_none()
 }
 
 fn joins_nothing(alloc: Global) -> bool {
@@ -152,7 +153,7 @@ fn buffers_need_no_memory(rt: HostRuntime) -> Result<(), Fail> {
     let root = Root::verbatim(alloc, path("/srv/./www/"))?;
     let closed_root = Root::new(alloc, path("/srv/www"))?;
     let mut file = PathBuf::with_capacity(alloc, 20)?;
-    let _dry = drought(alloc)?;
+    let _exhausted = exhaust(alloc)?;
     assert!(rt; is_read(&foo));
     assert!(rt; stays_full(full));
     assert!(rt; runs_over_nothing(alloc));
@@ -165,7 +166,7 @@ fn buffers_need_no_memory(rt: HostRuntime) -> Result<(), Fail> {
     assert!(rt; is_written_below("a/../b//c"));
     assert!(rt; spelling_is_written());
     assert!(rt; resolved_is_written());
-    assert!(rt; way_is_written());
+    assert!(rt; relative_path_is_written());
     assert!(rt; joins_nothing(alloc));
     assert!(rt; resolves_nothing(alloc));
     assert!(rt; leads_nowhere(alloc));

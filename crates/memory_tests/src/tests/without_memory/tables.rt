@@ -1,11 +1,12 @@
 //! Calls that promise to need no memory, of tables.
-use super::super::{drought, fails};
+use super::super::{exhaust, fails};
 use path_table::PathTable;
 use std::alloc::{AllocError, Global};
 use std::test::Fail;
 use unix_path::PathBuf;
 
-// Whether a look-up and a removal find the value at the path, which then has none.
+// Looks the path up and removes it. Returns true if both find the value, and neither finds one when
+// repeated.
 fn is_taken(table: &mut PathTable<u8>, path: &PathBuf, value: u8) -> bool {
     table.get(path) == Some(&value)
         && table.remove(path) == Some(value)
@@ -13,7 +14,8 @@ fn is_taken(table: &mut PathTable<u8>, path: &PathBuf, value: u8) -> bool {
         && table.remove(path).is_none()
 }
 
-// Whether an equal path's value is replaced, and the table then emptied.
+// Replaces the value at an equal path, and removes the path. Returns true if the table had the one
+// path and is then empty, and if `under` failed.
 fn is_emptied(alloc: Global, table: &mut PathTable<u8>, path: &PathBuf, same: PathBuf) -> bool {
     let before = table.insert(same, 2).ok();
     before == Some(Some(1))
@@ -29,7 +31,7 @@ fn has_none_under(alloc: Global, table: &PathTable<u8>, path: &PathBuf) -> bool 
     }
 }
 
-// Whether an empty table takes no path, and stays empty.
+// Returns true if inserting into an empty table fails, and leaves it empty.
 fn stays_empty(alloc: Global, path: &PathBuf, other: PathBuf) -> bool {
     let mut empty = PathTable::new(alloc);
     let is_refused = fails(empty.insert(other, 3));
@@ -39,7 +41,7 @@ fn stays_empty(alloc: Global, path: &PathBuf, other: PathBuf) -> bool {
         && empty.remove(path).is_none()
 }
 
-// An equal path's value is replaced; there is no memory for another path.
+// Replaces an equal path's value; there is no memory for another path.
 #[test]
 fn tables_are_read_and_emptied_without_memory(rt: HostRuntime) -> Result<(), Fail> {
     let alloc = rt.alloc();
@@ -48,14 +50,14 @@ fn tables_are_read_and_emptied_without_memory(rt: HostRuntime) -> Result<(), Fai
     let path = PathBuf::from_text(alloc, "a//b/.")?;
     let same = PathBuf::from_text(alloc, "a/./b")?;
     let other = PathBuf::from_text(alloc, "c")?;
-    let _dry = drought(alloc)?;
+    let _exhausted = exhaust(alloc)?;
     let is_emptied = is_emptied(alloc, &mut table, &path, same);
     let stays_empty = stays_empty(alloc, &path, other);
     assert!(rt; is_emptied && stays_empty);
     Ok(())
 }
 
-// Inserts a path for each value up to 99, and keeps the same paths in order.
+// Inserts a path for each value up to 99, and appends the same paths to `paths` in order.
 fn fill(
     alloc: Global,
     table: &mut PathTable<u8>,
@@ -69,7 +71,8 @@ fn fill(
     Ok(())
 }
 
-// Whether each path has the value of its place, and is taken.
+// Removes the paths. Returns true if there were 100, each had its index as its value, and the table
+// is then empty.
 fn are_taken(table: &mut PathTable<u8>, paths: &[PathBuf]) -> bool {
     let mut value = 0u8;
     for path in paths {
@@ -87,7 +90,7 @@ fn a_large_table_is_emptied_without_memory(rt: HostRuntime) -> Result<(), Fail> 
     let mut table = PathTable::new(alloc);
     let mut paths = Vec::new(alloc);
     fill(alloc, &mut table, &mut paths)?;
-    let _dry = drought(alloc)?;
+    let _exhausted = exhaust(alloc)?;
     assert!(rt; are_taken(&mut table, paths.as_slice()));
     Ok(())
 }

@@ -1,12 +1,14 @@
 //! Calls that promise to need no memory, of byte strings and texts.
-use super::super::drought;
+use super::super::exhaust;
 use super::{debug_has, display_has, hash_same};
 use std::alloc::Global;
 use std::test::Fail;
 use unix_bytes::buffers::write_at;
 use unix_bytes::bytes::{LossyText, UnixStr, UnixString};
 use unix_bytes::lossy::{Utf8Lossy, utf8_char_width};
-use unix_bytes::search::{common_len, first_place, near_common_len, past_last, past_last_of_two};
+use unix_bytes::search::{
+    after_last, after_last_of_two, common_len, common_len_expect_short, find_byte,
+};
 
 fn is_view() -> bool {
     let foo = UnixStr::new("foo");
@@ -38,14 +40,14 @@ fn is_placed() -> bool {
 
 fn is_found() -> bool {
     utf8_char_width(b'a') == 1
-        && first_place(b"a/b", b'/') == 1
-        && past_last(b"a/b", b'/') == 2
-        && past_last_of_two(b"a/b", b'.', b'/') == 2
+        && find_byte(b"a/b", b'/') == 1
+        && after_last(b"a/b", b'/') == 2
+        && after_last_of_two(b"a/b", b'.', b'/') == 2
         && common_len(b"ab", b"ac") == 1
-        && near_common_len(b"ab", b"ac") == 1
+        && common_len_expect_short(b"ab", b"ac") == 1
 }
 
-// An owned text becomes a `String` without a copy.
+// Returns true if an owned text has these bytes and becomes a `String` without a copy.
 fn is_owned(alloc: Global, lossy: LossyText<'_>) -> bool {
     let is_read = lossy.as_str() == "a\u{fffd}"
         && lossy == LossyText::Borrowed("a\u{fffd}")
@@ -63,7 +65,7 @@ fn copies_nothing(alloc: Global) -> bool {
         && LossyText::Borrowed("").into_owned(alloc).is_ok()
 }
 
-// A string with no spare capacity has none to give back.
+// Returns true if a string without spare capacity keeps its capacity.
 fn stays_full(mut full: UnixString) -> bool {
     full.shrink_to_fit().is_ok()
         && full.shrink_to(0).is_ok()
@@ -76,7 +78,7 @@ fn texts_need_no_memory(rt: HostRuntime) -> Result<(), Fail> {
     let alloc = rt.alloc();
     let lossy = UnixStr::from_bytes(b"a\xff").to_string_lossy(alloc)?;
     let full = UnixStr::new("foo").to_unix_string(alloc)?;
-    let _dry = drought(alloc)?;
+    let _exhausted = exhaust(alloc)?;
     assert!(rt; is_view());
     assert!(rt; is_printed());
     assert!(rt; has_chunks());

@@ -1,13 +1,13 @@
 //! Calls that promise to need no memory, of trees.
-use super::super::{drought, fails, path};
+use super::super::{exhaust, fails, path};
 use path_keys::PathKey;
 use path_tree::PathTree;
 use std::alloc::AllocError;
 use std::test::Fail;
 use unix_path::Path;
 
-// Whether a path is found, by its key and by itself, has no children, and is the nearest of what is
-// below it.
+// Returns true if a path is found, by its key and by itself, has no children, and is the nearest
+// path of one below it.
 fn is_found(tree: &PathTree<u8>, key: &PathKey, name: &[u8]) -> Result<bool, AllocError> {
     let by_path = tree.get_path(Path::from_bytes(name))? == Some(&1);
     let is_in = tree.contains(key) && tree.contains_path(path("a//b"))?;
@@ -19,8 +19,8 @@ fn is_found(tree: &PathTree<u8>, key: &PathKey, name: &[u8]) -> Result<bool, All
     Ok(by_path && is_in && is_childless && nearest && tree.get(key) == Some(&2))
 }
 
-// Whether a new path is refused, and all entries are taken, by the key, by the path, and two under
-// the base.
+// Returns true if a new path is rejected, and all entries are removed: one by its key, one by its
+// path, and two under the base.
 fn is_emptied(
     tree: &mut PathTree<u8>,
     key: &PathKey,
@@ -34,7 +34,8 @@ fn is_emptied(
     Ok(is_refused && by_key && by_path && by_base && tree.is_empty())
 }
 
-// The longest path of which each key fits the stack, for which look-ups promise success.
+// Uses a path of 511 bytes, whose key of 512 bytes fits on the stack, so that look-ups promise to
+// succeed.
 #[test]
 fn trees_are_asked_and_emptied_without_memory(rt: HostRuntime) -> Result<(), Fail> {
     let alloc = rt.alloc();
@@ -47,7 +48,7 @@ fn trees_are_asked_and_emptied_without_memory(rt: HostRuntime) -> Result<(), Fai
     tree.insert(path("x"), 4)?;
     let key = PathKey::from_path(alloc, path("a/./b"))?;
     let base = PathKey::from_path(alloc, path("x/"))?;
-    let _dry = drought(alloc)?;
+    let _exhausted = exhaust(alloc)?;
     let is_found = is_found(&tree, &key, &name);
     let is_emptied = is_emptied(&mut tree, &key, &name, &base);
     assert!(rt; is_found? && is_emptied?);

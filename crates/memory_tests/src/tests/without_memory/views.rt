@@ -1,14 +1,17 @@
 //! Calls that promise to need no memory, of views of paths.
-use super::super::{drought, path};
+use super::super::{exhaust, path};
 use super::{debug_has, display_has, hash_same, is_view};
 use std::cmp::Ordering;
 use std::test::Fail;
 use unix_path::bytes::UnixStr;
-use unix_path::filler::{filler_len, is_filler, is_trailing, past_filler};
-use unix_path::firsts::{begins_with_parent, name_step, parent_step};
-use unix_path::lasts::{ends_in_name, is_open};
+use unix_path::filler::{after_filler, filler_len, is_filler, is_trailing};
+use unix_path::first_component::{name_step, parent_dir_step, starts_with_parent_dir};
+use unix_path::name_run_ends::{
+    has_no_name_run_end, may_end_name_run_simd16, name_run_end, name_run_end_expect_short,
+    no_name_starts_at,
+};
+use unix_path::path_end::{ends_in_name, needs_no_separator};
 use unix_path::stems::{dot_before, has_slash};
-use unix_path::stops::{first_stop, is_unstopped, may_break, near_stop, none_begins};
 use unix_path::{Component, Display, Path, StripPrefixError, is_separator};
 
 fn is_made() -> bool {
@@ -91,17 +94,17 @@ fn is_read_by_bytes() -> bool {
     is_filler(b"/a", 0)
         && is_trailing(b"a/", 1)
         && filler_len(b"/./a") == 3
-        && past_filler(b"/./a") == b"a".as_slice()
-        && parent_step(b".././a") == 5
+        && after_filler(b"/./a") == b"a".as_slice()
+        && parent_dir_step(b".././a") == 5
         && name_step(b"a/./b") == (1, 4)
-        && first_stop(b"a/b/.", b'/', b'.') == 3
-        && near_stop(b"a//b", b'/', b'.') == 1
-        && none_begins(b"a/../b", 2, b'/', b'.')
-        && may_break(b"0123456789abc/.f/", 0, b'/', b'.')
-        && is_unstopped(b"a/.b/c", b'/', b'.')
-        && begins_with_parent(b"../a")
+        && name_run_end(b"a/b/.", b'/', b'.') == 3
+        && name_run_end_expect_short(b"a//b", b'/', b'.') == 1
+        && no_name_starts_at(b"a/../b", 2, b'/', b'.')
+        && may_end_name_run_simd16(b"0123456789abc/.f/", 0, b'/', b'.')
+        && has_no_name_run_end(b"a/.b/c", b'/', b'.')
+        && starts_with_parent_dir(b"../a")
         && ends_in_name(b"a/b")
-        && is_open(b"a/")
+        && needs_no_separator(b"a/")
         && dot_before(b"rs") == Some(b'.')
         && has_slash(b"x/y")
 }
@@ -111,7 +114,7 @@ fn views_need_no_memory(rt: HostRuntime) -> Result<(), Fail> {
     let Err(error) = path("a").strip_prefix(path("b")) else {
         return Err(Fail::new("a prefix"));
     };
-    let _dry = drought(rt.alloc())?;
+    let _exhausted = exhaust(rt.alloc())?;
     assert!(rt; is_made());
     assert!(rt; is_shown());
     assert!(rt; has_names());

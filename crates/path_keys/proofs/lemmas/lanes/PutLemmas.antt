@@ -5,22 +5,22 @@ use Rattle.std.proofs.Common.{append_assoc, append-nil, length-append, length-se
 use Rattle.std.proofs.Common.{take-append-drop}
 use Rattle.std.proofs.lemmas.List.{take_more_set, drop-set-lt, map_more, take_all, take-take}
 use Rattle.std.proofs.lemmas.List.{length-map, length-take-le, map-append}
-use Rattle.std.proofs.lemmas.List.{take_at, drop-take}
+use Rattle.std.proofs.lemmas.List.{take_at}
 use Rattle.std.proofs.lemmas.Simd.{length-chunk, length-put_chunk, take_more_put_chunk}
 use Rattle.std.proofs.lemmas.List.{ext_get_or, get_or-drop}
 use Rattle.std.proofs.lemmas.Simd.{get_or-put_chunk_above}
 use Rattle.std.proofs.Math.Seq.{take-add}
-use Rattle.std.proofs.lemmas.Slice.{drop-append-drop}
 use Rattle.std.specs.Simd.Lanes.{put_chunk}
 use Rattle.path_runs.specs.Overlay.{overlay}
 
--- the first i of these bytes, changed by f, were put in the old buffer from `at` on; what stands
--- behind all of them is as it was
+-- the first i of these bytes, changed by f, were put in the old buffer from `at` on; what comes
+-- after all of them is unchanged
 pub record PutTo (f : ℕ → ℕ) (bytes old : List ℕ) (at i : ℕ) (out : List ℕ) : Type 0 where
   pub long : length out ≡ length old
   pub before : take (at + i) out ≡ take at old ++ map f (take i bytes)
   pub behind : drop (at + length bytes) out ≡ drop (at + length bytes) old
 
+-- before the first byte nothing is put
 pub put_none : (f : ℕ → ℕ) (bytes old : List ℕ) (at : ℕ) → PutTo f bytes old at 0 old
 put_none f bytes old at = record {
   long = refl;
@@ -75,7 +75,7 @@ put_fewer f bytes old at i k out h l m room = record {
   behind = h.behind;
 }
 
--- what stands behind a chunk is as it was
+-- what comes after a chunk is unchanged
 drop-put_chunk : (n i : ℕ) (xs ys : List ℕ) → i + length ys ≤ n
     → drop n (put_chunk i xs ys) ≡ drop n xs
 drop-put_chunk n i xs ys l =
@@ -116,47 +116,3 @@ put_all f bytes old at i out h e =
     ∙ ap₂ (λ xs ys. xs ++ ys)
     (h.before ∙ ap (λ xs. take at old ++ map f xs) (take_all i bytes (omega arith)))
     (ap (λ n. drop (at + n) out) e ∙ h.behind ∙ ap (λ n. drop (at + n) old) count)
-
--- bytes that were put in place of others were put there from the first on
-pub put_made : (f : ℕ → ℕ) (bytes old : List ℕ) (at i : ℕ) (out : List ℕ) → i ≤ length bytes
-    → at + i ≤ length old → out ≡ overlay at (map f (take i bytes)) old
-    → PutTo f bytes old at i out
-put_made f bytes old at i out l room e =
-    let xs = map f (take i bytes) in
-    let count : length xs ≡ i = length-map (take i bytes) f ∙ length-take-le i bytes l in
-    let front = take at old ++ xs in
-    let size : length front ≡ at + length xs =
-    omega (arith, length-append (take at old) xs, length-take-le at old (omega arith)) in
-    let behind = drop (at + length xs) old in
-    record {
-      long = omega (
-        arith,
-        ap length e,
-        length-append front behind,
-        size,
-        length-drop (at + length xs) old,
-        count,
-      );
-      before = ap (take (at + i)) e ∙ take_at front behind (at + i) (omega (arith, size, count));
-      behind = ap (drop (at + length bytes)) e
-          ∙ drop-append-drop (at + length xs) old front (at + length bytes)
-          (omega (arith, count)) size;
-    }
-
--- n more of the bytes are put in place of others at once
-pub put_next : (n : ℕ) (f : ℕ → ℕ) (bytes old : List ℕ) (at i : ℕ) (out new : List ℕ)
-    → i + n ≤ length bytes → at + (i + n) ≤ length old → out ≡ overlay at (map f (take i bytes)) old
-    → new ≡ put_chunk (at + i) out (map f (take n (drop i bytes)))
-    → new ≡ overlay at (map f (take (i + n) bytes)) old
-put_next n f bytes old at i out new l room h e =
-    let s = take (i + n) bytes in
-    let size : length s ≡ i + n = length-take-le (i + n) bytes l in
-    let front : take i s ≡ take i bytes = take-take i (i + n) bytes (omega arith) in
-    let here : take n (drop i s) ≡ take n (drop i bytes) =
-    ap (take n) (drop-take i n bytes) ∙ take-take n n (drop i bytes) (omega arith) in
-    put_all f s old at (i + n) new
-    (put_many n f s old at i out new
-    (put_made f s old at i out (omega (arith, size)) (omega arith)
-    (h ∙ ap (λ xs. overlay at (map f xs) old) (sym front)))
-    (omega (arith, size)) (omega (arith, size))
-    (e ∙ ap (λ xs. put_chunk (at + i) out (map f xs)) (sym here))) (sym size)

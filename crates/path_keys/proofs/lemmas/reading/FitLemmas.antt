@@ -30,30 +30,34 @@ Fits-coded first CurDir h = tt
 Fits-coded first ParentDir h = tt
 Fits-coded first (Normal name) h = (h.no_slash, h.some)
 
+-- components that may be a path's have codes of their own
 pub AllFit-coded : (first : Bool) (vs : List Value) → AllFit first vs → AllByRecursion IsCoded vs
 AllFit-coded first [] h = tt
 AllFit-coded first (v ∷ vs) h = (Fits-coded first v h.0, AllFit-coded false vs h.1)
 
+-- a piece that counts is a component that may follow others
 piece_fits : HoldsOfPieces (Fits false)
 piece_fits p h d e = by_test (bytes_eq p parent_dir) (λ up. rw up tt)
     (λ up. rw up (record { some = d; no_slash = h; no_dot = e; no_up = up }))
 
--- what holds of all values behind the first as such holds of all
+-- components that each may follow others may do so together
 all_fit : (vs : List Value) → AllByRecursion (Fits false) vs → AllFit false vs
 all_fit [] h = tt
 all_fit (v ∷ vs) h = (h.0, all_fit vs h.1)
 
+-- a component that may follow others may be the first
 Fits-first : (v : Value) → Fits false v → Fits true v
 Fits-first RootDir h = refl
 Fits-first CurDir h = refl
 Fits-first ParentDir h = tt
 Fits-first (Normal name) h = h
 
+-- components that may follow others may be all components
 pub AllFit-first : (vs : List Value) → AllFit false vs → AllFit true vs
 AllFit-first [] h = tt
 AllFit-first (v ∷ vs) h = (Fits-first v h.0, h.1)
 
--- the names between the slashes of any string may stand behind a first value
+-- the components between the slashes of any string may follow a first component
 names-fit : (s : List ℕ) → AllFit false (names_of (slice_split is_slash s))
 names-fit s =
     let behind = values-hold_rooted (Fits false) piece_fits (slash ∷ s) refl in
@@ -61,6 +65,7 @@ names-fit s =
     (let e = sym (values-rooted s) ∙ behind.1 in cc) in
     subst (AllFit false) (sym same) (all_fit behind.0 behind.2)
 
+-- a leading `.`, and components that may follow others, may be all components
 lead-fit : (dot : Bool) (vs : List Value) → AllFit false vs
     → AllFit true (cond dot (CurDir ∷ []) [] ++ vs)
 lead-fit true vs h = (refl, h)
@@ -77,38 +82,43 @@ values-fit s = by_test (is_rooted s)
     subst (AllFit true) (sym (values-rootless s ps r refl))
     (lead-fit (dot_first ps) (names_of ps) (names-fit s)))
 
--- the bytes of a value behind the first are a piece that counts
+-- the bytes of a component after the first have no slash
 fits-no_slash : (v : Value) → Fits false v → NoSlash (value_bytes v)
 fits-no_slash RootDir h = absurd (cc)
 fits-no_slash CurDir h = (refl, tt)
 fits-no_slash ParentDir h = (refl, (refl, tt))
 fits-no_slash (Normal name) h = h.no_slash
 
+-- the bytes of a component after the first are a piece that counts
 fits-counts : (v : Value) → Fits false v → counts (value_bytes v) ≡ true
 fits-counts RootDir h = absurd (cc)
 fits-counts CurDir h = absurd (cc)
 fits-counts ParentDir h = refl
 fits-counts (Normal name) h = rw (h.some, h.no_dot) refl
 
+-- the piece of a component after the first is that component
 fits-value : (v : Value) → Fits false v → value_of_piece (value_bytes v) ≡ v
 fits-value RootDir h = absurd (cc)
 fits-value CurDir h = absurd (cc)
 fits-value ParentDir h = refl
 fits-value (Normal name) h = rw h.no_up refl
 
+-- the pieces of components after the first have no slash
 pieces-no_slash : (vs : List Value) → AllFit false vs → AllByRecursion NoSlash (map value_bytes vs)
 pieces-no_slash [] h = tt
 pieces-no_slash (v ∷ vs) h = (fits-no_slash v h.0, pieces-no_slash vs h.1)
 
+-- these pieces count
 pieces-count : (vs : List Value) → AllFit false vs → AllCount (map value_bytes vs)
 pieces-count [] h = tt
 pieces-count (v ∷ vs) h = (fits-counts v h.0, pieces-count vs h.1)
 
+-- these pieces are those components
 pieces-values : (vs : List Value) → AllFit false vs → map value_of_piece (map value_bytes vs) ≡ vs
 pieces-values [] h = refl
 pieces-values (v ∷ vs) h = ap₂ (λ u us. u ∷ us) (fits-value v h.0) (pieces-values vs h.1)
 
--- values that may stand behind a first, spelled with slashes between
+-- components that may follow a first, written with slashes between, are read back
 inner-spelled : (vs : List Value) → AllFit false vs → values (slashed_bytes vs) ≡ vs
 inner-spelled vs h =
     values-join_with_byte (map value_bytes vs) (pieces-no_slash vs h) (pieces-count vs h)

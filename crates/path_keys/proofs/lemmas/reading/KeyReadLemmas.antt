@@ -49,10 +49,11 @@ path_lone key len h few = record {
       ∙ ap length ((text_of-spelled h.vs h.fit (text_of h.vs) refl).1 (omega (arith, h.len_is)));
 }
 
+-- bytes whose path has a length are a key
 pub path_key : (key : List ℕ) (len : ℕ) → HasPath key len → IsKey key
 path_key key len h = (h.path, h.read.key_is)
 
--- bytes are a key exactly if the length of their path is known
+-- bytes are a key if and only if the length of their path is known
 pub known_key : (key : List ℕ) (len : Option ℕ) → IfSome len (λ n. HasPath key n)
     → (len ≡ None → IsKey key → ⊥)
     → (IsTrue (is_some len) → IsKey key) × (IsKey key → IsTrue (is_some len))
@@ -71,6 +72,7 @@ spelled_long : {key : List ℕ} {n : ℕ} (s : List ℕ) → HasPath key n → k
     → n ≡ length (spelling_of (values s))
 spelled_long {key} {n} s h e = h.len_is ∙ ap length (read_back key h.path s h.read e)
 
+-- the length as `write_path_of` returns it
 pub path_long : {key : List ℕ} {n : ℕ} (s : List ℕ) → HasPath key n → key_of (values s) ≡ key
     → Some n ≡ Some (length (spelling_of (values s)))
 path_long s h e = ap Some (spelled_long s h e)
@@ -95,9 +97,11 @@ written_back {key} {path} {n} old s h read e room =
 empty_values : (key : List ℕ) → key ≡ [] → key_of (values []) ≡ key
 empty_values key e = ap key_of values-nil ∙ key_of-nil ∙ sym e
 
+-- no bytes are a key
 pub empty_key : (key : List ℕ) → key ≡ [] → IsKey key
 empty_key key e = ([], empty_values key e)
 
+-- the path of the empty key has no bytes
 pub empty_long : (key : List ℕ) (len : ℕ) → HasPath key len → key ≡ [] → len ≡ 0
 empty_long key len h e = spelled_long [] h (empty_values key e)
     ∙ ap length (ap spelling_of values-nil ∙ spelling_of-nil)

@@ -1,5 +1,5 @@
 -- The last code of a key that is read code by code.
-use Rattle.std.proofs.Common.{◌≡◌, ◌≤◌, ◌-◌, ◌+◌, ℕ, Bool, true, false, List, [], ◌++◌, length}
+use Rattle.std.proofs.Common.{◌≡◌, ◌≤◌, ◌<◌, ◌-◌, ◌+◌, ℕ, Bool, true, false, List, [], ◌++◌, length}
 use Rattle.std.proofs.Common.{take, drop, map, refl, sym, ap, ◌∙◌, arith, subst, ⊎_elim, append-nil}
 use Rattle.std.proofs.Common.{length-append, Option, Some, None, option_map, IfSome}
 use Rattle.std.proofs.lemmas.Bool.{cases_lt}
@@ -12,12 +12,13 @@ use Rattle.unix_path.proofs.lemmas.names.ParentLemmas.{parent_of-none, parent_of
 use Rattle.unix_path.proofs.lemmas.names.ParentLemmas.{parent_of-push}
 use Rattle.unix_path.proofs.lemmas.names.ParentLemmas.{file_name_of-last, file_name_of-none}
 use Rattle.path_runs.proofs.lemmas.joins.SiblingLemmas.{values-rest_push}
-use Rattle.path_keys.specs.Keys.{code, key_of, raised}
+use Rattle.path_runs.specs.Spelling.{spelling_of}
+use Rattle.path_keys.specs.Keys.{code, key_of, raised, IsKey}
 use Rattle.path_keys.specs.Codes.{code_value, slashed, lowered, HasNoCode, IsRaised, TakesCode}
 use Rattle.path_keys.specs.Lasts.{EndsIn}
-use Rattle.path_keys.specs.declared.last.LastCode.{LastCode}
+use Rattle.path_keys.specs.declared.parent.LastCode.{LastCode}
 use Rattle.path_keys.proofs.lemmas.values.CodeLemmas.{values-coded}
-use Rattle.path_keys.proofs.lemmas.reading.FitLemmas.{AllFit-coded}
+use Rattle.path_keys.proofs.lemmas.reading.FitLemmas.{AllFit-coded, values-spelled}
 use Rattle.path_keys.proofs.lemmas.values.OrderLemmas.{key_of-same}
 use Rattle.path_keys.proofs.lemmas.reading.ReadLemmas.{ReadsTo, reads_none, reads_one, reads_no_key}
 
@@ -27,12 +28,13 @@ LastIs key us None = us ≡ []
 LastIs key us (Some last) = EndsIn key us last.start (code_value last.code)
     × (last.start ≤ length key) × IsRaised last.code
 
--- `rest` is what is left of the key behind the last code
+-- `rest` is what is left of the key after the last code
 pub record WalksTo (key rest : List ℕ) (first : Bool) (last : Option LastCode) : Type 0 where
   pub len : ℕ
   pub reads : ReadsTo key rest first len
   pub last_is : LastIs key reads.us last
 
+-- before the first code, all of the key is left
 pub walks_none : (key : List ℕ) → WalksTo key key true None
 unfolding reads_none
 walks_none key = record { len = 0; reads = reads_none key; last_is = refl }
@@ -84,11 +86,13 @@ walks_some {key} (Some last) h none = λ s e.
     subst (λ vs. EndsIn key vs last.start (code_value last.code)) (walks_all h none s e)
     h.last_is.0
 
+-- the last code begins within the key
 pub walks_range : {key rest : List ℕ} {first : Bool} (last : Option LastCode)
     → WalksTo key rest first last → IfSome last (λ last. last.start ≤ length key)
 walks_range None h = tt
 walks_range (Some last) h = h.last_is.1
 
+-- the last code has the raised bytes of a name
 pub walks_raised : {key rest : List ℕ} {first : Bool} (last : Option LastCode)
     → WalksTo key rest first last → IfSome last (λ last. IsRaised last.code)
 walks_raised None h = tt
@@ -100,6 +104,20 @@ pub walks_empty : {key rest : List ℕ} {first : Bool} (last : Option LastCode)
     → (s : List ℕ) → key_of (values s) ≡ key → values s ≡ []
 walks_empty None h none is s e = sym (walks_all h none s e) ∙ h.last_is
 walks_empty (Some last) h none is s e = absurd (cc)
+
+-- if no code is left but some bytes are, no path has the key
+pub walks_no_key : {key rest : List ℕ} {first : Bool} (last : Option LastCode)
+    → WalksTo key rest first last → HasNoCode first rest → 0 < length rest → IsKey key → ⊥
+walks_no_key last h none some is = reads_no_key h.reads none some is
+
+-- if nothing is left, a path has the key: the canonical form of the components that were read
+pub walks_key : {key rest : List ℕ} {first : Bool} (last : Option LastCode)
+    → WalksTo key rest first last → length rest ≡ 0 → IsKey key
+walks_key {key} {rest} last h empty = (
+  spelling_of h.reads.us,
+  ap key_of (values-spelled h.reads.us h.reads.fit) ∙ sym (append-nil (key_of h.reads.us))
+      ∙ ap (λ r. key_of h.reads.us ++ r) (sym (nil_from_length rest empty)) ∙ h.reads.whole,
+)
 
 -- a key of no value has no parent and no name
 pub no_parent : (s : List ℕ) → values s ≡ []
@@ -122,6 +140,7 @@ front_parent key s start v no_root h =
     ∙ ap (option_map (λ parent. key_of (values parent)))
     (parent_of-push s h.front v h.is refl no_root)
 
+-- a path without components has no name
 pub no_name : (s : List ℕ) → values s ≡ []
     → None ≡ option_map (λ name. map raised name) (file_name_of (values s))
 no_name s e = ap (option_map (λ name. map raised name)) (file_name_of-none s e)

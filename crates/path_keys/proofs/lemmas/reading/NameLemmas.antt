@@ -19,10 +19,12 @@ use Rattle.path_keys.proofs.lemmas.values.LoweredLemmas.{lowered-NoSlash, raised
 use Rattle.path_keys.proofs.lemmas.values.LoweredLemmas.{NoZero-before}
 use Rattle.path_keys.proofs.lemmas.values.LoweredLemmas.{first_zero}
 
+-- bytes that are not none differ from none
 not_empty : (p : List ℕ) → 0 < length p → bytes_eq p [] ≡ false
 not_empty [] l = absurd (omega arith)
 not_empty (b ∷ p) l = refl
 
+-- bytes that differ from none are not none
 pub some_bytes : (p : List ℕ) → bytes_eq p [] ≡ false → 0 < length p
 some_bytes [] e = absurd (let d = e in cc)
 some_bytes (b ∷ p) e = omega arith
@@ -66,12 +68,13 @@ takes_name s n e some l no_dot no_up =
           ∙ ap₂ (λ c k. c ++ drop k s) (sym coded) (sym count);
     }
 
--- where the code of a name begins these bytes, the first 0 stands behind the name's bytes
+-- the first 0 of these bytes, at index n, follows the raised bytes of the name
 record FindsName (s name : List ℕ) (n : ℕ) : Type 0 where
   some : 0 < n
   in_range : n < length s
   is : take n s ≡ map raised name
 
+-- where the code of a name begins these bytes, the first 0 follows the raised name
 finds_name : (s name x : List ℕ) (n : ℕ) → n ≡ position_or_len is_zero s → IsName name
     → code (Normal name) ++ x ≡ s → FindsName s name n
 finds_name s name x n e h begins =
@@ -93,7 +96,7 @@ pub no_name_first : (s : List ℕ) (n : ℕ) → n ≡ position_or_len is_zero s
 no_name_first s n e none name x h begins =
     let found = finds_name s name x n e h begins in none found.some found.in_range
 
--- no name's code begins these bytes if the first 0 stands behind those of p, which is no name
+-- no name's code begins these bytes if the first 0 follows those of p, which is no name
 pub no_name_read : (s p : List ℕ) (n : ℕ) → n ≡ position_or_len is_zero s
     → bytes_eq (take n s) (map raised p) ≡ true → (IsName p → ⊥)
     → AllByRecursion (λ b. eqb b 47 ≡ false) p

@@ -13,12 +13,12 @@ use Rattle.path_keys.proofs.lemmas.values.OrderLemmas.{key_of-begins}
 use Rattle.path_keys.proofs.lemmas.reading.TextLemmas.{text_of-nil, text_of-cons, text_of-append}
 use Rattle.path_keys.proofs.lemmas.reading.TextLemmas.{length-slashed}
 
--- whether no value stands before
+-- no component comes before
 abbrev pub starts : List Value → Bool
 starts [] = true
 starts (v ∷ vs) = false
 
--- values that may be all of a path's, and one more that may stand behind them
+-- components that may be all of a path, and one more that may follow them
 pub fit_more : (us : List Value) (v : Value) → AllFit true us → Fits (starts us) v
     → AllFit true (us ++ v ∷ [])
 fit_more [] v h k = (k, tt)
@@ -28,7 +28,7 @@ fit_more (u ∷ us) v h k = (h.0, behind us h.1)
     behind [] h = (k, tt)
     behind (u ∷ us) h = (h.0, behind us h.1)
 
--- the value behind the first of a path's may stand there
+-- the component that follows some components of a path may do so
 pub fit_next : (us : List Value) (w : Value) (ws : List Value) → AllFit true (us ++ w ∷ ws)
     → Fits (starts us) w
 fit_next [] w ws h = h.0
@@ -38,6 +38,7 @@ fit_next (u ∷ us) w ws h = behind us h.1
     behind [] h = h.0
     behind (u ∷ us) h = behind us h.1
 
+-- a list with one more component is not empty
 pub starts-push : (us : List Value) (v : Value) → starts (us ++ v ∷ []) ≡ false
 starts-push [] v = refl
 starts-push (u ∷ us) v = refl
@@ -52,7 +53,8 @@ takes_within {first} {s} {v} h = omega (
   length-drop (length (code v)) s,
 )
 
--- `rest` is what is left of the key behind values that may be a path's, whose text has `len` bytes
+-- `rest` is what is left of the key after components that may be a path's, whose text has `len`
+-- bytes
 pub record ReadsTo (key rest : List ℕ) (first : Bool) (len : ℕ) : Type 0 where
   pub us : List Value
   pub fit : AllFit true us
@@ -61,6 +63,7 @@ pub record ReadsTo (key rest : List ℕ) (first : Bool) (len : ℕ) : Type 0 whe
   pub len_is : len ≡ length (text_of us)
   pub small : len + 2 * length rest ≤ 2 * length key
 
+-- before the first code, all of the key is left
 unfoldable pub reads_none : (key : List ℕ) → ReadsTo key key true 0
 reads_none key = record {
   us = [];
@@ -104,7 +107,7 @@ reads_one {key} {rest} {more} {first} {len} {n} {v} h k e count = record {
   );
 }
 
--- if something is left with no code in front, no path has the key
+-- if something is left that begins with no code, no path has the key
 pub reads_no_key : {key rest : List ℕ} {first : Bool} {len : ℕ} → ReadsTo key rest first len
     → HasNoCode first rest → 0 < length rest → IsKey key → ⊥
 reads_no_key {key} {rest} {first} {len} h none some is = by begins.0 begins.1

@@ -1,6 +1,6 @@
--- The bytes of values before others are their spelling and a slash, but for a lone root.
+-- The bytes of components before others are their canonical form and a slash, except a lone root.
 use Rattle.std.proofs.Common.{◌≡◌, ◌<◌, ◌≤◌, ◌-◌, ◌+◌, ◌*◌, ℕ}
-use Rattle.std.proofs.Common.{zero, suc, false, true, List, [], ◌∷◌, ◌++◌}
+use Rattle.std.proofs.Common.{false, true, List, [], ◌∷◌, ◌++◌}
 use Rattle.std.proofs.Common.{length, take, map, refl, sym, ap, ◌∙◌, arith, append_assoc}
 use Rattle.std.proofs.Common.{length-append, append-nil, ap₂, subst}
 use Rattle.std.proofs.lemmas.List.{take_at, length-map}
@@ -10,19 +10,21 @@ use Rattle.path_runs.specs.Spelling.{slashed_bytes, spelling_of}
 use Rattle.path_runs.proofs.lemmas.spelling.SpellLemmas.{spelling_of-nil, spelling_of-root}
 use Rattle.path_runs.proofs.lemmas.spelling.SpellLemmas.{spelling_of-cons}
 use Rattle.path_keys.specs.Keys.{raised, code, key_of}
-use Rattle.path_keys.specs.Runs.{ups}
 use Rattle.path_keys.specs.Codes.{slashed, text_of, Fits, AllFit}
 use Rattle.path_keys.proofs.lemmas.values.KeyLemmas.{key_of-nil, key_of-cons}
 use Rattle.path_keys.proofs.lemmas.reading.NameLemmas.{some_bytes}
 
+-- no components have no text
 pub text_of-nil : text_of [] ≡ []
 unfolding text_of
 text_of-nil = refl
 
+-- the text of one component and more
 pub text_of-cons : (v : Value) (vs : List Value) → text_of (v ∷ vs) ≡ slashed v ++ text_of vs
 unfolding text_of
 text_of-cons v vs = refl
 
+-- the text of components and more
 pub text_of-append : (vs ws : List Value) → text_of (vs ++ ws) ≡ text_of vs ++ text_of ws
 unfolding text_of
 text_of-append vs ws = flat_map-append slashed vs ws
@@ -39,19 +41,21 @@ length-slashed (Normal name) = omega (
   length-map name raised,
 )
 
+-- the text of a component other than the root is its bytes and a slash
 slashed-inner : (v : Value) → (v ≡ RootDir → ⊥) → slashed v ≡ value_bytes v ++ slash ∷ []
 slashed-inner RootDir h = absurd (h refl)
 slashed-inner CurDir h = refl
 slashed-inner ParentDir h = refl
 slashed-inner (Normal name) h = refl
 
+-- a component that may follow others is no root
 no_root : (v : Value) → Fits false v → v ≡ RootDir → ⊥
 no_root RootDir h e = cc
 no_root CurDir h e = cc
 no_root ParentDir h e = cc
 no_root (Normal name) h e = cc
 
--- values of which none is a root, before others, are those with slashes between and behind
+-- the text of components without a root: their bytes with slashes between and after them
 pub text_of-slashed : (v : Value) (vs : List Value) → (v ≡ RootDir → ⊥) → AllFit false vs
     → text_of (v ∷ vs) ≡ slashed_bytes (v ∷ vs) ++ slash ∷ []
 text_of-slashed v [] n h =
@@ -84,13 +88,14 @@ text_longer v vs n l h =
     longer (omega (arith, spelled_some v vs l, ap length e))
     (text_of-slashed v vs n h ∙ ap (λ s. s ++ slash ∷ []) (sym e))
 
+-- a component that may follow others has a byte
 value_some : (v : Value) → Fits false v → 0 < length (value_bytes v)
 value_some RootDir h = absurd (cc)
 value_some CurDir h = absurd (cc)
 value_some ParentDir h = omega arith
 value_some (Normal name) h = some_bytes name h.some
 
--- the text of a root, and of values behind it
+-- the text of a root, and of components after it
 text_rooted : (vs : List Value) → AllFit false vs
     → IsText (text_of (RootDir ∷ vs)) (spelling_of (RootDir ∷ vs))
 text_rooted [] h =
@@ -104,6 +109,7 @@ text_rooted (v ∷ vs) h =
     ∙ ap (λ t. slash ∷ t) (text_of-slashed v vs (no_root v h.0) h.1)
     ∙ ap (λ s. s ++ slash ∷ []) (sym e))
 
+-- the text of components is their canonical form, or one slash longer
 pub text_is : (vs : List Value) → AllFit true vs → IsText (text_of vs) (spelling_of vs)
 text_is [] h = lone (omega (arith, ap length text_of-nil)) (text_of-nil ∙ sym spelling_of-nil)
 text_is (RootDir ∷ vs) h = text_rooted vs h.1
@@ -131,22 +137,3 @@ pub text_of-spelled : (vs : List Value) → AllFit true vs → (text : List ℕ)
     × (length text ≤ 1 → text ≡ spelling_of vs)
 text_of-spelled vs h text e =
     trimmed_text (subst (λ t. IsText t (spelling_of vs)) (sym e) (text_is vs h))
-
--- how many bytes some `..` have in a key, and in a path before others
-pub ups_key_len : (n : ℕ) → length (key_of (ups n)) ≡ 2 * n
-ups_key_len zero = ap length key_of-nil
-ups_key_len (suc n) = omega (
-  arith,
-  ap length (key_of-cons ParentDir (ups n)),
-  length-append (code ParentDir) (key_of (ups n)),
-  ups_key_len n,
-)
-
-pub ups_text_len : (n : ℕ) → length (text_of (ups n)) ≡ 3 * n
-ups_text_len zero = ap length text_of-nil
-ups_text_len (suc n) = omega (
-  arith,
-  ap length (text_of-cons ParentDir (ups n)),
-  length-append (slashed ParentDir) (text_of (ups n)),
-  ups_text_len n,
-)

@@ -2,35 +2,29 @@
 use Rattle.std.proofs.Common.{◌≡◌, ◌≤◌, ◌+◌, ◌-◌, ℕ, List, [], ◌∷◌, ◌++◌}
 use Rattle.std.proofs.Common.{length, take, drop, refl, sym, ap, ap₂, ◌∙◌, arith, subst, ◌<◌}
 use Rattle.std.proofs.Common.{length-append, length-take-le, take_all, append_assoc, append-nil}
-use Rattle.std.proofs.Common.{◌*◌, zero, suc}
-use Rattle.std.proofs.Common.{⊎_elim, map, length-drop}
+use Rattle.std.proofs.Common.{⊎_elim, map}
 use Rattle.std.proofs.lemmas.Bool.{cases_lt}
-use Rattle.std.proofs.lemmas.List.{length-map, take_at, take_rest, take-take, take-append-le}
+use Rattle.std.proofs.lemmas.List.{take_at, take-take, take-append-le}
 use Rattle.std.proofs.lemmas.List.{drop-take, drop_all}
 use Rattle.std.proofs.Math.Seq.{take-append-add}
 use Rattle.unix_path.specs.Parts.{Value, slash, values}
 use Rattle.path_runs.specs.Overlay.{overlay}
 use Rattle.path_runs.specs.Spelling.{spelling_of}
-use Rattle.std.specs.Borrow.{Bor}
-use Rattle.path_keys.specs.Keys.{code, key_of}
+use Rattle.path_keys.specs.Keys.{key_of}
 use Rattle.path_keys.specs.Codes.{text_of, HasPath, IsRead, ReadsAs}
-use Rattle.path_keys.specs.Runs.{decoded, lead_text, run_code, run_text, BeginsLead}
-use Rattle.path_keys.specs.Runs.{ups, BeginsUps, HoldsNone, LeavesText, TakesRun}
+use Rattle.path_keys.specs.NameBytes.{decoded}
+use Rattle.path_keys.specs.Runs.{lead_text, run_code, run_text, BeginsLead, HoldsNone}
+use Rattle.path_keys.specs.Runs.{LeavesText, TakesRun}
 use Rattle.path_keys.specs.declared.runs.Lead.{Lead}
 use Rattle.path_keys.specs.declared.runs.Run.{Run}
-use Rattle.path_keys.specs.declared.runs.Run.TheVariants.{Up, Names}
+use Rattle.path_keys.specs.declared.runs.Run.TheVariants.{Names}
+use Rattle.path_keys.specs.declared.runs.Run.TheVariants as run_variants
 use Rattle.path_keys.proofs.lemmas.reading.FitLemmas.{values-fit}
-use Rattle.path_keys.proofs.lemmas.values.CodeLemmas.{code-length}
-use Rattle.path_keys.proofs.lemmas.values.KeyLemmas.{key_of-cons}
-use Rattle.path_keys.proofs.lemmas.spelling.NamesLeftLemmas.{names_left}
 use Rattle.path_keys.proofs.lemmas.reading.KeyReadLemmas.{spelled_read}
 use Rattle.path_keys.proofs.lemmas.spelling.SpellLemmas.{SpellsOn, spells_lead, spells_room}
 use Rattle.path_keys.proofs.lemmas.spelling.SpellLemmas.{spells_one, spells_all}
 use Rattle.path_keys.proofs.lemmas.spelling.SpellLemmas.{spells_long}
-use Rattle.path_keys.proofs.lemmas.reading.TextLemmas.{IsText, lone, longer, text_is, text_of-nil}
-use Rattle.path_keys.proofs.lemmas.reading.TextLemmas.{ups_key_len}
-use Rattle.path_keys.proofs.lemmas.reading.TextLemmas.{ups_text_len}
-use Rattle.path_keys.proofs.lemmas.spelling.UpRunLemmas.{ups_put_none, ups_run}
+use Rattle.path_keys.proofs.lemmas.reading.TextLemmas.{IsText, lone, longer, text_is}
 
 -- bytes that are put in a buffer of which a beginning is kept are put in that, as far as they go
 overlay-take : (at m : ℕ) (bytes old : List ℕ) → at + m ≤ length old
@@ -154,14 +148,15 @@ cut_leaves {key} {rest} {old} {out} {at} h =
       },
     )
 
--- there is room for the text of the next run, but for a last slash
+-- there is room for the text of the next run, except a last slash
 pub cut_room : {key rest old out : List ℕ} {at : ℕ} {run : Run}
     → SpellsCut key rest old at out → TakesRun rest run
     → at + length (run_text run) ≤ length old + 1
 cut_room h k = omega (arith, h.few, spells_room h.spells k)
 
+-- a run has a byte in a path
 text_some : (run : Run) → 0 < length (run_text run)
-text_some (Up n) = omega (arith, ups_text_len (n + 1))
+text_some run_variants.ParentDir = omega arith
 text_some (Names bytes) = omega (arith, length-append (map decoded bytes.now) (slash ∷ []))
 
 -- the text of one more run is written, as far as there is room
@@ -187,50 +182,6 @@ cut_one {key} {rest} {old} {out} {more} {new} {at} {end} {run} h k e is_put ends
           ∙ ap (λ k. take k (overlay at (run_text run) h.wide_out)) whole;
     }
 
--- each `..` that stands first is written, as far as there is room, and there is that
-pub cut_ups_room : {key rest old out : List ℕ} {at : ℕ} (n : ℕ) → SpellsCut key rest old at out
-    → BeginsUps rest n → at + 3 * n ≤ length old + 1
-cut_ups_room zero h up = omega (arith, (cut_leaves h).0)
-cut_ups_room {key} {rest} {old} {out} {at} (suc n) h up =
-    let one : suc n ≡ n + 1 = omega arith in
-    omega (
-      arith,
-      cut_room h (ups_run rest n (subst (BeginsUps rest) one up)),
-      ups_text_len (n + 1),
-    )
-
-cut_ups : {key rest old out more new : List ℕ} {at end : ℕ} (n : ℕ)
-    → SpellsCut key rest old at out → BeginsUps rest n → more ≡ drop (2 * n) rest
-    → new ≡ overlay at (take (length old - at) (text_of (ups n))) out
-    → end ≡ at + 3 * n → SpellsCut key more old end new
-cut_ups {key} {rest} {old} {out} {more} {new} {at} {end} zero h up e is_put ends =
-    subst (λ r. SpellsCut key r old end new) (sym e)
-    (subst (λ o. SpellsCut key rest old end o) (nothing ∙ sym is_put)
-    (subst (λ k. SpellsCut key rest old k out) {x = at} {y = end} (omega (arith, ends)) h))
-  where
-    nothing : out ≡ overlay at (take (length old - at) (text_of (ups 0))) out
-    nothing = ups_put_none at out ∙ ap (λ t. overlay at t out) (text_of-nil
-        ∙ sym (take_all (length old - at) [] (omega arith))
-        ∙ ap (take (length old - at)) (sym text_of-nil))
-cut_ups {key} {rest} {old} {out} {more} {new} {at} {end} (suc n) h up e is_put ends =
-    let one : suc n ≡ n + 1 = omega arith in
-    cut_one h (ups_run rest n (subst (BeginsUps rest) one up))
-    (e ∙ ap (λ k. drop k rest) {x = 2 * suc n} {y = length (key_of (ups (n + 1)))}
-    (omega (arith, ups_key_len (n + 1))))
-    (is_put ∙ ap (λ k. overlay at (take (length old - at) (text_of (ups k))) out) one)
-    (omega (arith, ends, ups_text_len (n + 1)))
-
--- the lead and each `..` behind it are written, as far as there is room
-pub cut_started : {key rest old out new : List ℕ} {lead : Lead} {at : ℕ} (n : ℕ)
-    → HasPath key (length old) → BeginsLead key rest lead
-    → out ≡ overlay 0 (take (length old) (lead_text lead)) old → length out ≡ length old
-    → at ≡ length (lead_text lead) → BeginsUps rest n
-    → new ≡ overlay at (take (length out - at) (text_of (ups n))) out
-    → SpellsCut key (take (length rest - 2 * n) (drop (2 * n) rest)) old (at + 3 * n) new
-cut_started {key} {rest} {old} {out} {new} {lead} {at} n p begins is_put same ends up puts =
-    cut_ups n (cut_lead p begins is_put ends) up (take_rest rest (2 * n))
-    (puts ∙ ap (λ k. overlay at (take (k - at) (text_of (ups n))) out) same) refl
-
 -- if no run is left, the path is written
 pub cut_all : {key rest old out : List ℕ} {at : ℕ}
     → SpellsCut key rest old at out → HoldsNone rest → HasPath key (length old)
@@ -255,41 +206,3 @@ cut_all {key} {rest} {old} {out} {at} h none p = subst (IsRead key) (sym is)
 
     is : out ≡ spelling_of vs
     is = text ∙ by (text_is vs (values-fit p.path))
-
--- nothing is the key of no values
-pub nothing_none : (s : List ℕ) → length s ≤ 0 → HoldsNone s
-nothing_none s l v vs fit e = omega (
-  arith,
-  l,
-  ap length e,
-  ap length (key_of-cons v vs),
-  length-append (code v) (key_of vs),
-  code-length v,
-)
-
--- if what is left has as many bytes as there is room for its text, and these are put there as
--- names, the path is written
-pub cut_names : {key rest old out new : List ℕ} {at : ℕ} (b : Bor (List ℕ))
-    → SpellsCut key rest old at out → length rest ≡ length old + 1 - at → 0 < length rest
-    → new ≡ overlay at (map decoded (take (length old - at) rest)) out
-    → HasPath key (length old) → IsRead key new
-cut_names {key} {rest} {old} {out} {new} {at} b h long some is_put p =
-    let n = length old - at in
-    let leaves = cut_leaves h in
-    let names = take n rest in
-    let bytes : Bor (List ℕ) = record b { now = names } in
-    let less : n ≡ length rest - 1 = omega (arith, long, leaves.0) in
-    let run = names_left bytes rest (length old + 1 - at) leaves.1 long some
-    (ap (λ k. take k rest) less) in
-    let size : length names ≡ n = length-take-le n rest (omega (arith, less)) in
-    let text : take n (map decoded names ++ slash ∷ []) ≡ map decoded names =
-    take_at (map decoded names) (slash ∷ []) n (length-map names decoded ∙ size) in
-    cut_all (cut_one h run refl (is_put ∙ ap (λ t. overlay at t out) (sym text)) refl)
-    (nothing_none _ (omega (
-      arith,
-      length-drop (length (names ++ 0 ∷ [])) rest,
-      length-append names (0 ∷ []),
-      size,
-      less,
-      some,
-    ))) p

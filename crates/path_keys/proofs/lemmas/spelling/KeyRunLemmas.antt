@@ -17,27 +17,33 @@ use Rattle.unix_path.specs.Parts.{value_bytes}
 use Rattle.path_runs.proofs.lemmas.spelling.PieceValueLemmas.{inner_values-pieces}
 use Rattle.path_keys.specs.Keys.{key_of, raised}
 use Rattle.path_keys.specs.Codes.{text_of, AllFit, IsName}
-use Rattle.path_keys.specs.Runs.{decoded, TakesRun}
+use Rattle.path_keys.specs.NameBytes.{coded, decoded}
+use Rattle.path_keys.specs.Runs.{TakesRun}
 use Rattle.path_keys.specs.declared.runs.Run.TheVariants.{Names}
-use Rattle.unix_path.specs.Stops.{is_stop_of, none_begins, FirstStopOf}
-use Rattle.path_keys.specs.Stretches.{coded, is_stop}
-use Rattle.unix_path.proofs.lemmas.stops.StopLemmas.{no_name, no_name-same, none_begins-take}
-use Rattle.unix_path.proofs.lemmas.stops.StopLemmas.{stop_end}
-use Rattle.unix_path.proofs.lemmas.stops.StopLemmas.{stop_mark, unstopped_to}
+use Rattle.unix_path.specs.NameRunEnds.{ends_name_run_of, no_name_starts_at, IsNameRunEnd}
+use Rattle.path_keys.specs.Stretches.{ends_name_run}
+use Rattle.unix_path.proofs.lemmas.name_run_ends.NameRunEndLemmas.{no_name, no_name-same}
+use Rattle.unix_path.proofs.lemmas.name_run_ends.NameRunEndLemmas.{no_name_starts_at-take}
+use Rattle.unix_path.proofs.lemmas.name_run_ends.NameRunEndLemmas.{separator_or_no_byte}
+use Rattle.unix_path.proofs.lemmas.name_run_ends.NameRunEndLemmas.{separator_at_end, no_end_before}
 use Rattle.path_keys.proofs.lemmas.writing.StretchLemmas.{all_pieces_names, names_of-names}
 use Rattle.path_keys.proofs.lemmas.writing.StretchLemmas.{some_piece}
 use Rattle.path_keys.proofs.lemmas.writing.StretchLemmas.{stretch_key}
 use Rattle.path_keys.proofs.lemmas.reading.TextLemmas.{text_of-slashed}
 
+-- a byte of a key is read back to itself
 coded-decoded : (b : ℕ) → coded (decoded b) ≡ b
 coded-decoded b = grind (arith, nat_tests)
 
+-- a byte is a slash in the path if and only if it is an end mark in the key
 decoded-slash : (b : ℕ) → eqb (decoded b) 47 ≡ eqb b 0
 decoded-slash b = grind (arith, nat_tests)
 
+-- a byte is a dot in the path if and only if it is a slash in the key
 decoded-dot : (b : ℕ) → eqb (decoded b) 46 ≡ eqb b 47
 decoded-dot b = grind (arith, nat_tests)
 
+-- bytes of a key are read back to themselves
 map-coded-decoded : (t : List ℕ) → map coded (map decoded t) ≡ t
 map-coded-decoded [] = refl
 map-coded-decoded (b ∷ t) = ap₂ (λ c s. c ∷ s) (coded-decoded b) (map-coded-decoded t)
@@ -52,9 +58,9 @@ decoded_at t k = ⊎_elim
     (cases_lt k (length t))
 
 -- names begin in the path where they do in the key
-none_begins-decoded : (t : List ℕ) (i : ℕ)
-    → none_begins 47 46 (map decoded t) i ≡ none_begins 0 47 t i
-none_begins-decoded t i =
+no_name_starts_at-decoded : (t : List ℕ) (i : ℕ)
+    → no_name_starts_at 47 46 (map decoded t) i ≡ no_name_starts_at 0 47 t i
+no_name_starts_at-decoded t i =
     no_name-same 47 46 (decoded_at t i) (decoded_at t (i + 1)) (decoded_at t (i + 2))
     ∙ by (get_or t i 0) (get_or t (i + 1) 0) (get_or t (i + 2) 0)
   where
@@ -65,27 +71,30 @@ none_begins-decoded t i =
         (ap₂ (λ x y. x && y) (decoded-dot b) (decoded-slash c))))
 
 -- a stop is in the path where it is in the key
-is_stop-decoded : (t : List ℕ) (i : ℕ) → i < length t
-    → is_stop (map decoded t) i ≡ is_stop_of 0 47 t i
-is_stop-decoded t i l =
+ends_name_run-decoded : (t : List ℕ) (i : ℕ) → i < length t
+    → ends_name_run (map decoded t) i ≡ ends_name_run_of 0 47 t i
+ends_name_run-decoded t i l =
     ap₂ (λ x y. x && y) (ap (λ x. eqb x 47) (get_or-map decoded t i 0 0 l)
-    ∙ decoded-slash (get_or t i 0)) (none_begins-decoded t (i + 1))
+    ∙ decoded-slash (get_or t i 0)) (no_name_starts_at-decoded t (i + 1))
 
+-- the byte of a name is read back from a key
 decoded-raised : (b : ℕ) → is_slash b ≡ false → decoded (raised b) ≡ b
 decoded-raised b h = grind (arith, nat_tests)
 
+-- the bytes of a name are read back from a key
 pub map-decoded-raised : (p : List ℕ) → AllByRecursion (λ b. is_slash b ≡ false) p
     → map decoded (map raised p) ≡ p
 map-decoded-raised [] h = refl
 map-decoded-raised (b ∷ p) h =
     ap₂ (λ c s. c ∷ s) (decoded-raised b h.0) (map-decoded-raised p h.1)
 
--- names may stand behind others, or first
+-- names may follow others, or be first
 pub names_fit : (first : Bool) (ps : List (List ℕ)) → AllByRecursion IsName ps
     → AllFit first (map Normal ps)
 names_fit first [] h = tt
 names_fit first (p ∷ ps) h = (h.0, names_fit false ps h.1)
 
+-- the bytes of names as components are the names
 value_bytes-names : (ps : List (List ℕ)) → map value_bytes (map Normal ps) ≡ ps
 value_bytes-names [] = refl
 value_bytes-names (p ∷ ps) = ap (λ qs. p ∷ qs) (value_bytes-names ps)
@@ -98,19 +107,20 @@ text_of-names p ps h =
     ∙ ap (λ qs. join_with_byte slash qs ++ slash ∷ []) (value_bytes-names (p ∷ ps))
 
 -- bytes at which a name begins hold names up to the first stop
-pub names_run : (names : Bor (List ℕ)) (s : List ℕ) (n : ℕ) → none_begins 0 47 s 0 ≡ false
-    → FirstStopOf 0 47 s n → n < length s → names.now ≡ take n s → TakesRun s (Names names)
+pub names_run : (names : Bor (List ℕ)) (s : List ℕ) (n : ℕ) → no_name_starts_at 0 47 s 0 ≡ false
+    → IsNameRunEnd 0 47 s n → n < length s → names.now ≡ take n s → TakesRun s (Names names)
 names_run names s n e h l is =
     let t = take n s in
     let d = map decoded t in
     let pieces = slice_split is_slash d in
     let size : length t ≡ n = length-take-le n s (omega arith) in
-    let begins : none_begins 47 46 d 0 ≡ false =
-    none_begins-decoded t 0
-    ∙ none_begins-take 0 47 s n 0 h.in_range (stop_end 0 47 s n h) (omega arith) ∙ e in
-    let unstopped : (i : ℕ) → i < length d → is_stop d i ≡ false =
+    let begins : no_name_starts_at 47 46 d 0 ≡ false =
+    no_name_starts_at-decoded t 0
+    ∙ no_name_starts_at-take 0 47 s n 0 h.in_range (separator_or_no_byte 0 47 s n h) (omega arith)
+    ∙ e in
+    let unstopped : (i : ℕ) → i < length d → ends_name_run d i ≡ false =
     λ i few. let low : i < length t = omega (arith, length-map t decoded) in
-    is_stop-decoded t i low ∙ unstopped_to 0 47 s n h i low in
+    ends_name_run-decoded t i low ∙ no_end_before 0 47 s n h i low in
     let hold : AllByRecursion IsName pieces = all_pieces_names d begins unstopped in
     let some = some_piece d in
     let coded_is : t ++ 0 ∷ [] ≡ names.now ++ 0 ∷ [] = ap (λ xs. xs ++ 0 ∷ []) (sym is) in
@@ -126,7 +136,7 @@ names_run names s n e h l is =
           ∙ ap (λ xs. xs ++ slash ∷ []) (join_with_byte-slice_split slash d
           ∙ ap (map decoded) (sym is));
       is = sym (take-append-drop n s) ∙ ap (λ r. t ++ r) (drop_more s n 0 l
-          ∙ ap (λ x. x ∷ drop (n + 1) s) (stop_mark 0 47 s n h l))
+          ∙ ap (λ x. x ∷ drop (n + 1) s) (separator_at_end 0 47 s n h l))
           ∙ sym (append_assoc t (0 ∷ []) (drop (n + 1) s))
           ∙ ap₂ (λ xs k. xs ++ drop k s) coded_is
           (omega (arith, size, ap length is, length-append names.now (0 ∷ [])));

@@ -5,18 +5,18 @@ use Rattle.std.proofs.Common.{subst, arith, append_assoc, length-append, ◌&&�
 use Rattle.std.proofs.lemmas.Bool.{false≢true, true≢false}
 use Rattle.std.proofs.lemmas.Bool.Decides.{nat_tests}
 use Rattle.unix_path.specs.Parts.{is_slash, Value, RootDir, CurDir, ParentDir, Normal}
+use Rattle.unix_path.specs.Prefixes.{IsPrefixOf}
 use Rattle.unix_bytes.proofs.lemmas.lists.ListLemmas.{by_test}
-use Rattle.path_keys.specs.Keys.{key_of, raised}
+use Rattle.path_keys.specs.Keys.{code, key_of, raised}
 use Rattle.path_keys.specs.Codes.{AllFit, IsName}
-use Rattle.path_keys.specs.Runs.{BeginsUps, HoldsNone}
-use Rattle.unix_path.specs.Stops.{is_stop_of, none_begins, FirstStopOf}
+use Rattle.path_keys.specs.Runs.{HoldsNone}
+use Rattle.unix_path.specs.NameRunEnds.{ends_name_run_of, no_name_starts_at, IsNameRunEnd}
 use Rattle.path_keys.proofs.lemmas.values.KeyLemmas.{key_of-nil, key_of-cons}
 use Rattle.path_keys.proofs.lemmas.values.LoweredLemmas.{raised-no_zero}
-use Rattle.unix_path.proofs.lemmas.stops.StopLemmas.{is_stop-append}
-use Rattle.path_keys.proofs.lemmas.spelling.UpRunLemmas.{one_up}
+use Rattle.unix_path.proofs.lemmas.name_run_ends.NameRunEndLemmas.{ends_name_run-append}
 
 -- an end mark before a mark or nothing is a stop
-mark_stops : (r : List ℕ) → get_or r 0 0 ≡ 0 → is_stop_of 0 47 (0 ∷ r) 0 ≡ true
+mark_stops : (r : List ℕ) → get_or r 0 0 ≡ 0 → ends_name_run_of 0 47 (0 ∷ r) 0 ≡ true
 mark_stops [] e = refl
 mark_stops (x ∷ r) e =
     ap (λ y. eqb y 0 || (eqb y 47 && (eqb (get_or r 0 0) 0 || (eqb (get_or r 0 0) 47
@@ -27,22 +27,23 @@ named_key : (q : List ℕ) (vs : List Value)
     → key_of (Normal q ∷ vs) ≡ map raised q ++ (0 ∷ key_of vs)
 named_key q vs = key_of-cons (Normal q) vs ∙ append_assoc (map raised q) (0 ∷ []) (key_of vs)
 
--- a place in the bytes where a stop is
-record Stops (s : List ℕ) : Type 0 where
+-- an index in the bytes at which a stop is
+record NameRunEnds (s : List ℕ) : Type 0 where
   at : ℕ
   in_range : at < length s
-  is : is_stop_of 0 47 s at ≡ true
+  is : ends_name_run_of 0 47 s at ≡ true
 
+-- after a name, an end mark before a mark or nothing is a stop
 stops_here : (q : List ℕ) (vs : List Value) → get_or (key_of vs) 0 0 ≡ 0
-    → Stops (key_of (Normal q ∷ vs))
-stops_here q vs e = subst Stops (sym (named_key q vs)) (record {
+    → NameRunEnds (key_of (Normal q ∷ vs))
+stops_here q vs e = subst NameRunEnds (sym (named_key q vs)) (record {
   at = length (map raised q) + 0;
   in_range = omega (arith, length-append (map raised q) (0 ∷ key_of vs));
-  is = is_stop-append 0 47 (map raised q) (0 ∷ key_of vs) 0 ∙ mark_stops (key_of vs) e;
+  is = ends_name_run-append 0 47 (map raised q) (0 ∷ key_of vs) 0 ∙ mark_stops (key_of vs) e;
 })
 
 -- the key of values of which the first is a name has a stop
-key_stops : (q : List ℕ) (vs : List Value) → AllFit false vs → Stops (key_of (Normal q ∷ vs))
+key_stops : (q : List ℕ) (vs : List Value) → AllFit false vs → NameRunEnds (key_of (Normal q ∷ vs))
 key_stops q [] h = stops_here q [] (ap (λ k. get_or k 0 0) key_of-nil)
 key_stops q (RootDir ∷ vs) h = absurd (let d = h.0 in cc)
 key_stops q (CurDir ∷ vs) h = absurd (let d = h.0 in cc)
@@ -52,18 +53,18 @@ key_stops q (Normal r ∷ vs) h =
     let more = key_stops r vs h.1 in
     let front = map raised q ++ 0 ∷ [] in
     let rest = key_of (Normal r ∷ vs) in
-    subst Stops (sym (key_of-cons (Normal q) (Normal r ∷ vs))) (record {
+    subst NameRunEnds (sym (key_of-cons (Normal q) (Normal r ∷ vs))) (record {
       at = length front + more.at;
       in_range = omega (arith, length-append front rest, more.in_range);
-      is = is_stop-append 0 47 front rest more.at ∙ more.is;
+      is = ends_name_run-append 0 47 front rest more.at ∙ more.is;
     })
 
 -- a byte that is a raised dot was a dot
 raised-dot : (b : ℕ) → is_slash b ≡ false → eqb (raised b) 47 ≡ eqb b 46
 raised-dot b h = grind (arith, nat_tests)
 
--- where a name stands one begins
-name_begins : (q r : List ℕ) → IsName q → none_begins 0 47 (map raised q ++ (0 ∷ r)) 0 ≡ false
+-- where the raised bytes of a name are, a name begins
+name_begins : (q r : List ℕ) → IsName q → no_name_starts_at 0 47 (map raised q ++ (0 ∷ r)) 0 ≡ false
 name_begins [] r h = absurd (let e = h.some in let k : true ≡ false = e in cc)
 name_begins (x ∷ []) r h =
     let s = h.no_slash.0 in
@@ -92,23 +93,24 @@ name_begins (x ∷ y ∷ z ∷ q) r h =
         (λ j. rw j refl))) (λ i. rw i refl))
 
 -- bytes at which a name begins and that have no stop are no key
-pub no_stop_none : (s : List ℕ) → none_begins 0 47 s 0 ≡ false → FirstStopOf 0 47 s (length s)
+pub no_stop_none : (s : List ℕ) → no_name_starts_at 0 47 s 0 ≡ false
+    → IsNameRunEnd 0 47 s (length s)
     → HoldsNone s
 no_stop_none s e h RootDir vs fit is = true≢false (sym fit.0)
 no_stop_none s e h CurDir vs fit is = true≢false (sym fit.0)
 no_stop_none s e h ParentDir vs fit is =
-    true≢false (ap (λ k. none_begins 0 47 k 0) (sym (key_of-cons ParentDir vs) ∙ is) ∙ e)
+    true≢false (ap (λ k. no_name_starts_at 0 47 k 0) (sym (key_of-cons ParentDir vs) ∙ is) ∙ e)
 no_stop_none s e h (Normal q) vs fit is =
-    let stops = subst Stops is (key_stops q vs fit.1) in
-    false≢true (sym (h.none_before stops.at stops.in_range) ∙ stops.is)
+    let name_run_ends = subst NameRunEnds is (key_stops q vs fit.1) in
+    false≢true (sym (h.none_before name_run_ends.at name_run_ends.in_range) ∙ name_run_ends.is)
 
 -- bytes at which neither a name begins nor a `..` are no key
-pub no_name_none : (s : List ℕ) → none_begins 0 47 s 0 ≡ true → (BeginsUps s 1 → ⊥) → HoldsNone s
+pub no_name_none : (s : List ℕ) → no_name_starts_at 0 47 s 0 ≡ true
+    → (IsPrefixOf (code ParentDir) s → ⊥) → HoldsNone s
 no_name_none s e up RootDir vs fit is = true≢false (sym fit.0)
 no_name_none s e up CurDir vs fit is = true≢false (sym fit.0)
 no_name_none s e up ParentDir vs fit is =
-    up (subst (λ k. BeginsUps k 1) (sym (key_of-cons ParentDir vs) ∙ is)
-    (one_up (0 ∷ 3 ∷ key_of vs) (omega arith) refl refl))
+    up (key_of vs, sym (key_of-cons ParentDir vs) ∙ is)
 no_name_none s e up (Normal q) vs fit is =
-    true≢false (sym e ∙ ap (λ k. none_begins 0 47 k 0) (sym is ∙ named_key q vs)
+    true≢false (sym e ∙ ap (λ k. no_name_starts_at 0 47 k 0) (sym is ∙ named_key q vs)
     ∙ name_begins q (key_of vs) fit.0)

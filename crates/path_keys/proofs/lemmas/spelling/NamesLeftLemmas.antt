@@ -1,4 +1,5 @@
--- Keys of values without a `..`: as long as their text, which is each byte of theirs changed.
+-- The key of components without a `..` is as long as their text, which is the key with each byte
+-- changed.
 use Rattle.std.proofs.Common.{◌≡◌, ◌<◌, ◌≤◌, ◌-◌, ℕ, false, List, [], ◌∷◌}
 use Rattle.std.proofs.Common.{◌++◌, length, take, map, refl, sym, ap, ap₂, ◌∙◌}
 use Rattle.std.proofs.Common.{subst, arith, append_assoc, append-nil, length-append}
@@ -9,13 +10,14 @@ use Rattle.std.specs.List.{AllByRecursion}
 use Rattle.unix_path.specs.Parts.{slash, Value, RootDir, CurDir, ParentDir, Normal}
 use Rattle.path_keys.specs.Keys.{code, key_of, raised}
 use Rattle.path_keys.specs.Codes.{slashed, text_of, AllFit, Fits, IsName}
-use Rattle.path_keys.specs.Runs.{decoded, LeavesText, TakesRun}
+use Rattle.path_keys.specs.NameBytes.{decoded}
+use Rattle.path_keys.specs.Runs.{LeavesText, TakesRun}
 use Rattle.path_keys.specs.declared.runs.Run.TheVariants.{Names}
 use Rattle.path_keys.proofs.lemmas.values.KeyLemmas.{key_of-nil, key_of-cons}
 use Rattle.path_keys.proofs.lemmas.spelling.KeyRunLemmas.{map-decoded-raised, names_fit}
 use Rattle.path_keys.proofs.lemmas.reading.TextLemmas.{text_of-nil, text_of-cons}
 
--- a value behind others has no fewer bytes in a path than in a key
+-- a component after others has no fewer bytes in a path than in a key
 code_shorter : (v : Value) → (v ≡ RootDir → ⊥) → length (code v) ≤ length (slashed v)
 code_shorter RootDir h = absurd (h refl)
 code_shorter CurDir h = omega arith
@@ -27,6 +29,7 @@ code_shorter (Normal name) h = omega (
   length-map name raised,
 )
 
+-- components after others have no fewer bytes in a path than in a key
 key_shorter : (ws : List Value) → AllFit false ws → length (key_of ws) ≤ length (text_of ws)
 key_shorter [] h = omega (arith, ap length key_of-nil)
 key_shorter (w ∷ ws) h = omega (
@@ -39,13 +42,13 @@ key_shorter (w ∷ ws) h = omega (
   length-append (slashed w) (text_of ws),
 )
 
--- values that are these names alone
+-- components that are these names
 record AreNames (ws : List Value) : Type 0 where
   names : List (List ℕ)
   is : ws ≡ map Normal names
   hold : AllByRecursion IsName names
 
--- values behind others whose text is no longer than their key are names
+-- components after others whose text is no longer than their key are names
 are_names : (ws : List Value) → AllFit false ws → length (text_of ws) ≤ length (key_of ws)
     → AreNames ws
 are_names [] h l = record { names = []; is = refl; hold = tt }
@@ -74,7 +77,7 @@ are_names (Normal name ∷ ws) h l =
       hold = (h.0, more.hold);
     }
 
--- the text of names is their key, each byte changed alone
+-- the text of names is their key with each byte changed
 text_of-key : (ps : List (List ℕ)) → AllByRecursion IsName ps
     → text_of (map Normal ps) ≡ map decoded (key_of (map Normal ps))
 text_of-key [] h = text_of-nil ∙ ap (map decoded) (sym key_of-nil)
@@ -92,6 +95,7 @@ record EndsInMark (key : List ℕ) : Type 0 where
   front : List ℕ
   is : key ≡ front ++ 0 ∷ []
 
+-- the key of a name and more names ends in an end mark
 ends_in_mark : (p : List ℕ) (ps : List (List ℕ)) → EndsInMark (key_of (map Normal (p ∷ ps)))
 ends_in_mark p [] = record {
   front = map raised p;

@@ -1,30 +1,27 @@
 -- A key that is read run by run.
 use Rattle.std.proofs.Common.{◌≡◌, ◌<◌, ◌≤◌, ◌+◌, ◌*◌, ℕ, true, false, List, [], ◌∷◌, ◌++◌}
-use Rattle.std.proofs.Common.{length, drop, refl, sym, ap, ◌∙◌, arith, subst, append_assoc}
+use Rattle.std.proofs.Common.{length, drop, map, refl, sym, ap, ◌∙◌, arith, subst, append_assoc}
 use Rattle.std.proofs.Common.{length-append, length-drop}
-use Rattle.std.proofs.Common.{map, take, ◌-◌, append-nil}
-use Rattle.std.specs.Borrow.{Bor}
-use Rattle.std.proofs.lemmas.List.{append_cancel_left, drop_all, length-map, length-take-le}
+use Rattle.std.proofs.lemmas.List.{append_cancel_left, length-map}
 use Rattle.unix_path.specs.Parts.{Value, values}
 use Rattle.unix_path.specs.Parts.{slash}
 use Rattle.path_keys.specs.Keys.{code, key_of, IsKey}
-use Rattle.path_keys.specs.Codes.{slashed, text_of, AllFit, ReadsAs}
-use Rattle.path_keys.specs.Runs.{decoded, lead_text, run_code, run_text}
-use Rattle.path_keys.specs.Runs.{AreNames, BeginsLead, HoldsNone, TakesRun}
+use Rattle.path_keys.specs.Codes.{slashed, text_of, AllFit}
+use Rattle.path_keys.specs.NameBytes.{decoded}
+use Rattle.path_keys.specs.Runs.{lead_text, run_code, run_text, BeginsLead, HoldsNone, TakesRun}
 use Rattle.path_keys.specs.declared.runs.Run.{Run}
 use Rattle.path_keys.specs.declared.runs.Lead.{Lead}
-use Rattle.path_keys.specs.declared.runs.Run.TheVariants.{Up, Names}
+use Rattle.path_keys.specs.declared.runs.Run.TheVariants.{Names}
+use Rattle.path_keys.specs.declared.runs.Run.TheVariants as run_variants
 use Rattle.path_keys.proofs.lemmas.values.CodeLemmas.{code-length, values-coded}
 use Rattle.path_keys.proofs.lemmas.reading.FitLemmas.{AllFit-coded, AllFit-first, values-fit}
 use Rattle.path_keys.proofs.lemmas.values.KeyLemmas.{key_of-nil, key_of-cons, key_of-append}
 use Rattle.path_keys.proofs.lemmas.values.OrderLemmas.{key_of-begins}
-use Rattle.path_keys.proofs.lemmas.spelling.KeyRunLemmas.{names_run}
 use Rattle.path_keys.proofs.lemmas.reading.ReadLemmas.{starts}
 use Rattle.path_keys.proofs.lemmas.reading.TextLemmas.{text_of-nil, text_of-cons, text_of-append}
 use Rattle.path_keys.proofs.lemmas.reading.TextLemmas.{length-slashed}
-use Rattle.path_keys.proofs.lemmas.reading.TextLemmas.{ups_key_len, ups_text_len}
 
--- values that may be all of a path's, and more that may stand behind others
+-- components that may be all of a path, and more that may follow others
 pub fit_all : (us vs : List Value) → AllFit true us → AllFit false vs → AllFit true (us ++ vs)
 fit_all [] vs h k = AllFit-first vs k
 fit_all (u ∷ us) vs h k = (h.0, behind us h.1)
@@ -33,7 +30,7 @@ fit_all (u ∷ us) vs h k = (h.0, behind us h.1)
     behind [] h = k
     behind (u ∷ us) h = (h.0, behind us h.1)
 
--- the values behind the first of a path's may stand there
+-- the components after some components of a path may follow them
 pub fit_rest : (us ws : List Value) → AllFit true (us ++ ws) → AllFit (starts us) ws
 fit_rest [] ws h = h
 fit_rest (u ∷ us) ws h = behind us h.1
@@ -42,23 +39,16 @@ fit_rest (u ∷ us) ws h = behind us h.1
     behind [] h = h
     behind (u ∷ us) h = behind us h.1
 
+-- a list with more components is not empty
 pub starts-more : (us vs : List Value) → 0 < length vs → starts (us ++ vs) ≡ false
 starts-more [] [] l = absurd (omega arith)
 starts-more [] (v ∷ vs) l = refl
 starts-more (u ∷ us) vs l = refl
 
--- how many bytes a run of `..` has in a key, and in a path
-pub up_code_len : {run : Run} {n : ℕ} → run ≡ Up n → length (run_code run) ≡ 2 * n + 2
-up_code_len {run} {n} e = omega (arith, ap (λ r. length (run_code r)) e, ups_key_len (n + 1))
-
-pub up_text_len : {run : Run} {n : ℕ} → run ≡ Up n → length (run_text run) ≡ 3 * n + 3
-up_text_len {run} {n} e = omega (arith, ap (λ r. length (run_text r)) e, ups_text_len (n + 1))
-
 -- a run has a byte, and at most twice as many in a path
 pub run_small : (run : Run)
     → (0 < length (run_code run)) × (length (run_text run) ≤ 2 * length (run_code run))
-run_small (Up n) =
-    (omega (arith, ups_key_len (n + 1)), omega (arith, ups_key_len (n + 1), ups_text_len (n + 1)))
+run_small run_variants.ParentDir = (omega arith, omega arith)
 run_small (Names bytes) =
     let code = length-append bytes.now (0 ∷ []) in
     let text = length-append (map decoded bytes.now) (slash ∷ []) in
@@ -66,7 +56,7 @@ run_small (Names bytes) =
 
 -- a run has at most a byte more in a key than in a path
 pub code_small : (run : Run) → length (run_code run) ≤ length (run_text run) + 1
-code_small (Up n) = omega (arith, ups_key_len (n + 1), ups_text_len (n + 1))
+code_small run_variants.ParentDir = omega arith
 code_small (Names bytes) = omega (
   arith,
   length-append bytes.now (0 ∷ []),
@@ -98,8 +88,8 @@ text_short (v ∷ vs) = omega (
   length-append (code v) (key_of vs),
 )
 
--- `rest` is what is left of the key behind values that may be a path's, whose text has `len` bytes;
--- in a path's key it is that of values behind the first
+-- `rest` is what is left of the key after components that may be a path's, whose text has `len`
+-- bytes; in a path's key it is the key of components that may follow others
 pub record ReadsRuns (key rest : List ℕ) (len : ℕ) : Type 0 where
   pub us : List Value
   pub fit : AllFit true us
@@ -179,34 +169,3 @@ reads_no_run {key} {rest} {len} h none some is = by begins.0 begins.1
     by (w ∷ ws) e = none w ws
         (h.inner (w ∷ ws) (subst (AllFit true) (sym e) (values-fit is.0)) (left (w ∷ ws) e))
         (left (w ∷ ws) e)
-
--- a key that is a lead and names is read
-pub reads_names : {key rest : List ℕ} {lead : Lead} {n k : ℕ} (b : Bor (List ℕ))
-    → BeginsLead key rest lead → k ≡ length (lead_text lead) → AreNames rest
-    → n ≡ k + length rest → ReadsAs key n
-reads_names {key} {rest} {lead} {n} {k} b h begins names count =
-    let bytes : Bor (List ℕ) = record b { now = take (length rest - 1) rest } in
-    let size : length bytes.now ≡ length rest - 1 =
-    length-take-le (length rest - 1) rest (omega arith) in
-    let code : length (run_code (Names bytes)) ≡ length rest =
-    omega (arith, size, names.some, length-append bytes.now (0 ∷ [])) in
-    let text : length (run_text (Names bytes)) ≡ length rest =
-    omega (
-      arith,
-      size,
-      names.some,
-      length-append (map decoded bytes.now) (slash ∷ []),
-      length-map bytes.now decoded,
-    ) in
-    let run = names_run bytes rest (length rest - 1) names.begins names.stop
-    (omega (arith, names.some)) refl in
-    let all = reads_run (reads_lead h begins) run refl refl in
-    let none : drop (length (run_code (Names bytes))) rest ≡ [] =
-    drop_all (length (run_code (Names bytes))) rest (omega (arith, code)) in
-    record {
-      vs = all.us;
-      fit = all.fit;
-      key_is = sym (append-nil (key_of all.us)) ∙ ap (λ m. key_of all.us ++ m) (sym none)
-          ∙ all.whole;
-      len_is = omega (arith, count, text, all.len_is);
-    }

@@ -61,7 +61,7 @@ spells_lead {key} {rest} {old} {out} {lead} {at} h k is_put ends = by begins.0 b
               (omega (arith, ends));
         }
 
--- values behind some that stand behind others stand behind others
+-- of components that may follow others, the later ones may too
 fit_later : (vs ws : List Value) → AllFit false (vs ++ ws) → AllFit false ws
 fit_later [] ws h = h
 fit_later (v ∷ vs) ws h = fit_later vs ws h.1
@@ -72,6 +72,7 @@ record NextIs (rest : List ℕ) (ws vs : List Value) (run : Run) : Type 0 where
   is : ws ≡ vs ++ more
   left : drop (length (run_code run)) rest ≡ key_of more
 
+-- the components that are left begin with those of the next run
 next_is : {rest : List ℕ} {run : Run} (ws : List Value) → AllFit false ws
     → rest ≡ key_of ws → (k : TakesRun rest run) → NextIs rest ws k.vs run
 next_is {rest} {run} ws h e k =

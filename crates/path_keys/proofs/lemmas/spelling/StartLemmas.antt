@@ -16,12 +16,15 @@ two_first [] m l e f = absurd (omega arith)
 two_first (b ∷ []) m l e f = absurd (omega arith)
 two_first (b ∷ c ∷ s) m l e f = sym (ap₂ (λ b c. b ∷ c ∷ s) e f)
 
+-- the key of one component
 alone_key : (v : Value) → key_of (v ∷ []) ≡ code v
 alone_key v = key_of-cons v [] ∙ ap (λ k. code v ++ k) key_of-nil ∙ append-nil (code v)
 
+-- the text of one component
 alone_text : (v : Value) → text_of (v ∷ []) ≡ slashed v
 alone_text v = text_of-cons v [] ∙ ap (λ k. slashed v ++ k) text_of-nil ∙ append-nil (slashed v)
 
+-- a key that begins with 00 01 begins with a root
 pub root_lead : (s : List ℕ) → 2 ≤ length s → get_or s 0 0 ≡ 0 → get_or s 1 0 ≡ 1
     → BeginsLead s (drop 2 s) Root
 root_lead s l e f = record {
@@ -32,6 +35,7 @@ root_lead s l e f = record {
   inner = λ ws fit _. fit.1;
 }
 
+-- a key that begins with 00 02 begins with a leading `.`
 pub dot_lead : (s : List ℕ) → 2 ≤ length s → get_or s 0 0 ≡ 0 → get_or s 1 0 ≡ 2
     → BeginsLead s (drop 2 s) Dot
 dot_lead s l e f = record {
@@ -42,6 +46,7 @@ dot_lead s l e f = record {
   inner = λ ws fit _. fit.1;
 }
 
+-- a key that begins with neither has no lead
 pub no_lead : (s : List ℕ) → ((r : List ℕ) → 0 ∷ 1 ∷ r ≡ s → ⊥)
     → ((r : List ℕ) → 0 ∷ 2 ∷ r ≡ s → ⊥) → BeginsLead s s Absent
 no_lead s root dot = record {

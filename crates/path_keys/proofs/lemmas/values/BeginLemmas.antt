@@ -3,11 +3,11 @@ use Rattle.std.proofs.Common.{◌≡◌, ℕ, Bool, eqb, List, length, drop, sym
 use Rattle.std.proofs.lemmas.Bool.Decides.{Decides-eqb}
 use Rattle.std.proofs.lemmas.Slice.Eq.{starts_is}
 use Rattle.std.specs.List.{starts_with}
-use Rattle.unix_path.specs.Prefixes.{Begins}
+use Rattle.unix_path.specs.Prefixes.{IsPrefixOf}
 
--- the test tells whether the base begins the key
+-- the test is true if and only if the base is a prefix of the key
 pub begins_told : (key base : List ℕ) (b : Bool) → b ≡ starts_with eqb key base
-    → (IsTrue b → Begins base key) × (Begins base key → IsTrue b)
+    → (IsTrue b → IsPrefixOf base key) × (IsPrefixOf base key → IsTrue b)
 begins_told key base b e =
     let (to, from) = starts_is Decides-eqb key base b e in (
       λ is. (drop (length base) key, sym (to is)),

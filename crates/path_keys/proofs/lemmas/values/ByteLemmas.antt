@@ -17,17 +17,19 @@ nat_cmp-raised a b h k = grind (arith, nat_tests)
 pub zero-raised : (b : ℕ) → is_slash b ≡ false → nat_cmp 0 (raised b) ≡ Less
 zero-raised b h = grind (arith, nat_tests)
 
+-- each byte of a name is greater than the end mark
 pub raised-zero : (b : ℕ) → is_slash b ≡ false → nat_cmp (raised b) 0 ≡ Greater
 raised-zero b h = grind (arith, nat_tests)
 
+-- comparisons in a row may be grouped in any way
 pub ordering_then-assoc : (p q r : Ordering)
     → ordering_then (ordering_then p q) r ≡ ordering_then p (ordering_then q r)
 ordering_then-assoc Less q r = refl
 ordering_then-assoc Equal q r = refl
 ordering_then-assoc Greater q r = refl
 
--- two names, each with an end mark and more behind it, are in the order of the names, and else of
--- what is behind
+-- two names, each with an end mark and more after it, are in the order of the names, or else of
+-- what comes after
 pub bytes_cmp-names : (n m x y : List ℕ) → NoSlash n → NoSlash m
     → bytes_cmp ((map raised n ++ 0 ∷ []) ++ x) ((map raised m ++ 0 ∷ []) ++ y)
     ≡ ordering_then (bytes_cmp n m) (bytes_cmp x y)

@@ -22,6 +22,7 @@ IsCoded CurDir = Unit {0}
 IsCoded ParentDir = Unit {0}
 IsCoded (Normal name) = NoSlash name × (bytes_eq name [] ≡ false)
 
+-- a piece that counts is a component with a code of its own
 piece_coded : HoldsOfPieces IsCoded
 piece_coded p h d e = by_test (bytes_eq p parent_dir) (λ e. rw e tt) (λ e. rw e (h, d))
 
@@ -29,7 +30,7 @@ piece_coded p h d e = by_test (bytes_eq p parent_dir) (λ e. rw e tt) (λ e. rw 
 pub values-coded : (s : List ℕ) → AllByRecursion IsCoded (values s)
 values-coded s = values-hold IsCoded tt tt piece_coded s
 
--- two codes with more behind them are in the order of the values, and else of what is behind
+-- two codes with more after them are in the order of the components, or else of what comes after
 pub bytes_cmp-codes : (v w : Value) (x y : List ℕ) → IsCoded v → IsCoded w
     → bytes_cmp (code v ++ x) (code w ++ y) ≡ ordering_then (value_cmp v w) (bytes_cmp x y)
 bytes_cmp-codes (Normal n) (Normal m) x y h k = bytes_cmp-names n m x y h.0 k.0
@@ -43,11 +44,12 @@ bytes_cmp-codes CurDir (Normal (b ∷ m)) x y h k = rw (zero-raised b k.0.0) ref
 bytes_cmp-codes ParentDir (Normal (b ∷ m)) x y h k = rw (zero-raised b k.0.0) refl
 bytes_cmp-codes v w x y h k = refl
 
+-- two comparisons in a row are tied only if each is
 ordering_then-tied : (p q : Ordering) → ordering_then p q ≡ Equal → (p ≡ Equal) × (q ≡ Equal)
 ordering_then-tied Equal q e = (refl, e)
 ordering_then-tied p q e = absurd (cc)
 
--- two codes that begin the same bytes are those of one value, and what is behind is the same
+-- two codes that begin the same bytes are of one component, and what comes after is the same
 pub codes_split : (v w : Value) (x y : List ℕ) → IsCoded v → IsCoded w
     → code v ++ x ≡ code w ++ y → (v ≡ w) × (x ≡ y)
 codes_split v w x y h k e =
@@ -65,5 +67,6 @@ code-some ParentDir = (_, _, refl)
 code-some (Normal []) = (_, _, refl)
 code-some (Normal (b ∷ n)) = (_, _, refl)
 
+-- a code is not empty
 pub code-length : (v : Value) → 0 < length (code v)
 code-length v = let some = code-some v in omega (arith, ap length some.2)

@@ -5,7 +5,7 @@ use Rattle.unix_path.specs.Joins.{join_of}
 use Rattle.unix_path.specs.Parts.{Part, leading_part, inner_parts, parts, is_rooted, values}
 use Rattle.unix_path.specs.CommonDir.{inner_values}
 use Rattle.unix_bytes.proofs.lemmas.lists.ListLemmas.{by_test}
-use Rattle.unix_path.proofs.lemmas.edits.JoinLemmas.{join_of_open}
+use Rattle.unix_path.proofs.lemmas.edits.JoinLemmas.{join_of_no_separator}
 use Rattle.unix_path.proofs.lemmas.parts.PartLemmas.{values-nil}
 use Rattle.path_runs.proofs.lemmas.joins.ValueLemmas.{values-join_of}
 use Rattle.path_keys.specs.Keys.{key_of}
@@ -25,7 +25,7 @@ leadless-values b e = ap (λ ps. map (λ (p : Part). p.value) (ps ++ inner_parts
 pub key_of-join_of : (a b : List ℕ) → leading_part b ≡ []
     → key_of (values (join_of a b)) ≡ key_of (values a) ++ key_of (values b)
 key_of-join_of [] b e =
-    ap (λ s. key_of (values s)) (join_of_open [] b (leadless-rootless b e) refl)
+    ap (λ s. key_of (values s)) (join_of_no_separator [] b (leadless-rootless b e) refl)
     ∙ sym (ap (λ k. k ++ key_of (values b)) (ap key_of values-nil ∙ key_of-nil))
 key_of-join_of (x ∷ a) b e =
     ap key_of (values-join_of (x ∷ a) b (omega arith) (leadless-rootless b e)

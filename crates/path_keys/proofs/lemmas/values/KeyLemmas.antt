@@ -5,14 +5,17 @@ use Rattle.std.proofs.lemmas.List.Concat.{flat_map-append}
 use Rattle.unix_path.specs.Parts.{Value}
 use Rattle.path_keys.specs.Keys.{code, key_of}
 
+-- the key of no components is empty
 pub key_of-nil : key_of [] ≡ []
 unfolding key_of
 key_of-nil = refl
 
+-- the key of one component and more
 pub key_of-cons : (v : Value) (vs : List Value) → key_of (v ∷ vs) ≡ code v ++ key_of vs
 unfolding key_of
 key_of-cons v vs = refl
 
+-- the key of components and more is both keys
 pub key_of-append : (vs ws : List Value) → key_of (vs ++ ws) ≡ key_of vs ++ key_of ws
 unfolding key_of
 key_of-append vs ws = flat_map-append code vs ws

@@ -14,7 +14,7 @@ use Rattle.path_keys.proofs.lemmas.values.KeyLemmas.{key_of-nil, key_of-cons}
 record EndsLow (xs : List ℕ) : Type 0 where
   low : 0 < length xs → get_or xs (length xs - 1) 0 < 4
 
--- bytes with such a last byte behind others
+-- bytes with such a last byte after others
 EndsLow-append : (xs ys : List ℕ) → 0 < length ys → EndsLow ys → EndsLow (xs ++ ys)
 EndsLow-append xs ys l h = record {
   low = λ _.
@@ -26,6 +26,7 @@ EndsLow-append xs ys l h = record {
       (h.low l);
 }
 
+-- the last byte of a code is less than 4
 EndsLow-code : (v : Value) → EndsLow (code v)
 EndsLow-code RootDir = record { low = λ _. omega arith }
 EndsLow-code CurDir = record { low = λ _. omega arith }
@@ -33,6 +34,7 @@ EndsLow-code ParentDir = record { low = λ _. omega arith }
 EndsLow-code (Normal name) =
     EndsLow-append (map raised name) (0 ∷ []) (omega arith) (record { low = λ _. omega arith })
 
+-- the last byte of the key of components is less than 4
 EndsLow-key_of : (vs : List Value) → EndsLow (key_of vs)
 EndsLow-key_of [] = record { low = λ l. absurd (omega (arith, ap length key_of-nil)) }
 EndsLow-key_of (v ∷ vs) = subst EndsLow (sym (key_of-cons v vs)) (⊎_elim

@@ -17,6 +17,7 @@ length-code ParentDir = omega arith
 length-code (Normal name) =
     omega (arith, length-append (map raised name) (0 ∷ []), length-map name raised)
 
+-- the length of the key of one component and more
 pub length-key_of-cons : (v : Value) (vs : List Value)
     → length (key_of (v ∷ vs)) ≡ length (code v) + length (key_of vs)
 length-key_of-cons v vs = ap length (key_of-cons v vs) ∙ length-append (code v) (key_of vs)

@@ -15,15 +15,19 @@ use Rattle.path_keys.specs.Codes.{lowered}
 abbrev pub NoZero : List ℕ → Type 0
 NoZero p = AllByRecursion (λ b. eqb b 0 ≡ false) p
 
+-- a byte of a name in a key is raised from the byte that it represents
 raised-lowered : (b : ℕ) → eqb b 0 ≡ false → raised (lowered b) ≡ b
 raised-lowered b h = grind (arith, nat_tests)
 
+-- the byte of a name is read back from a key
 pub lowered-raised : (b : ℕ) → is_slash b ≡ false → lowered (raised b) ≡ b
 lowered-raised b h = grind (arith, nat_tests)
 
+-- no byte of a name in a key represents a slash
 lowered-no_slash : (b : ℕ) → eqb b 0 ≡ false → is_slash (lowered b) ≡ false
 lowered-no_slash b h = grind (arith, nat_tests)
 
+-- no byte of a name is 0 in a key
 pub raised-no_zero : (b : ℕ) → is_slash b ≡ false → eqb (raised b) 0 ≡ false
 raised-no_zero b h = grind (arith, nat_tests)
 
@@ -39,10 +43,12 @@ map-lowered-raised [] h = refl
 map-lowered-raised (b ∷ p) h =
     ap₂ (λ c q. c ∷ q) (lowered-raised b h.0) (map-lowered-raised p h.1)
 
+-- bytes without a 0 represent bytes without a slash
 pub lowered-NoSlash : (p : List ℕ) → NoZero p → NoSlash (map lowered p)
 lowered-NoSlash [] h = tt
 lowered-NoSlash (b ∷ p) h = (lowered-no_slash b h.0, lowered-NoSlash p h.1)
 
+-- bytes without a slash have no 0 in a key
 pub raised-NoZero : (p : List ℕ) → NoSlash p → NoZero (map raised p)
 raised-NoZero [] h = tt
 raised-NoZero (b ∷ p) h = (raised-no_zero b h.0, raised-NoZero p h.1)
@@ -60,7 +66,7 @@ NoZero-before s n e l = recursion_from_All (λ b. eqb b 0 ≡ false) (take n s)
     ap is_zero (get_or-take n s k 1 early)
     ∙ fails_before_first is_zero s k 1 (omega (arith, e))))
 
--- the first 0 behind bytes without one stands where they end
+-- the first 0 after bytes without one is where they end
 pub first_zero : (p y : List ℕ) → NoZero p → position_or_len is_zero (p ++ 0 ∷ y) ≡ length p
 first_zero [] y h = refl
 first_zero (b ∷ p) y h = rw h.0 (omega (arith, first_zero p y h.1))

@@ -13,7 +13,7 @@ no_name_zero (b ∷ name) x y h e =
     let zero_first : raised b ≡ 0 = cc in
     true≢false (sym (ap is_zero zero_first) ∙ raised-no_zero b h.no_slash.0)
 
--- 0 and this mark are the code of no value that may stand there
+-- 0 and this mark are the code of no component that may be there
 pub no_mark : (first : Bool) (mark : ℕ) → (mark ≡ 3 → ⊥) → (first ≡ true → mark ≡ 1 → ⊥)
     → (first ≡ true → mark ≡ 2 → ⊥) → (v : Value) (x y : List ℕ) → Fits first v
     → code v ++ x ≡ 0 ∷ mark ∷ y → ⊥

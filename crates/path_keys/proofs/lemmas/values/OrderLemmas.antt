@@ -8,7 +8,7 @@ use Rattle.std.specs.Ordering.{ordering_then}
 use Rattle.unix_path.specs.Parts.{Value}
 use Rattle.unix_path.specs.Order.{value_cmp, values_cmp}
 use Rattle.unix_path.specs.OrderLaws.{values_cmp-equal}
-use Rattle.unix_path.specs.Prefixes.{Begins}
+use Rattle.unix_path.specs.Prefixes.{IsPrefixOf}
 use Rattle.path_keys.specs.Keys.{code, key_of}
 use Rattle.path_keys.specs.Ranges.{bytes_cmp}
 use Rattle.path_keys.proofs.lemmas.values.CodeLemmas.{IsCoded, bytes_cmp-codes, codes_split}
@@ -16,9 +16,11 @@ use Rattle.path_keys.proofs.lemmas.values.CodeLemmas.{code-some}
 use Rattle.path_keys.proofs.lemmas.values.CodeLemmas.{code-length}
 use Rattle.path_keys.proofs.lemmas.values.KeyLemmas.{key_of-nil, key_of-cons, key_of-append}
 
+-- no bytes are less than a code
 bytes_cmp-none : (w : Value) (y : List ℕ) → bytes_cmp [] (code w ++ y) ≡ Less
 bytes_cmp-none w y = let some = code-some w in rw some.2 refl
 
+-- a code is greater than no bytes
 bytes_cmp-some : (v : Value) (x : List ℕ) → bytes_cmp (code v ++ x) [] ≡ Greater
 bytes_cmp-some v x = let some = code-some v in rw some.2 refl
 
@@ -42,7 +44,7 @@ key_of-same vs ws h k e =
 
 -- if a key begins another, its values begin the other's
 pub key_of-begins : (vs ws : List Value) → AllByRecursion IsCoded vs → AllByRecursion IsCoded ws
-    → (x : List ℕ) → key_of vs ++ x ≡ key_of ws → Begins vs ws
+    → (x : List ℕ) → key_of vs ++ x ≡ key_of ws → IsPrefixOf vs ws
 key_of-begins [] ws h k x e = (ws, refl)
 key_of-begins (v ∷ vs) [] h k x e =
     let whole = ap (λ ys. ys ++ x) (sym (key_of-cons v vs)) ∙ e ∙ key_of-nil in
@@ -61,5 +63,5 @@ key_of-begins (v ∷ vs) (w ∷ ws) h k x e =
     (others.0, ap₂ (λ u us. u ∷ us) first.0 others.1)
 
 -- if values begin others, their key begins the other key
-pub begins-key_of : (vs ws : List Value) → Begins vs ws → Begins (key_of vs) (key_of ws)
+pub begins-key_of : (vs ws : List Value) → IsPrefixOf vs ws → IsPrefixOf (key_of vs) (key_of ws)
 begins-key_of vs ws h = (key_of h.0, sym (key_of-append vs h.0) ∙ ap key_of h.1)

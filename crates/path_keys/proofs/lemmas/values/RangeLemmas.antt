@@ -1,13 +1,13 @@
--- The bytes that begin with others are those that lie in a range.
-use Rattle.std.proofs.Common.{◌≡◌, ◌↔◌, ◌<◌, ℕ, ◌+◌, ◌-◌, true, List, [], ◌∷◌, ◌++◌, length, Some}
-use Rattle.std.proofs.Common.{None}
+-- The byte strings that begin with a key are those in its range.
+use Rattle.std.proofs.Common.{◌≡◌, ◌↔◌, ◌<◌, ℕ, ◌+◌, ◌-◌, true, List, [], ◌∷◌, ◌++◌, length}
+use Rattle.std.proofs.Common.{Option, Some, None}
 use Rattle.std.proofs.Common.{Less, Equal, Greater, slice_index, slice_set, refl, sym, ap, ap₂}
 use Rattle.std.proofs.Common.{◌∙◌, subst, arith, ⊎_elim}
 use Rattle.std.proofs.lemmas.Bool.{cases_order}
 use Rattle.std.proofs.lemmas.Bool.Decides.{nat_tests}
 use Rattle.std.specs.Ordering.{is_le, nat_cmp}
-use Rattle.unix_path.specs.Prefixes.{Begins}
-use Rattle.path_keys.specs.Ranges.{bytes_cmp, end_of, LiesUnder}
+use Rattle.unix_path.specs.Prefixes.{IsPrefixOf}
+use Rattle.path_keys.specs.Ranges.{bytes_cmp, end_of, InRange, IsRangeEnd, LiesUnder}
 
 -- these bytes with the last one raised by one
 abbrev last_raised : ℕ → List ℕ → List ℕ
@@ -18,16 +18,19 @@ abbrev LiesIn : ℕ → List ℕ → List ℕ → Type 0
 LiesIn b bs key = (is_le (bytes_cmp (b ∷ bs) key) ≡ true)
     × (bytes_cmp key (last_raised b bs) ≡ Less)
 
+-- the comparison of a lesser byte
 less_is : (a b : ℕ) → a < b → nat_cmp a b ≡ Less
 less_is a b h = grind (arith, nat_tests)
 
+-- the comparison of a greater byte
 greater_is : (a b : ℕ) → b < a → nat_cmp a b ≡ Greater
 greater_is a b h = grind (arith, nat_tests)
 
+-- the comparison of equal bytes
 equal_is : (a : ℕ) → nat_cmp a a ≡ Equal
 equal_is a = grind (arith, nat_tests)
 
--- bytes of which the first is greater don't stand before the end of a range
+-- bytes of which the first is greater are not less than the end of a range
 behind-not_less : (b c : ℕ) (key : List ℕ) → b < c → bytes_cmp (c ∷ key) ((b + 1) ∷ []) ≡ Less → ⊥
 behind-not_less b c key l h = ⊎_elim
     (λ same.
@@ -41,18 +44,18 @@ behind-not_less b c key l h = ⊎_elim
     at_end [] e = cc
     at_end (x ∷ key) e = cc
 
--- bytes of which the first is less stand before a range
+-- bytes of which the first is less come before a range
 before-not_le : (b c : ℕ) (bs key : List ℕ) → c < b
     → is_le (bytes_cmp (b ∷ bs) (c ∷ key)) ≡ true → ⊥
 before-not_le b c bs key l h = let d = rw (greater_is b c l) at h in cc
 
--- bytes of which the first is greater stand behind those that begin with the less
+-- bytes of which the first is greater come after those that begin with the lesser one
 after-not_less : (b c : ℕ) (bs key : List ℕ) → b < c
     → bytes_cmp (c ∷ key) (b ∷ bs) ≡ Less → ⊥
 after-not_less b c bs key l h = let d = rw (greater_is c b l) at h in cc
 
 -- what lies in the range of some bytes begins with them
-lies_in-begins : (b : ℕ) (bs key : List ℕ) → LiesIn b bs key → Begins (b ∷ bs) key
+lies_in-begins : (b : ℕ) (bs key : List ℕ) → LiesIn b bs key → IsPrefixOf (b ∷ bs) key
 lies_in-begins b bs [] h = absurd (let d = h.0 in cc)
 lies_in-begins b [] (c ∷ key) h = ⊎_elim
     (λ same. (key, ap (λ x. x ∷ key) same))
@@ -71,6 +74,7 @@ lies_in-begins b (d ∷ bs) (c ∷ key) h = ⊎_elim
     (λ more. before-not_le b c (d ∷ bs) key more h.0) other))
     (cases_order b c)
 
+-- no bytes are less than or equal to any
 nil-le : (more : List ℕ) → is_le (bytes_cmp [] more) ≡ true
 nil-le [] = refl
 nil-le (x ∷ more) = refl
@@ -83,8 +87,8 @@ begins-lies_in b (d ∷ bs) more =
     let others = begins-lies_in d bs more in
     (rw (equal_is b) others.0, rw (equal_is b) others.1)
 
--- keys begin with a base's exactly if they lie in its range
-pub begins-lies_under : (base key : List ℕ) → Begins base key ↔ LiesUnder base key
+-- byte strings begin with a base if and only if they lie in its range
+pub begins-lies_under : (base key : List ℕ) → IsPrefixOf base key ↔ LiesUnder base key
 unfolding end_of
 begins-lies_under [] key = (λ begins. (nil-le key, tt), λ h. (key, refl))
 begins-lies_under (b ∷ bs) key = (
@@ -92,6 +96,7 @@ begins-lies_under (b ∷ bs) key = (
   λ h. lies_in-begins b bs key h,
 )
 
+-- the range of the empty key has no end
 pub end_of-nil : end_of [] ≡ None
 unfolding end_of
 end_of-nil = refl
@@ -104,3 +109,16 @@ end_of-some [] l = absurd (omega arith)
 end_of-some (b ∷ bs) l =
     let n : length bs ≡ length (b ∷ bs) - 1 = omega arith in
     ap (λ k. Some (slice_set (b ∷ bs) k (slice_index (b ∷ bs) k + 1))) n
+
+-- the empty key's range has no end
+pub range_end-none : (key : List ℕ) → length key ≡ 0 → IsRangeEnd key None
+range_end-none [] l s = (λ h. (s, refl), λ begins. (nil-le s, tt))
+range_end-none (b ∷ bs) l s = absurd (omega arith)
+
+-- the range of another key ends at the key with its last byte raised by one
+pub range_end-some : (key : List ℕ) → 0 < length key → IsRangeEnd key
+    (Some (slice_set key (length key - 1) (slice_index key (length key - 1) + 1)))
+range_end-some key l s =
+    let both = begins-lies_under key s in
+    let P : Option (List ℕ) → Type 0 = λ end. InRange key end s ↔ IsPrefixOf key s in
+    subst P (end_of-some key l) (both.1, both.0)

@@ -7,7 +7,7 @@ use Rattle.unix_path.specs.CommonDir.{inner_values}
 use Rattle.unix_path.specs.Parts.{RootDir, CurDir, is_slash, is_rooted, values}
 use Rattle.unix_path.specs.Scan.{is_filler}
 use Rattle.unix_path.proofs.lemmas.order.CommonPrefixLemmas.{inner_values-nil}
-use Rattle.unix_path.proofs.lemmas.filler.FillerLemmas.{first_piece_dot, values-busy}
+use Rattle.unix_path.proofs.lemmas.filler.FillerLemmas.{first_piece_dot, values-not_filler}
 use Rattle.unix_path.proofs.lemmas.parts.PartLemmas.{values-nil}
 use Rattle.unix_path.proofs.lemmas.parts.PieceLemmas.{slice_split-first}
 use Rattle.path_runs.proofs.lemmas.joins.LeadLemmas.{dot_first, lead_by, values-lead}
@@ -21,9 +21,10 @@ lead-none s e =
     ap (λ s. key_of (values s)) none ∙ ap key_of (values-nil ∙ sym inner_values-nil)
     ∙ sym (ap (λ s. key_of (inner_values s)) none)
 
-pub lead-busy : (s : List ℕ) → is_filler s 0 ≡ false
+-- the key of a path that begins with neither
+pub lead-not_filler : (s : List ℕ) → is_filler s 0 ≡ false
     → key_of (values s) ≡ key_of (inner_values s)
-lead-busy s busy = ap key_of (values-busy s busy)
+lead-not_filler s not_filler = ap key_of (values-not_filler s not_filler)
 
 -- the key of a path that begins with a slash
 pub lead-root : (s : List ℕ) → 0 < length s → get_or s 0 0 ≡ 47

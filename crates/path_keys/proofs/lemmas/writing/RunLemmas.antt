@@ -1,4 +1,4 @@
--- What stands first in a path, a `..` or a stretch of names, in a key.
+-- What a path begins with, a `..` or names with single slashes between, in a key.
 use Rattle.std.proofs.Common.{◌≡◌, ◌<◌, ◌≤◌, ◌+◌, ℕ, true, false, cond, eqb, List, []}
 use Rattle.std.proofs.Common.{◌∷◌, ◌++◌, length, take, drop, map, get_or, refl, sym, ap, ap₂, ◌∙◌}
 use Rattle.std.proofs.Common.{subst, arith, append-nil, eq-eqb}
@@ -11,10 +11,10 @@ use Rattle.std.specs.List.{AllByRecursion, slice_split, onto_first, position_or_
 use Rattle.unix_path.specs.CommonDir.{inner_values}
 use Rattle.unix_path.specs.Parts.{ParentDir, Normal, Part, is_slash, slash}
 use Rattle.unix_path.specs.Parts.{counts, inner_parts, value_of_piece, values}
-use Rattle.unix_path.specs.Scan.{begins_with_parent, is_filler}
+use Rattle.unix_path.specs.Scan.{starts_with_parent_dir, is_filler}
 use Rattle.unix_bytes.proofs.lemmas.lists.ListLemmas.{by_test}
 use Rattle.unix_path.proofs.lemmas.order.CommonPrefixLemmas.{inner_values-nil}
-use Rattle.unix_path.proofs.lemmas.steps.LeadLemmas.{busy_no_slash, first_value-name}
+use Rattle.unix_path.proofs.lemmas.steps.LeadLemmas.{not_filler_no_slash, first_value-name}
 use Rattle.unix_path.proofs.lemmas.steps.LeadLemmas.{length-parent_first}
 use Rattle.unix_path.proofs.lemmas.steps.LeadLemmas.{values-parent_first}
 use Rattle.unix_path.proofs.lemmas.parts.PartLemmas.{parts-name}
@@ -22,42 +22,44 @@ use Rattle.unix_path.proofs.lemmas.parts.PieceLemmas.{first_piece, slice_split-f
 use Rattle.path_runs.proofs.lemmas.spelling.PieceValueLemmas.{inner_values-pieces, names_of}
 use Rattle.path_keys.specs.Keys.{key_of}
 use Rattle.path_keys.specs.Codes.{AllFit, IsName}
-use Rattle.path_keys.specs.Stretches.{coded, AreNamesTo, FirstStop, IsRun}
-use Rattle.unix_path.proofs.lemmas.stops.StopLemmas.{stop_mark, unstopped_to}
+use Rattle.path_keys.specs.NameBytes.{coded}
+use Rattle.path_keys.specs.Stretches.{FirstStop, IsRun}
+use Rattle.unix_path.proofs.lemmas.name_run_ends.NameRunEndLemmas.{separator_at_end, no_end_before}
 use Rattle.path_keys.proofs.lemmas.reading.FitLemmas.{values-fit}
 use Rattle.path_keys.proofs.lemmas.values.KeyLemmas.{key_of-cons, key_of-append}
-use Rattle.unix_path.proofs.lemmas.filler.FillerLemmas.{values-busy}
+use Rattle.unix_path.proofs.lemmas.filler.FillerLemmas.{values-not_filler}
 use Rattle.path_keys.proofs.lemmas.writing.StretchLemmas.{later, later_names, some_piece}
 use Rattle.path_keys.proofs.lemmas.writing.StretchLemmas.{stretch_key}
 
 -- the first value of a string that begins with neither filler nor `..` is its first piece
-values-first : (s : List ℕ) → 0 < length s → is_filler s 0 ≡ false → begins_with_parent s ≡ false
+values-first : (s : List ℕ) → 0 < length s → is_filler s 0 ≡ false → starts_with_parent_dir s
+    ≡ false
     → values s ≡ Normal (first_piece s) ∷ map (λ (p : Part). p.value)
     (inner_parts (position_or_len is_slash s) (drop (position_or_len is_slash s) s))
 unfolding values
-values-first s l busy e =
-    ap (map (λ (p : Part). p.value)) (parts-name s l (busy_no_slash s busy))
+values-first s l not_filler e =
+    ap (map (λ (p : Part). p.value)) (parts-name s l (not_filler_no_slash s not_filler))
     ∙ ap (λ v. v ∷ map (λ (p : Part). p.value)
     (inner_parts (position_or_len is_slash s) (drop (position_or_len is_slash s) s)))
-    (first_value-name s l busy e)
+    (first_value-name s l not_filler e)
 
 -- the first piece of a string that begins with neither filler nor `..` is a name
-first_name : (s : List ℕ) → 0 < length s → is_filler s 0 ≡ false → begins_with_parent s ≡ false
+first_name : (s : List ℕ) → 0 < length s → is_filler s 0 ≡ false → starts_with_parent_dir s ≡ false
     → IsName (first_piece s)
-first_name s l busy e = (subst (AllFit true) (values-first s l busy e) (values-fit s)).0
+first_name s l not_filler e = (subst (AllFit true) (values-first s l not_filler e) (values-fit s)).0
 
 -- `..` is a run
-pub run-up : (s : List ℕ) → is_filler s 0 ≡ false → begins_with_parent s ≡ true → IsRun s 2
-run-up s busy e = record {
+pub run-up : (s : List ℕ) → is_filler s 0 ≡ false → starts_with_parent_dir s ≡ true → IsRun s 2
+run-up s not_filler e = record {
   some = omega arith;
   in_range = length-parent_first s e;
-  split = ap key_of (sym (values-busy s busy) ∙ values-parent_first s e)
+  split = ap key_of (sym (values-not_filler s not_filler) ∙ values-parent_first s e)
       ∙ key_of-cons ParentDir (inner_values (drop 2 s))
       ∙ ap (λ c. c ++ key_of (inner_values (drop 2 s)))
       (sym (ap (λ b. cond b (0 ∷ 3 ∷ []) (map coded (take 2 s) ++ 0 ∷ [])) e));
 }
 
--- a string that is cut at a slash has the pieces before it and those behind it
+-- a string that is cut at a slash has the pieces before it and those after it
 pub slice_split-append : (t r : List ℕ)
     → slice_split is_slash (t ++ slash ∷ r) ≡ slice_split is_slash t ++ slice_split is_slash r
 slice_split-append [] r = refl
@@ -72,6 +74,7 @@ slice_split-append (x ∷ t) r = by_test (eqb x 47)
     ∙ sym (ap (λ ps. ps ++ slice_split is_slash r)
     (slice_split-cons_no is_slash x t e ∙ ap (onto_first x) some.2)))
 
+-- the components of pieces and more
 names_of-append : (ps qs : List (List ℕ)) → names_of (ps ++ qs) ≡ names_of ps ++ names_of qs
 names_of-append ps qs = ap (map value_of_piece) (filter-append counts ps qs)
     ∙ map-append value_of_piece (filter counts ps) (filter counts qs)
@@ -84,13 +87,13 @@ inner_values-cut t r =
     ∙ names_of-append (slice_split is_slash t) (slice_split is_slash r)
     ∙ sym (ap₂ (λ vs ws. vs ++ ws) (inner_values-pieces t) (inner_values-pieces (slash ∷ r)))
 
--- the string is what stands before its first stop, and then a slash, or nothing
+-- the string is what comes before its first stop, and then a slash, or nothing
 cut_at : (s : List ℕ) (n : ℕ) → FirstStop s n → n < length s
     → drop n s ≡ slash ∷ drop (n + 1) s
 cut_at s n h l = drop_more s n 0 l
-    ∙ ap (λ b. b ∷ drop (n + 1) s) (stop_mark 47 46 s n h l)
+    ∙ ap (λ b. b ∷ drop (n + 1) s) (separator_at_end 47 46 s n h l)
 
--- the pieces of the string begin with those of what stands before its first stop
+-- the pieces of the string begin with those of what comes before its first stop
 whole_pieces : (s : List ℕ) (n : ℕ) → FirstStop s n → (p : List ℕ) (ps : List (List ℕ))
     → slice_split is_slash (take n s) ≡ p ∷ ps
     → (qs : List (List ℕ)) × (slice_split is_slash s ≡ p ∷ (ps ++ qs))
@@ -109,10 +112,11 @@ whole_pieces s n h p ps e = ⊎_elim
     ))
     (cases_lt n (length s))
 
+-- equal lists have equal first elements
 cons_first : {p q : List ℕ} {ps qs : List (List ℕ)} → p ∷ ps ≡ q ∷ qs → p ≡ q
 cons_first e = cc
 
--- the first piece of the string is that of what stands before its first stop
+-- the first piece of the string is that of what comes before its first stop
 first_same : (s : List ℕ) (n : ℕ) → FirstStop s n
     → (ps : List (List ℕ)) × (slice_split is_slash (take n s) ≡ first_piece s ∷ ps)
 first_same s n h =
@@ -121,7 +125,7 @@ first_same s n h =
     let same : some.0 ≡ first_piece s = cons_first (sym rest.1 ∙ slice_split-first s) in
     (some.1, some.2 ∙ ap (λ p. p ∷ some.1) same)
 
--- the key of what stands before the first stop, and of what is left
+-- the components of what comes before the first stop, and of what is left
 split_at : (s : List ℕ) (n : ℕ) → FirstStop s n
     → inner_values s ≡ inner_values (take n s) ++ inner_values (drop n s)
 split_at s n h = ⊎_elim
@@ -135,45 +139,33 @@ split_at s n h = ⊎_elim
     ∙ ap (λ vs. inner_values s ++ vs) inner_values-nil ∙ append-nil (inner_values s)))
     (cases_lt n (length s))
 
--- if the first stop is at 0, a slash stands there
+-- if the first stop is at 0, a slash is there
 first_stops : (s : List ℕ) (n : ℕ) → 0 < length s → FirstStop s n → n ≤ 0
     → eqb (get_or s 0 0) 47 ≡ true
 first_stops s n l h none =
     let zero_is : n ≡ 0 = omega arith in
     ap (λ k. eqb (get_or s k 0) 47) (sym zero_is)
-    ∙ eq-eqb (get_or s n 0) 47 (stop_mark 47 46 s n h (omega arith))
+    ∙ eq-eqb (get_or s n 0) 47 (separator_at_end 47 46 s n h (omega arith))
 
--- what stands before the first stop is a run of names
+-- what comes before the first stop is a run of names
 pub run-names : (s : List ℕ) (n : ℕ) → 0 < length s → is_filler s 0 ≡ false
-    → begins_with_parent s ≡ false → FirstStop s n → IsRun s n
-run-names s n l busy e h =
+    → starts_with_parent_dir s ≡ false → FirstStop s n → IsRun s n
+run-names s n l not_filler e h =
     let t = take n s in
     let first = first_same s n h in
     let names : AllByRecursion IsName (slice_split is_slash t) =
     subst (AllByRecursion IsName) (sym first.1) (
-      first_name s l busy e,
+      first_name s l not_filler e,
       subst (λ ps. AllByRecursion IsName (later ps)) first.1
-          (later_names t (unstopped_to 47 46 s n h)),
+          (later_names t (no_end_before 47 46 s n h)),
     ) in
     record {
       some = ⊎_elim (λ some. some) (λ none. absurd (false≢true
-          (sym (busy_no_slash s busy) ∙ first_stops s n l h none)))
+          (sym (not_filler_no_slash s not_filler) ∙ first_stops s n l h none)))
           (cases_lt 0 n);
       in_range = h.in_range;
       split = ap key_of (split_at s n h)
           ∙ key_of-append (inner_values t) (inner_values (drop n s))
           ∙ ap (λ c. c ++ key_of (inner_values (drop n s)))
           (stretch_key t names ∙ sym (ap (λ b. cond b (0 ∷ 3 ∷ []) (map coded t ++ 0 ∷ [])) e));
-    }
-
--- what stands before the first stop are names
-pub names_to : (s : List ℕ) (n : ℕ) → 0 < length s → is_filler s 0 ≡ false
-    → begins_with_parent s ≡ false → FirstStop s n → AreNamesTo s n
-names_to s n l busy e h =
-    let run = run-names s n l busy e h in
-    record {
-      some = run.some;
-      in_range = run.in_range;
-      split = run.split ∙ ap (λ t. cond t (0 ∷ 3 ∷ []) (map coded (take n s) ++ 0 ∷ [])
-          ++ key_of (inner_values (drop n s))) e;
     }

@@ -16,9 +16,10 @@ use Rattle.path_runs.proofs.lemmas.spelling.PieceValueLemmas.{inner_values-piece
 use Rattle.path_runs.proofs.lemmas.spelling.PieceValueLemmas.{slice_split-no_slash}
 use Rattle.path_keys.specs.Keys.{key_of, raised}
 use Rattle.path_keys.specs.Codes.{IsName}
-use Rattle.unix_path.specs.Stops.{none_begins}
-use Rattle.path_keys.specs.Stretches.{coded, is_stop}
-use Rattle.unix_path.proofs.lemmas.stops.StopLemmas.{is_stop-append}
+use Rattle.unix_path.specs.NameRunEnds.{no_name_starts_at}
+use Rattle.path_keys.specs.NameBytes.{coded}
+use Rattle.path_keys.specs.Stretches.{ends_name_run}
+use Rattle.unix_path.proofs.lemmas.name_run_ends.NameRunEndLemmas.{ends_name_run-append}
 
 -- the codes of pieces as of names, one after the other
 abbrev piece_codes : List (List ℕ) → List ℕ
@@ -34,7 +35,7 @@ some_piece (x ∷ s) = by_test (eqb x 47)
     let more = some_piece s in
     (x ∷ more.0, more.1, slice_split-cons_no is_slash x s e ∙ ap (onto_first x) more.2))
 
--- a string as it stands in a key, with an end mark, is its pieces, each with one
+-- a string in a key, with an end mark, is its pieces, each with an end mark
 coded-pieces : (s : List ℕ) → map coded s ++ 0 ∷ [] ≡ piece_codes (slice_split is_slash s)
 coded-pieces [] = refl
 coded-pieces (x ∷ s) = by_test (eqb x 47)
@@ -52,6 +53,7 @@ names_of-names [] h = refl
 names_of-names (p ∷ ps) h =
     rw (h.0.some, h.0.no_dot, h.0.no_up) (ap (λ vs. Normal p ∷ vs) (names_of-names ps h.1))
 
+-- the key of names is their pieces, each with an end mark
 key_of-names : (ps : List (List ℕ)) → key_of (map Normal ps) ≡ piece_codes ps
 unfolding key_of
 key_of-names [] = refl
@@ -71,17 +73,20 @@ later (p ∷ ps) = ps
 
 -- no byte of the string is a stop
 abbrev pub Unstopped : List ℕ → Type 0
-Unstopped s = (i : ℕ) → i < length s → is_stop s i ≡ false
+Unstopped s = (i : ℕ) → i < length s → ends_name_run s i ≡ false
 
-unstopped_behind : (x : ℕ) (s : List ℕ) → Unstopped (x ∷ s) → Unstopped s
-unstopped_behind x s h = λ i l.
-    sym (is_stop-append 47 46 (x ∷ []) s i)
-    ∙ ap (is_stop (x ∷ s)) {x = 1 + i} {y = suc i} (omega arith) ∙ h (suc i) (omega arith)
+-- a string without a stop has none after its first byte
+no_end_in_both : (x : ℕ) (s : List ℕ) → Unstopped (x ∷ s) → Unstopped s
+no_end_in_both x s h = λ i l.
+    sym (ends_name_run-append 47 46 (x ∷ []) s i)
+    ∙ ap (ends_name_run (x ∷ s)) {x = 1 + i} {y = suc i} (omega arith) ∙ h (suc i) (omega arith)
 
+-- two tests fail together if the second fails where the first holds
 both_fail : (a b : Bool) → (a ≡ true → b ≡ false) → (a && b) ≡ false
 both_fail true b h = h refl
 both_fail false b h = refl
 
+-- if two tests fail together and the first holds, the second fails
 second_fails : (a b : Bool) → (a && b) ≡ false → a ≡ true → b ≡ false
 second_fails true b h e = h
 second_fails false b h e = absurd (cc)
@@ -93,6 +98,7 @@ record Begun (y : ℕ) (s p : List ℕ) : Type 0 where
   is : p ≡ y ∷ more
   rest : slice_split is_slash s ≡ more ∷ others
 
+-- one byte before a string without a stop begins its first piece
 begun : (y : ℕ) (s p : List ℕ) (ps : List (List ℕ)) → eqb y 47 ≡ false
     → slice_split is_slash (y ∷ s) ≡ p ∷ ps → Begun y s p
 begun y s p ps e is =
@@ -106,13 +112,13 @@ begun y s p ps e is =
       rest = some.2;
     }
 
--- a piece is not empty if no slash stands first
+-- a piece is not empty if the string begins with no slash
 some_first : (s p : List ℕ) (ps : List (List ℕ)) → eqb (get_or s 0 47) 47 ≡ false
     → slice_split is_slash s ≡ p ∷ ps → bytes_eq p [] ≡ false
 some_first [] p ps e is = absurd (let k : true ≡ false = e in cc)
 some_first (y ∷ s) p ps e is = ap (λ p. bytes_eq p []) (begun y s p ps e is).is
 
--- it is no `.` if neither a slash stands first, nor a dot and a slash
+-- it is no `.` if the string begins neither with a slash, nor with a dot and a slash
 no_dot_first : (s p : List ℕ) (ps : List (List ℕ))
     → (eqb (get_or s 0 47) 47 || (eqb (get_or s 0 47) 46 && eqb (get_or s 1 47) 47)) ≡ false
     → slice_split is_slash s ≡ p ∷ ps → bytes_eq p (46 ∷ []) ≡ false
@@ -125,7 +131,7 @@ no_dot_first (y ∷ s) p ps e is =
     (λ d. some_first s b.more b.others (second_fails _ _ both.1 d) b.rest)
 
 -- the first piece is a name if one begins there
-first_name : (s p : List ℕ) (ps : List (List ℕ)) → none_begins 47 46 s 0 ≡ false
+first_name : (s p : List ℕ) (ps : List (List ℕ)) → no_name_starts_at 47 46 s 0 ≡ false
     → slice_split is_slash s ≡ p ∷ ps → IsName p
 first_name [] p ps e is = absurd (let k : true ≡ false = e in cc)
 first_name (y ∷ s) p ps e is =
@@ -146,7 +152,7 @@ first_name (y ∷ s) p ps e is =
           (λ d. no_dot_first s b.more b.others (second_fails (eqb y 46) next both.1 d) b.rest);
     }
 
--- the pieces behind the first of a string without a stop are names
+-- the pieces after the first of a string without a stop are names
 pub later_names : (s : List ℕ) → Unstopped s
     → AllByRecursion IsName (later (slice_split is_slash s))
 later_names [] h = tt
@@ -154,20 +160,20 @@ later_names (x ∷ s) h = by_test (eqb x 47)
     (λ e.
     let some = some_piece s in
     let more = subst (λ qs. AllByRecursion IsName (later qs)) some.2
-    (later_names s (unstopped_behind x s h)) in
-    let begins : none_begins 47 46 s 0 ≡ false = rw e at (h 0 (omega arith)) in
+    (later_names s (no_end_in_both x s h)) in
+    let begins : no_name_starts_at 47 46 s 0 ≡ false = rw e at (h 0 (omega arith)) in
     subst (λ qs. AllByRecursion IsName (later qs))
     (sym (slice_split-cons_yes is_slash x s e ∙ ap (λ qs. [] ∷ qs) some.2))
     (first_name s some.0 some.1 begins some.2, more))
     (λ e.
     let some = some_piece s in
     let more = subst (λ qs. AllByRecursion IsName (later qs)) some.2
-    (later_names s (unstopped_behind x s h)) in
+    (later_names s (no_end_in_both x s h)) in
     subst (λ qs. AllByRecursion IsName (later qs))
     (sym (slice_split-cons_no is_slash x s e ∙ ap (onto_first x) some.2)) more)
 
 -- all pieces of a string without a stop are names if one begins there
-pub all_pieces_names : (s : List ℕ) → none_begins 47 46 s 0 ≡ false → Unstopped s
+pub all_pieces_names : (s : List ℕ) → no_name_starts_at 47 46 s 0 ≡ false → Unstopped s
     → AllByRecursion IsName (slice_split is_slash s)
 all_pieces_names s e h =
     let some = some_piece s in

@@ -1,42 +1,70 @@
 -- A key written run by run.
-use Rattle.std.proofs.Common.{◌≡◌, ◌≤◌, ◌+◌, ℕ, true, List, []}
-use Rattle.std.proofs.Common.{◌∷◌, ◌++◌, length, drop, ap, ◌∙◌}
-use Rattle.std.proofs.Common.{sym, refl, append-nil}
+use Rattle.std.proofs.Common.{◌≡◌, ◌≤◌, ◌+◌, ℕ, true, false, cond, List, [], ◌∷◌, ◌++◌, length}
+use Rattle.std.proofs.Common.{take, drop, map}
+use Rattle.std.proofs.Common.{sym, ap, ap₂, ◌∙◌, arith, append_assoc, length-append, length-take-le}
+use Rattle.std.proofs.lemmas.List.{length-map}
 use Rattle.unix_path.specs.CommonDir.{inner_values}
-use Rattle.unix_path.specs.Scan.{begins_with_parent}
+use Rattle.unix_path.specs.Scan.{starts_with_parent_dir}
 use Rattle.path_runs.specs.Overlay.{overlay}
+use Rattle.path_runs.proofs.lemmas.lists.OverlayLemmas.{overlay-bytes_over}
 use Rattle.path_runs.proofs.lemmas.lists.WritingLemmas.{WritesOn, writes_room, writes_stretch}
 use Rattle.path_keys.specs.Keys.{key_of}
-use Rattle.path_keys.specs.Stretches.{PutsFirst}
-use Rattle.path_keys.proofs.lemmas.writing.UpLemmas.{up_key}
+use Rattle.path_keys.specs.NameBytes.{coded}
+use Rattle.path_keys.specs.Stretches.{run_key, IsRun}
 
--- there is room for the mark of a `..`
-pub room_up : {whole old out : List ℕ} {at : ℕ} (s : List ℕ) → begins_with_parent s ≡ true
-    → WritesOn whole old at out (key_of (inner_values s)) → length whole ≤ length old
-    → at + 2 ≤ length old
-room_up {whole} {old} {out} {at} s e h fits =
-    writes_room (0 ∷ 3 ∷ []) (key_of (inner_values (drop 2 s))) h (up_key s e) fits
+-- to put bytes in a buffer, and then more after them, is to put both there at once
+overlay-overlay : (at : ℕ) (xs ys old : List ℕ) → at ≤ length old
+    → overlay (at + length xs) ys (overlay at xs old) ≡ overlay at (xs ++ ys) old
+overlay-overlay at xs ys old l =
+    let first = take at old ++ xs in
+    let near : length first ≡ at + length xs =
+    omega (arith, length-append (take at old) xs, length-take-le at old l) in
+    ap₂ (λ k n. overlay k ys (first ++ drop n old)) (sym near) (sym near)
+    ∙ overlay-bytes_over first ys old
+    ∙ ap₂ (λ bytes n. bytes ++ drop n old) (append_assoc (take at old) xs ys)
+    (omega (arith, near, length-append first ys, length-append xs ys))
 
--- the mark of a `..` is written
-pub written_up : {whole old out new : List ℕ} {at : ℕ} (s : List ℕ)
-    → begins_with_parent s ≡ true → WritesOn whole old at out (key_of (inner_values s))
-    → new ≡ overlay at (0 ∷ 3 ∷ []) out
-    → WritesOn whole old (at + 2) new (key_of (inner_values (drop 2 s)))
-written_up {whole} {old} {out} {new} {at} s e h is_put =
-    writes_stretch (0 ∷ 3 ∷ []) (key_of (inner_values (drop 2 s))) h (up_key s e) is_put refl
+-- the bytes of names in a key are as many as in the path, and an end mark
+pub names_len : (s : List ℕ) (n : ℕ) → n ≤ length s
+    → length (map coded (take n s) ++ 0 ∷ []) ≡ n + 1
+names_len s n l = omega (
+  arith,
+  length-append (map coded (take n s)) (0 ∷ []),
+  length-map (take n s) coded,
+  length-take-le n s l,
+)
 
--- there is room for all that is left
-pub room_left : {whole old out left : List ℕ} {at : ℕ} → WritesOn whole old at out left
-    → length whole ≤ length old → at + length left ≤ length old
-room_left {whole} {old} {out} {left} {at} h fits =
-    writes_room left [] h (sym (append-nil left)) fits
+-- names and then an end mark are put in a buffer
+pub names_put : (s : List ℕ) (at n : ℕ) (old out new : List ℕ) → n ≤ length s
+    → at + n ≤ length old → out ≡ overlay at (map coded (take n s)) old
+    → new ≡ overlay (at + n) (0 ∷ []) out → new ≡ overlay at (map coded (take n s) ++ 0 ∷ []) old
+names_put s at n old out new l room h e =
+    let xs = map coded (take n s) in
+    let size : length xs ≡ n = length-map (take n s) coded ∙ length-take-le n s l in
+    e ∙ ap₂ (λ k o. overlay k (0 ∷ []) o) {x = at + n} {y = at + length xs} (omega (arith, size)) h
+    ∙ overlay-overlay at xs (0 ∷ []) old (omega arith)
 
--- what stands first in what is left is written
-pub written_first : {whole old out new : List ℕ} {at len n end : ℕ} (s left : List ℕ)
-    → WritesOn whole old at out (key_of (inner_values s)) → PutsFirst s len at n out new
-    → inner_values (drop len s) ≡ inner_values left → end ≡ at + n
-    → WritesOn whole old end new (key_of (inner_values left))
-written_first {whole} {old} {out} {new} {at} {len} {n} {end} s left h puts same ends =
-    writes_stretch puts.lead (key_of (inner_values left)) h
-    (puts.split ∙ ap (λ vs. puts.lead ++ key_of vs) same) puts.new_is
-    (ends ∙ ap (λ k. at + k) puts.len_is)
+-- the bytes of a run in a key, if it is a `..`
+pub up_run : (s : List ℕ) (n : ℕ) → starts_with_parent_dir s ≡ true → run_key s n ≡ 0 ∷ 3 ∷ []
+up_run s n e = ap (λ up. cond up (0 ∷ 3 ∷ []) (map coded (take n s) ++ 0 ∷ [])) e
+
+-- and if it is names
+pub names_run : (s : List ℕ) (n : ℕ) → starts_with_parent_dir s ≡ false
+    → run_key s n ≡ map coded (take n s) ++ 0 ∷ []
+names_run s n e = ap (λ up. cond up (0 ∷ 3 ∷ []) (map coded (take n s) ++ 0 ∷ [])) e
+
+-- there is room for the next run
+pub run_fits : {whole old out : List ℕ} {at n : ℕ} (s : List ℕ)
+    → WritesOn whole old at out (key_of (inner_values s)) → IsRun s n → length whole ≤ length old
+    → at + length (run_key s n) ≤ length old
+run_fits {whole} {old} {out} {at} {n} s h run fits =
+    writes_room (run_key s n) (key_of (inner_values (drop n s))) h run.split fits
+
+-- the next run is written
+pub written_run : {whole old out new : List ℕ} {at n end : ℕ} (s left : List ℕ)
+    → WritesOn whole old at out (key_of (inner_values s)) → IsRun s n
+    → new ≡ overlay at (run_key s n) out → inner_values (drop n s) ≡ inner_values left
+    → end ≡ at + length (run_key s n) → WritesOn whole old end new (key_of (inner_values left))
+written_run {whole} {old} {out} {new} {at} {n} {end} s left h run is_put same ends =
+    writes_stretch (run_key s n) (key_of (inner_values left)) h
+    (run.split ∙ ap (λ vs. run_key s n ++ key_of vs) same) is_put ends

@@ -2,7 +2,7 @@ use Rattle.std.proofs.Common.{◌≡◌, sym, ap, subst, ◌∙◌}
 use Rattle.std.specs.Prelude.{IfOk}
 use Rattle.unix_path.specs.Buffers.{path_bytes}
 use Rattle.path_runs.specs.Spelling.{spelling_of}
-use Rattle.path_runs.proofs.lemmas.gaps.StretchLemmas.{spelling_of-stretch, spelling_of-whole}
+use Rattle.path_runs.proofs.lemmas.gaps.GapSpellingLemmas.{spelling_of-run, spelling_of-whole}
 use Rattle.path_runs.proofs.canonical.canonical.Goals as goal
 
 pub returns-then-bytes-lt2-clause-bytes : goal.returns-then-bytes-lt2-clause-bytes
@@ -17,7 +17,7 @@ returns-then-bytes-lt2-clause-bytes c =
 pub returns-clause-bytes : goal.returns-clause-bytes
 returns-clause-bytes c =
     let bytes = c.trimmed-bytes in
-    let stretch = spelling_of-stretch bytes.result.now c.first_gap-gap.result c.if-bytes-lt2.false
+    let run = spelling_of-run bytes.result.now c.first_gap-gap.result c.if-bytes-lt2.false
     bytes.ensures.ends c.first_gap-gap.ensures in
     c.from.ensures
     ∙ rw (
@@ -26,4 +26,4 @@ returns-clause-bytes c =
       c.in_ok-spelling.ensures.bytes,
       c.from_bytes-2.ensures.bytes,
     )
-    (sym stretch ∙ ap spelling_of bytes.ensures.same)
+    (sym run ∙ ap spelling_of bytes.ensures.same)

@@ -20,24 +20,24 @@ map-Drains {S} {A} {B} {steps} v xs ys {s} drains yields =
 
 pub returns-clause-succeeds : goal.returns-clause-succeeds
 returns-clause-succeeds c = λ none.
-    let left = c.args.components in
+    let walk = c.args.components in
     let bytes_of : Path → List ℕ = λ path. path.bytes.now in
-    c.from_iter.ensures.succeeds (JoinsFit-none bytes_of (map value_bytes (cursor_values left))
+    c.from_iter.ensures.succeeds (JoinsFit-none bytes_of (map value_bytes (cursor_values walk))
     (ap (map value_bytes) none)
     (YieldsList-from_map_by _ bytes_of value_bytes
-    (YieldsList-at c.map.ensures.source (Components-yields left))
+    (YieldsList-at c.map.ensures.source (Components-yields walk))
     c.map.ensures.closure
     (λ x r q k. search (rules, tests))))
 
 pub returns-clause-bytes : goal.returns-clause-bytes
 returns-clause-bytes c =
     let bytes_of : Path → List ℕ = λ path. path.bytes.now in
-    let left = c.args.components in
+    let walk = c.args.components in
     IfOk-weaker c.from_iter.result _ _ (λ p joins. joins.bytes
-    ∙ ap (join_all_of []) (map-Drains bytes_of joins.paths (map value_bytes (cursor_values left))
+    ∙ ap (join_all_of []) (map-Drains bytes_of joins.paths (map value_bytes (cursor_values walk))
     joins.all_items
     (YieldsList-from_map_by _ bytes_of value_bytes
-    (YieldsList-at c.map.ensures.source (Components-yields left))
+    (YieldsList-at c.map.ensures.source (Components-yields walk))
     c.map.ensures.closure
     (λ x r q k. search (rules, tests))))
-    ∙ join_all_of-values (cursor_rest left)) c.from_iter.ensures.ok
+    ∙ join_all_of-values (cursor_rest walk)) c.from_iter.ensures.ok

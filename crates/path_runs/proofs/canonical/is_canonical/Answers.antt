@@ -3,7 +3,7 @@ use Rattle.std.proofs.lemmas.Bool.{lt-ltb}
 use Rattle.path_runs.specs.Spelling.{spelling_of}
 use Rattle.unix_path.specs.Parts.{values}
 use Rattle.path_runs.proofs.lemmas.gaps.GaplessLemmas.{own_if_gapless, rest-all, tail_respelled}
-use Rattle.path_runs.proofs.lemmas.gaps.StretchLemmas.{spelling_of-short}
+use Rattle.path_runs.proofs.lemmas.gaps.GapSpellingLemmas.{spelling_of-short}
 use Rattle.path_runs.proofs.canonical.is_canonical.Goals as goal
 
 pub returns-then-bytes-len : goal.returns-then-bytes-len

@@ -1,5 +1,5 @@
 use Rattle.std.proofs.Common.{◌∙◌}
-use Rattle.path_runs.proofs.lemmas.gaps.StretchLemmas.{rest-ends}
+use Rattle.path_runs.proofs.lemmas.gaps.GapSpellingLemmas.{rest-ends}
 use Rattle.path_runs.proofs.canonical.trimmed.Goals as goal
 
 pub returns-clause-ends : goal.returns-clause-ends

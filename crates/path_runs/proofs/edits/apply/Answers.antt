@@ -12,7 +12,7 @@ loop-done-preserved c =
       so_far = rw pushed.items
           (HasApplied-more (path_bytes c.args.path.now) c.args.edits.now c.loop-done.done _ _ _ _ _
           h.so_far c.loop-done-test.true one.ok one.value);
-      known = one.known;
+      cache = one.cache;
       len = omega (arith, pushed.len, h.len);
       capacity = omega (arith, pushed.capacity, h.capacity);
     }

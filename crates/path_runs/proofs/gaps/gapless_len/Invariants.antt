@@ -2,7 +2,7 @@ use Rattle.std.proofs.Common.{◌≡◌, ℕ, ◌+◌, ◌-◌, ◌<◌, false}
 use Rattle.path_runs.specs.Gaps.{is_gap}
 use Rattle.path_runs.proofs.gaps.gapless_len.Given as goal
 
--- no gap begins so far
+-- no gap begins before index `at`
 abbrev pub invariant-loop-at : goal.invariant-loop-at
 invariant-loop-at l = record {
   in_range : l.at < l.last + 16;

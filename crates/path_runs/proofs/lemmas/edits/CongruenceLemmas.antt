@@ -1,4 +1,4 @@
--- What an edit leaves and answers depends on the path's values alone.
+-- The components that an edit leaves, and its answer, depend only on the path's components.
 use Rattle.std.proofs.Common.{◌≡◌, ℕ, ◌-◌, cond, eqb, List, [], ◌∷◌, ◌++◌, length, is_some, refl}
 use Rattle.std.proofs.Common.{sym, ap, ap₂, subst, ◌∙◌, eqb-true}
 use Rattle.std.specs.List.{AllZip}
@@ -26,16 +26,16 @@ use Rattle.path_runs.proofs.lemmas.joins.LeadLemmas.{joins_same, roots_same}
 pub depths_same : (s t : List ℕ) → SameValues s t → depth_of s ≡ depth_of t
 depths_same s t e = ap₂ (λ n rooted. n - cond rooted 1 0) (ap length e) (roots_same s t e)
 
--- equal paths have equal rests
+-- equal paths without their first k and last m components are equal
 pub rests_same : (s t : List ℕ) (k m : ℕ) → SameValues s t → SameValues (rest s k m) (rest t k m)
 rests_same s t k m e = values-rest s k m ∙ ap (middle k m) e ∙ sym (values-rest t k m)
 
--- two edits leave equal paths and answer the same
-abbrev Alike : List ℕ × Answer → List ℕ × Answer → Type 0
-Alike p q = SameValues p.0 q.0 × (p.1 ≡ q.1)
+-- two edits leave equal paths and return the same answer
+abbrev SameOutcome : List ℕ × Answer → List ℕ × Answer → Type 0
+SameOutcome p q = SameValues p.0 q.0 × (p.1 ≡ q.1)
 
--- a pop of equal paths leaves equal paths and answers the same
-pop_same : (s t : List ℕ) → SameValues s t → Alike (edit_of s Pop) (edit_of t Pop)
+-- a pop of equal paths leaves equal paths and returns the same answer
+pop_same : (s t : List ℕ) → SameValues s t → SameOutcome (edit_of s Pop) (edit_of t Pop)
 unfolding popped_of parent_of
 pop_same s t e =
     let depths = depths_same s t e in
@@ -43,7 +43,7 @@ pop_same s t e =
     (λ root. rw (depths, root) (e, refl))
     (λ deep. rw (depths, deep) (rests_same s t 0 1 e, refl))
 
--- what stands before the file names of equal paths is equal
+-- equal paths, each up to its file name, are equal
 before_same : (s t : List ℕ) → SameValues s t → SameValues (before_name_of s) (before_name_of t)
 unfolding before_name_of
 before_same s t e = by_test (is_some (file_name_of (values t)))
@@ -71,19 +71,20 @@ added_extension_same s t x e = by_test (eqb (length x) 0)
     (λ some. values-added_extension_of s x some ∙ ap (renamed (λ name. name ++ 46 ∷ x)) e
     ∙ sym (values-added_extension_of t x some))
 
--- what an edit with the extension x leaves of s, and answers: u, or s itself if x has a slash
+-- the result and the answer of setting or adding the extension x to s: the result is u, or s itself
+-- if x has a slash
 abbrev pub unless_slash : List ℕ → List ℕ → List ℕ → List ℕ × Answer
 unless_slash s x u = cond (has_slash x) (s, Separator) (u, Flag (is_some (file_name_of (values s))))
 
--- an edit with the extension x that leaves equal paths u and v answers the same on equal paths
+-- for equal paths s and t, and equal results u and v, setting or adding x has the same outcome
 unless_slash_same : (s t x u v : List ℕ) → SameValues s t → SameValues u v
-    → Alike (unless_slash s x u) (unless_slash t x v)
+    → SameOutcome (unless_slash s x u) (unless_slash t x v)
 unless_slash_same s t x u v e f = by_test (has_slash x)
     (λ y. rw y (e, refl))
     (λ n. rw n (f, ap (λ vs. Flag (is_some (file_name_of vs))) e))
 
--- one edit of equal paths leaves equal paths and answers the same
-one_same : (s t : List ℕ) (e : EditValue) → SameValues s t → Alike (edit_of s e) (edit_of t e)
+-- one edit of equal paths leaves equal paths and returns the same answer
+one_same : (s t : List ℕ) (e : EditValue) → SameValues s t → SameOutcome (edit_of s e) (edit_of t e)
 one_same s t (Push b) k = (joins_same s t b b k refl, refl)
 one_same s t Pop k = pop_same s t k
 one_same s t (SetFileName n) k = (with_name_same s t n k, refl)
@@ -95,13 +96,13 @@ one_same s t (AddExtension x) k =
     (added_extension_same s t x k)
 one_same s t Clear k = (refl, refl)
 
--- the same edit, or a push of equal paths, leaves equal paths and answers the same
+-- the same edit, or a push of equal paths, leaves equal paths and returns the same answer
 edit_same : (s t : List ℕ) (d e : EditValue) → SameValues s t → SameEdit d e
-    → Alike (edit_of s d) (edit_of t e)
+    → SameOutcome (edit_of s d) (edit_of t e)
 edit_same s t (Push b) (Push c) k h = (joins_same s t b c k h, refl)
-edit_same s t d e k h = subst (λ e. Alike (edit_of s d) (edit_of t e)) h (one_same s t d k)
+edit_same s t d e k h = subst (λ e. SameOutcome (edit_of s d) (edit_of t e)) h (one_same s t d k)
 
--- the same edits of equal paths leave equal paths and answer the same
+-- the same edits of equal paths leave equal paths and return the same answers
 pub edits_same : (s t : List ℕ) (ds es : List EditValue) → SameValues s t → AllZip SameEdit ds es
     → SameValues (edits_of s ds).0 (edits_of t es).0 × ((edits_of s ds).1 ≡ (edits_of t es).1)
 edits_same s t [] [] k h = (k, refl)

@@ -1,4 +1,4 @@
--- A list of edits, with one more at its end.
+-- A list of edits with one more edit at its end.
 use Rattle.std.proofs.Common.{◌≡◌, ℕ, ◌+◌, ◌<◌, List, [], ◌∷◌, ◌++◌, length, take, get_or, refl}
 use Rattle.std.proofs.Common.{map, sym, ap, ap₂, ◌∙◌}
 use Rattle.std.proofs.lemmas.List.{map_more}
@@ -7,30 +7,31 @@ use Rattle.path_runs.specs.declared.edits.Edit.{Edit}
 use Rattle.path_runs.specs.EditLists.{EditValue, edit_of, edits_of}
 use Rattle.path_runs.specs.EditViews.{edit_value}
 
--- the bytes that these edits leave
-abbrev left_of : List ℕ → List EditValue → List ℕ
-left_of s es = (edits_of s es).0
+-- the path's bytes after these edits
+abbrev result_of : List ℕ → List EditValue → List ℕ
+result_of s es = (edits_of s es).0
 
--- one edit more is made on what the edits before it leave
-left_of-append : (s : List ℕ) (es : List EditValue) (e : EditValue)
-    → left_of s (es ++ e ∷ []) ≡ (edit_of (left_of s es) e).0
-left_of-append s [] e = refl
-left_of-append s (d ∷ es) e = left_of-append (edit_of s d).0 es e
+-- one more edit is applied to the result of the edits before it
+result_of-append : (s : List ℕ) (es : List EditValue) (e : EditValue)
+    → result_of s (es ++ e ∷ []) ≡ (edit_of (result_of s es) e).0
+result_of-append s [] e = refl
+result_of-append s (d ∷ es) e = result_of-append (edit_of s d).0 es e
 
--- one edit more has its answer behind those of the edits before it
+-- the answer of one more edit follows the answers of the edits before it
 answers-append : (s : List ℕ) (es : List EditValue) (e : EditValue)
-    → (edits_of s (es ++ e ∷ [])).1 ≡ (edits_of s es).1 ++ (edit_of (left_of s es) e).1 ∷ []
+    → (edits_of s (es ++ e ∷ [])).1 ≡ (edits_of s es).1 ++ (edit_of (result_of s es) e).1 ∷ []
 answers-append s [] e = refl
 answers-append s (d ∷ es) e =
     ap (λ more. (edit_of s d).1 ∷ more) (answers-append (edit_of s d).0 es e)
 
--- what the first i edits of s leave, and what they answer
+-- `bytes` is the result of applying the first i edits to s, and `answers` are their answers
 pub record HasApplied (s : List ℕ) (edits : List Edit) (i : ℕ) (bytes : List ℕ)
     (answers : List Answer) : Type 0 where
   pub bytes_are : bytes ≡ (edits_of s (map edit_value (take i edits))).0
   pub answers_are : answers ≡ (edits_of s (map edit_value (take i edits))).1
 
--- edit i, made on what the first i edits leave, gives what i + 1 edits leave, and one answer more
+-- applying edit i to the result of the first i edits has the result of the first i + 1 edits, and
+-- adds one answer
 pub HasApplied-more : (s : List ℕ) (es : List Edit) (i : ℕ) (d : Edit) (t u : List ℕ)
     (answers : List Answer) (a : Answer) → HasApplied s es i t answers → i < length es
     → u ≡ (edit_of t (edit_value (get_or es i d))).0
@@ -40,7 +41,7 @@ HasApplied-more s es i d t u answers a h l bytes answer =
     let more = map_more edit_value es i d l in
     record {
       bytes_are = bytes ∙ ap (λ t. (edit_of t e).0) h.bytes_are
-          ∙ sym (ap (left_of s) more ∙ left_of-append s (map edit_value (take i es)) e);
+          ∙ sym (ap (result_of s) more ∙ result_of-append s (map edit_value (take i es)) e);
       answers_are = ap₂ (λ bs a. bs ++ a ∷ []) h.answers_are
           (answer ∙ ap (λ t. (edit_of t e).1) h.bytes_are)
           ∙ sym (ap (λ es. (edits_of s es).1) more

@@ -1,4 +1,4 @@
--- What edits leave of the first bytes of a path, and which edits change nothing.
+-- Which of a path's leading bytes edits keep, and which edits change nothing.
 use Rattle.std.proofs.Common.{◌≡◌, ℕ, zero, suc, ◌+◌, ◌-◌, ◌≤◌, false, eqb, List, [], ◌∷◌}
 use Rattle.std.proofs.Common.{◌++◌, ◌<◌, length, get_or, take, map, None, is_some, refl, sym}
 use Rattle.std.proofs.Common.{ap, ◌∙◌, arith, length-append, length-take-le}
@@ -8,27 +8,29 @@ use Rattle.unix_path.specs.Parts.{Part, RootDir, is_rooted, parts, values}
 use Rattle.unix_path.specs.Rest.{rest}
 use Rattle.unix_path.specs.Parents.{depth_of, parent_of}
 use Rattle.unix_path.specs.Names.{file_name_of}
-use Rattle.unix_path.specs.Joins.{is_open, join_of}
+use Rattle.unix_path.specs.Joins.{needs_no_separator, join_of}
 use Rattle.unix_path.specs.Edits.{before_name_of, popped_of, with_name_of}
 use Rattle.unix_path.specs.Extensions.{name_end_of}
 use Rattle.unix_bytes.proofs.lemmas.lists.ListLemmas.{by_test}
-use Rattle.unix_path.proofs.lemmas.edits.JoinLemmas.{join_of_closed, join_of_open, join_of_rooted}
-use Rattle.unix_path.proofs.lemmas.edits.JoinLemmas.{length-join_of_closed, length-join_of_open}
+use Rattle.unix_path.proofs.lemmas.edits.JoinLemmas.{join_of_separator, join_of_no_separator}
+use Rattle.unix_path.proofs.lemmas.edits.JoinLemmas.{join_of_rooted}
+use Rattle.unix_path.proofs.lemmas.edits.JoinLemmas.{length-join_of_separator}
+use Rattle.unix_path.proofs.lemmas.edits.JoinLemmas.{length-join_of_no_separator}
 use Rattle.unix_path.proofs.lemmas.names.NameEndLemmas.{file_name_of-no_name_end}
 use Rattle.unix_path.proofs.lemmas.names.ParentLemmas.{parent_of-none, parent_of-root}
 use Rattle.unix_path.proofs.lemmas.parts.PartLemmas.{parts-nil, parts-root}
 use Rattle.unix_path.proofs.lemmas.parts.PieceLemmas.{inner_parts-nil}
 use Rattle.unix_path.proofs.lemmas.rests.RestLemmas.{take-rest}
-use Rattle.path_runs.specs.declared.edits.known.Known.{Known}
-use Rattle.path_runs.specs.Known.{IsKnown}
-use Rattle.path_runs.proofs.lemmas.edits.KnownLemmas.{KnowsEnd-kept, KnowsStem-kept}
+use Rattle.path_runs.specs.declared.edits.cache.ScanCache.{ScanCache}
+use Rattle.path_runs.specs.ScanCache.{IsCacheOf}
+use Rattle.path_runs.proofs.lemmas.edits.ScanCacheLemmas.{CachesEnd-unchanged, CachesStem-unchanged}
 
--- both begin with the same n bytes, and the second has as many
+-- s and t have the same first n bytes, and t has at least n bytes
 pub record Keeps (s t : List ℕ) (n : ℕ) : Type 0 where
   pub in_range : n ≤ length t
   pub same : take n s ≡ take n t
 
--- a string with more behind its first n bytes keeps these
+-- a string that consists of the first n bytes of s and more bytes keeps these n bytes
 pub keeps-front : (s x y : List ℕ) (n : ℕ) → n ≤ length s → y ≡ take n s ++ x → Keeps s y n
 keeps-front s x y n l is =
     let size = length-take-le n s l in record {
@@ -37,37 +39,39 @@ keeps-front s x y n l is =
           ∙ take-take n n s (omega arith));
     }
 
--- fewer bytes are kept too
+-- a string that keeps n bytes also keeps each smaller number of bytes
 pub keeps-fewer : (s t : List ℕ) (k n : ℕ) → Keeps s t n → k ≤ n → Keeps s t k
 keeps-fewer s t k n h l = record {
   in_range = omega (arith, h.in_range);
   same = sym (take-take k n s l) ∙ ap (take k) h.same ∙ take-take k n t l;
 }
 
--- what is known of a string is known of one that keeps all its bytes
-IsKnown-keeps : (s t : List ℕ) (k : Known) → IsKnown s k → Keeps s t (length s) → IsKnown t k
-IsKnown-keeps s t k h keeps = record {
-  end = KnowsEnd-kept s t (length s) k.end k.len h.end keeps.in_range keeps.same h.end.in_range;
+-- a cache of a string is also a cache of each string that keeps all its bytes
+IsCacheOf-keeps : (s t : List ℕ) (k : ScanCache) → IsCacheOf s k → Keeps s t (length s)
+    → IsCacheOf t k
+IsCacheOf-keeps s t k h keeps = record {
+  end = CachesEnd-unchanged s t (length s) k.end k.len h.end keeps.in_range keeps.same
+      h.end.in_range;
   stack = h.stack;
-  stems = λ i l. KnowsStem-kept s t (length s) _ (h.stems i l) keeps.in_range keeps.same
+  stems = λ i l. CachesStem-unchanged s t (length s) _ (h.stems i l) keeps.in_range keeps.same
       (h.stems i l).in_range;
 }
 
--- a join with a path that has no root keeps all bytes
+-- a join with a rootless path keeps all bytes of the first path
 keeps-join : (s b : List ℕ) → is_rooted b ≡ false → Keeps s (join_of s b) (length s)
-keeps-join s b r = by_test (is_open s)
+keeps-join s b r = by_test (needs_no_separator s)
     (λ o. keeps-front s b (join_of s b) (length s) (omega arith)
-    (join_of_open s b r o ∙ ap (λ s. s ++ b) (sym (take-length s))))
+    (join_of_no_separator s b r o ∙ ap (λ s. s ++ b) (sym (take-length s))))
     (λ o. keeps-front s (47 ∷ [] ++ b) (join_of s b) (length s) (omega arith)
-    (join_of_closed s b r o ∙ append_assoc s (47 ∷ []) b
+    (join_of_separator s b r o ∙ append_assoc s (47 ∷ []) b
     ∙ ap (λ s. s ++ (47 ∷ [] ++ b)) (sym (take-length s))))
 
--- what is known of a path is known of its join with a path that has no root
-pub IsKnown_join : (s b : List ℕ) (k : Known) → IsKnown s k → is_rooted b ≡ false
-    → IsKnown (join_of s b) k
-IsKnown_join s b k h r = IsKnown-keeps s (join_of s b) k h (keeps-join s b r)
+-- a cache of a path is also a cache of its join with a rootless path
+pub IsCacheOf_join : (s b : List ℕ) (k : ScanCache) → IsCacheOf s k → is_rooted b ≡ false
+    → IsCacheOf (join_of s b) k
+IsCacheOf_join s b k h r = IsCacheOf-keeps s (join_of s b) k h (keeps-join s b r)
 
--- a path in which something else stands behind the first n bytes keeps these, if it has as many
+-- a path of at least n bytes whose bytes after the first n are replaced keeps the first n
 pub keeps-replaced : (s t v y x : List ℕ) (n : ℕ) → v ≡ s → n ≤ length v
     → t ≡ (take n s ++ y) ++ x → Keeps v t n
 keeps-replaced s t v y x n view few made = keeps-front v (y ++ x) t n few
@@ -77,46 +81,46 @@ keeps-replaced s t v y x n view few made = keeps-front v (y ++ x) t n few
 keeps-self : (s : List ℕ) → Keeps s s (length s)
 keeps-self s = record { in_range = omega arith; same = refl }
 
--- the rest before some last parts keeps its bytes
+-- a path cut before its last m components keeps all bytes before the cut
 keeps-rest : (s : List ℕ) (m : ℕ) → Keeps s (rest s 0 m) (length (rest s 0 m))
 keeps-rest s m = record {
   in_range = omega arith;
   same = take-rest s m ∙ sym (take-length (rest s 0 m));
 }
 
--- a pop keeps what it leaves
+-- a pop keeps all bytes that it doesn't remove
 pub keeps-pop : (s t : List ℕ) (n : ℕ) → t ≡ popped_of s → n ≡ length t → Keeps s t n
 unfolding popped_of parent_of
 keeps-pop s t n e size = by_test (eqb (depth_of s) 0)
     (λ root. rw (size, e, root) (keeps-self s))
     (λ deep. rw (size, e, deep) (keeps-rest s 1))
 
--- a path with a root and no part behind it has no parent
-pub parent_of-bare : (s : List ℕ) (end : ℕ) → 0 < length s → get_or s 0 0 ≡ 47
+-- a path whose only component is the root has no parent
+pub parent_of-root_only : (s : List ℕ) (end : ℕ) → 0 < length s → get_or s 0 0 ≡ 47
     → parts (take end s) ≡ parts s → end ≤ 1 → None ≡ parent_of s
 unfolding values
-parent_of-bare [] end some r same few = absurd (omega arith)
-parent_of-bare (b ∷ s) zero some r same few =
+parent_of-root_only [] end some r same few = absurd (omega arith)
+parent_of-root_only (b ∷ s) zero some r same few =
     parent_of-none (b ∷ s) (ap (map (λ (p : Part). p.value)) (sym same ∙ parts-nil))
-parent_of-bare (b ∷ s) (suc zero) some r same few =
+parent_of-root_only (b ∷ s) (suc zero) some r same few =
     parent_of-root (b ∷ s) [] (ap (map (λ (p : Part). p.value)) (sym same ∙ parts-root (b ∷ []) r)
     ∙ ap (λ (ps : List Part). RootDir ∷ map (λ p. p.value) ps) (inner_parts-nil 1))
-parent_of-bare (b ∷ s) (suc (suc n)) some r same few = absurd (omega arith)
+parent_of-root_only (b ∷ s) (suc (suc n)) some r same few = absurd (omega arith)
 
--- a path without a name stays whole in front of a new name
+-- if a path has no file name, a new name is joined to the whole path
 pub with_name_of-nameless : (s name : List ℕ) → None ≡ name_end_of s
     → with_name_of s name ≡ join_of s name
 unfolding before_name_of
 with_name_of-nameless s name e = rw (file_name_of-no_name_end s e) refl
 
--- what stands before the file name keeps its bytes
+-- a path cut before its file name keeps all bytes before the cut
 keeps-before : (s : List ℕ) → Keeps s (before_name_of s) (length (before_name_of s))
 unfolding before_name_of
 keeps-before s = by_test (is_some (file_name_of (values s)))
     (λ named. rw named (keeps-rest s 1))
     (λ nameless. rw nameless (keeps-self s))
 
--- a new name keeps all bytes that stand before it and a slash
+-- setting a file name keeps all bytes of the result except the name and one byte before it
 pub keeps-name : (s t name : List ℕ) (n : ℕ) → t ≡ with_name_of s name
     → n ≡ length t - (length name + 1) → Keeps s t n
 keeps-name s t name n made size =
@@ -128,9 +132,9 @@ keeps-name s t name n made size =
       same = ap (λ k. take k s) none ∙ sym (ap (λ k. take k t) none);
     })
     (λ r.
-    let few : n ≤ length b = by_test (is_open b)
-    (λ o. omega (arith, ap length made, length-join_of_open b name r o))
-    (λ o. omega (arith, ap length made, length-join_of_closed b name r o)) in
+    let few : n ≤ length b = by_test (needs_no_separator b)
+    (λ o. omega (arith, ap length made, length-join_of_no_separator b name r o))
+    (λ o. omega (arith, ap length made, length-join_of_separator b name r o)) in
     let before = keeps-fewer s b n (length b) (keeps-before s) few in
     let joined = keeps-fewer b (join_of b name) n (length b) (keeps-join b name r) few in
     record { in_range = omega arith; same = before.same ∙ joined.same ∙ ap (take n) (sym made) })

@@ -9,12 +9,12 @@ use Rattle.unix_path.specs.Parents.{parent_of}
 use Rattle.unix_path.specs.Names.{file_name_of, split_name, stem_of, extension_of}
 use Rattle.unix_path.specs.Edits.{with_extension_of}
 use Rattle.unix_path.specs.Extensions.{has_slash}
-use Rattle.unix_path.specs.Joins.{is_open}
+use Rattle.unix_path.specs.Joins.{needs_no_separator}
 use Rattle.unix_path.proofs.lemmas.edits.EditLemmas.{dot_before-some}
 use Rattle.path_runs.specs.declared.edits.Answer.TheVariants.{Flag, Separator}
-use Rattle.path_runs.specs.EditLaws.{HasNone, IsSimpleExtension, TakesExtension}
+use Rattle.path_runs.specs.EditLaws.{HasNoByte, IsSimpleExtension, SetsExtension}
 use Rattle.unix_bytes.proofs.lemmas.lists.ListLemmas.{by_test}
-use Rattle.path_runs.proofs.lemmas.joins.BehindLemmas.{rest-behind}
+use Rattle.path_runs.proofs.lemmas.joins.AppendedLemmas.{rest-appended}
 use Rattle.path_runs.proofs.lemmas.names.ExtensionCutLemmas.{with_extension_of-cut}
 use Rattle.path_runs.proofs.lemmas.names.DotLemmas.{SplitCase, Whole, Cut, split_case}
 use Rattle.path_runs.proofs.lemmas.names.DotLemmas.{split_name-dot}
@@ -26,7 +26,7 @@ use Rattle.std.proofs.lemmas.List.Elements.{All-append, All-cons, All-take}
 use Rattle.unix_path.proofs.lemmas.names.NameLemmas.{split_name-stem}
 use Rattle.path_runs.proofs.lemmas.joins.SiblingLemmas.{parent_of-name, file_name_of-name}
 
--- the stem of a name has a byte
+-- the stem of a name has at least one byte
 some_stem : (name : List ℕ) → 0 < length name → 0 < length (split_name name).0
 some_stem name l = by (split_case name)
   where
@@ -34,7 +34,7 @@ some_stem name l = by (split_case name)
     by (Whole e) = subst (λ c. 0 < length c.0) (sym e) l
     by (Cut b f x w e) = subst (λ c. 0 < length c.0) (sym e) (omega arith)
 
--- t has a new file name, of this stem and the extension x, and the parent of s
+-- t has a new file name, with this stem and the extension x, and the parent of s
 record NewExtension (s t stem x : List ℕ) : Type 0 where
   pub name : List ℕ
   pub file_name : file_name_of (values t) ≡ Some name
@@ -42,28 +42,29 @@ record NewExtension (s t stem x : List ℕ) : Type 0 where
   pub parent : parent_of t ≡ parent_of s
 
 -- a stem with a dot and an extension without a slash is a name
-new_name : (name : List ℕ) (b : ℕ) (x : List ℕ) → IsName name → HasNone 47 (b ∷ x)
+new_name : (name : List ℕ) (b : ℕ) (x : List ℕ) → IsName name → HasNoByte 47 (b ∷ x)
     → IsName ((split_name name).0 ++ 46 ∷ b ∷ x)
 new_name name b x h k =
     let stem = (split_name name).0 in
     let some = some_stem name h.some in
-    let stem_bytes = subst (HasNone 47) (split_name-stem name)
+    let stem_bytes = subst (HasNoByte 47) (split_name-stem name)
     (All-take (λ c. c ≢ 47) (length stem) name (no_slash_byte name h.no_slash)) in
     long-name (stem ++ 46 ∷ b ∷ x) (omega (arith, length-append stem (46 ∷ b ∷ x)))
     (All-append (λ c. c ≢ 47) stem (46 ∷ b ∷ x) stem_bytes
     (All-cons (λ c. c ≢ 47) 46 (b ∷ x) (λ e. absurd (omega arith)) k))
 
--- a path of an open prefix and one name has that prefix's rest as its parent
-parent_of-open : (s u b name : List ℕ) → s ≡ u ++ b → is_open u ≡ true
+-- if a path is the string u, which is empty or ends in a slash, and then one name, its parent is u
+-- without trailing filler
+parent_of-open : (s u b name : List ℕ) → s ≡ u ++ b → needs_no_separator u ≡ true
     → values s ≡ values u ++ Normal name ∷ [] → parent_of s ≡ Some (rest u 0 0)
 parent_of-open s u b name is o e =
     parent_of-name s name (values u) e
     ∙ ap Some (ap (λ s. rest s 0 1) is
-    ∙ rest-behind u b (Normal name) o (ap values (sym is) ∙ e))
+    ∙ rest-appended u b (Normal name) o (ap values (sym is) ∙ e))
 
--- a path, cut at its file name, has the new extension after it was set
+-- a path, cut at its file name, has the new extension once it is set
 new_extension-cut : (s name : List ℕ) (b : ℕ) (x : List ℕ) → file_name_of (values s) ≡ Some name
-    → NameCut s name → HasNone 46 (b ∷ x) → HasNone 47 (b ∷ x)
+    → NameCut s name → HasNoByte 46 (b ∷ x) → HasNoByte 47 (b ∷ x)
     → NewExtension s (with_extension_of s (b ∷ x)) (split_name name).0 (b ∷ x)
 new_extension-cut s name b x e c dot slash =
     let stem = (split_name name).0 in
@@ -84,7 +85,7 @@ new_extension-cut s name b x e c dot slash =
           (c.whole ∙ append_assoc c.prefix name c.back) c.ends c.before);
     }
 
--- a path with a file name has the new extension after it was set
+-- a path with a file name has the new extension once it is set
 set_extension : (s name x : List ℕ) → file_name_of (values s) ≡ Some name
     → IsSimpleExtension x
     → NewExtension s (with_extension_of s x) (split_name name).0 x
@@ -92,8 +93,9 @@ set_extension s name [] e h = absurd (h.some refl)
 set_extension s name (b ∷ x) e h =
     new_extension-cut s name b x e (name_cut s name e) h.no_dot h.no_slash
 
--- a path that takes an extension has a file name, and then a new one with that extension
-new_extension : (s x t : List ℕ) → TakesExtension s x t
+-- a path that accepts an extension has a file name, and setting it gives the path a new file name
+-- with that extension
+new_extension : (s x t : List ℕ) → SetsExtension s x t
     → (name : List ℕ) × (file_name_of (values s) ≡ Some name)
     × NewExtension s t (split_name name).0 x
 new_extension s x t h = by_test (has_slash x)
@@ -112,21 +114,21 @@ new_extension s x t h = by_test (has_slash x)
       subst (λ t. NewExtension s t (split_name name).0 x) e (set_extension s name x is h.0),
     )
 
--- a path that takes an extension keeps its stem
-pub stem_of-new_extension : (s x t : List ℕ) → TakesExtension s x t
+-- a path that accepts an extension keeps its stem
+pub stem_of-new_extension : (s x t : List ℕ) → SetsExtension s x t
     → stem_of (values t) ≡ stem_of (values s)
 stem_of-new_extension s x t h =
     let new = new_extension s x t h in
     ap (option_map (λ name. (split_name name).0)) new.2.file_name ∙ ap (λ c. Some c.0) new.2.split
     ∙ sym (ap (option_map (λ name. (split_name name).0)) new.1)
 
--- a path that takes an extension has it
-pub extension_of-new_extension : (s x t : List ℕ) → TakesExtension s x t
+-- a path that accepts an extension has it afterwards
+pub extension_of-new_extension : (s x t : List ℕ) → SetsExtension s x t
     → extension_of (values t) ≡ Some x
 extension_of-new_extension s x t h =
     let new = new_extension s x t h in
     ap (option_and_then (λ name. (split_name name).1)) new.2.file_name ∙ ap (λ c. c.1) new.2.split
 
--- a path that takes an extension keeps its parent
-pub parent_of-new_extension : (s x t : List ℕ) → TakesExtension s x t → parent_of t ≡ parent_of s
+-- a path that accepts an extension keeps its parent
+pub parent_of-new_extension : (s x t : List ℕ) → SetsExtension s x t → parent_of t ≡ parent_of s
 parent_of-new_extension s x t h = (new_extension s x t h).2.parent

@@ -1,4 +1,4 @@
--- Sixteen bytes at once, searched for a gap.
+-- A search for a gap in 16 bytes at once.
 use Rattle.std.proofs.Common.{◌≡◌, ℕ, ◌+◌, ◌<◌, ◌≤◌, Bool, eqb, ◌&&◌, ◌||◌, List, length, get_or}
 use Rattle.std.proofs.Common.{ap₂, subst, arith, false, ⊎_elim}
 use Rattle.std.proofs.lemmas.Bool.{cases_lt}
@@ -9,16 +9,17 @@ use Rattle.unix_bytes.proofs.lemmas.vectors.TestLaneLemmas.{Tells-both, Tells-ei
 use Rattle.unix_bytes.proofs.lemmas.vectors.TestLaneLemmas.{TellFrom}
 use Rattle.path_runs.specs.Gaps.{is_gap}
 
--- a gap begins at byte x, which y and z follow
+-- a gap begins at a byte x that is followed by y and z
 abbrev gap : ℕ → ℕ → ℕ → Bool
 gap x y z = eqb x 47 && (eqb y 47 || (eqb y 46 && eqb z 47))
 
--- the lanes of 16 bytes that tell where a gap begins, by the bytes that follow them
+-- the lanes that show at which of 16 bytes a gap begins, from these bytes and the two bytes after
+-- each
 abbrev gap_lanes : List ℕ → List ℕ → List ℕ → List ℕ
 gap_lanes here next after =
     both (hits 16 here 47) (either (hits 16 next 47) (both (hits 16 next 46) (hits 16 after 47)))
 
--- a lane tells whether a gap begins at its byte
+-- a lane shows whether a gap begins at its byte
 Tells-gap : (here next after : List ℕ) (i : ℕ) → length here ≡ 16 → length next ≡ 16
     → length after ≡ 16 → i < 16
     → Tells 16 (gap_lanes here next after) i
@@ -28,13 +29,14 @@ Tells-gap here next after i l m n few =
     (Tells-either few (Tells-hits 16 next 47 i m few)
     (Tells-both few (Tells-hits 16 next 46 i m few) (Tells-hits 16 after 47 i n few)))
 
--- the lanes of the 16 bytes from `at` on
+-- the lanes of the 16 bytes at index `at`
 abbrev lanes : List ℕ → ℕ → List ℕ
 lanes s at = gap_lanes (chunk at 16 s) (chunk (at + 1) 16 s) (chunk (at + 2) 16 s)
 
--- they tell where gaps begin
-pub gaps_told : (s : List ℕ) (at : ℕ) → at + 18 ≤ length s → TellFrom 16 (lanes s at) (is_gap s) at
-gaps_told s at l = record {
+-- these lanes show where gaps begin
+pub lanes_show_gaps : (s : List ℕ) (at : ℕ) → at + 18 ≤ length s
+    → TellFrom 16 (lanes s at) (is_gap s) at
+lanes_show_gaps s at l = record {
   some = omega arith;
   few = omega arith;
   each = λ i few. subst (Tells 16 (lanes s at) i)

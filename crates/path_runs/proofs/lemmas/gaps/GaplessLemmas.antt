@@ -1,4 +1,5 @@
--- A path is its own spelling exactly if it has no gap and ends in a part, or has one byte at most.
+-- A path is its own canonical form if and only if it has at most one byte, or has no gap and ends
+-- in a component.
 use Rattle.std.proofs.Common.{◌≡◌, ℕ, zero, suc, ◌+◌, ◌<◌, ◌≤◌, true, nat_eq, eqb, List, [], ◌∷◌}
 use Rattle.std.proofs.Common.{length, take, drop, sym, ap, ◌∙◌, arith, eqb-true, eq-eqb, ltb-true}
 use Rattle.std.proofs.Common.{ltb-false, length-append, length-take-le, take_all, ◌⊎◌, inl, inr}
@@ -12,12 +13,13 @@ use Rattle.unix_bytes.proofs.lemmas.lists.ListLemmas.{by_test}
 use Rattle.unix_path.proofs.lemmas.steps.SpanLemmas.{rest-trimmed, trims_end}
 use Rattle.path_runs.specs.Gaps.{is_gap, slashed_parts, FirstGap}
 use Rattle.path_runs.specs.Spelling.{spelling_of}
-use Rattle.path_runs.proofs.lemmas.gaps.KeptLemmas.{is_gap-behind, nothing_left}
-use Rattle.path_runs.proofs.lemmas.gaps.KeptLemmas.{slashed_parts-filler, slashed_parts-slash}
+use Rattle.path_runs.proofs.lemmas.gaps.FirstGapLemmas.{is_gap-after_start, no_parts_after_end}
+use Rattle.path_runs.proofs.lemmas.gaps.FirstGapLemmas.{slashed_parts-filler, slashed_parts-slash}
 use Rattle.path_runs.proofs.lemmas.spelling.LeanLemmas.{slashed_parts-length, spelling_of-shortest}
-use Rattle.path_runs.proofs.lemmas.gaps.StretchLemmas.{spelling_of-stretch, spelling_of-whole}
+use Rattle.path_runs.proofs.lemmas.gaps.GapSpellingLemmas.{spelling_of-run, spelling_of-whole}
 
--- the parts of a string that begins with a gap, each behind a slash, take fewer bytes than it
+-- the components of a string that begins with a gap, each after a slash, have fewer bytes than the
+-- string
 first_gap-longer : (s : List ℕ) → 0 < length s → is_gap s 0 ≡ true
     → length (slashed_parts s) < length s
 first_gap-longer [] l g = absurd (omega arith)
@@ -26,7 +28,7 @@ first_gap-longer (x ∷ []) l g =
     omega (
       arith,
       ap length (slashed_parts-slash x [] e),
-      ap length (nothing_left [] [] 0 (omega arith)),
+      ap length (no_parts_after_end [] [] 0 (omega arith)),
     )
 first_gap-longer (x ∷ y ∷ s) l g =
     let both = and_parts (eqb x 47) _ g in
@@ -37,30 +39,31 @@ first_gap-longer (x ∷ y ∷ s) l g =
       slashed_parts-length s,
     )
 
--- the parts from a gap on, each behind a slash, take fewer bytes than stand there
+-- the components after a gap, each after a slash, have fewer bytes than the string from the gap on
 gap-longer : (s : List ℕ) (n : ℕ) → n < length s → is_gap s n ≡ true
     → length (slashed_parts (drop n s)) + n < length s
 gap-longer [] n l g = absurd (omega arith)
 gap-longer (x ∷ s) zero l g = omega (arith, first_gap-longer (x ∷ s) l g)
 gap-longer (x ∷ s) (suc n) l g =
-    omega (arith, gap-longer s n (omega arith) (sym (is_gap-behind x s n) ∙ g))
+    omega (arith, gap-longer s n (omega arith) (sym (is_gap-after_start x s n) ∙ g))
 
--- the parts from a gap or the end on, each behind a slash, take no more bytes than stand there
-pub kept-length : (s : List ℕ) (n : ℕ) → n ≤ length s → (n < length s → is_gap s n ≡ true)
+-- the components after a gap or the end, each after a slash, have at most as many bytes as the
+-- string from there on
+pub gap_or_end-length : (s : List ℕ) (n : ℕ) → n ≤ length s → (n < length s → is_gap s n ≡ true)
     → n + length (slashed_parts (drop n s)) ≤ length s
-kept-length s n l g = by_test (ltb n (length s))
+gap_or_end-length s n l g = by_test (ltb n (length s))
     (λ e.
     let some = ltb-true n (length s) e in
     omega (arith, gap-longer s n some (g some)))
     (λ e.
     let all : length s ≤ n = ltb-false n (length s) e in
-    omega (arith, ap length (nothing_left [] s n all)))
+    omega (arith, ap length (no_parts_after_end [] s n all)))
 
--- a path that has a gap isn't its own spelling
+-- a path that has a gap isn't its own canonical form
 gap_respelled : (s : List ℕ) (n : ℕ) → 1 < length s → EndsInPart s → FirstGap s n
     → n < length s → s ≡ spelling_of (values s) → ⊥
 gap_respelled s n l ends h some own =
-    let is = ap length (own ∙ spelling_of-stretch s n l ends h) in
+    let is = ap length (own ∙ spelling_of-run s n l ends h) in
     omega (
       arith,
       is,
@@ -69,7 +72,7 @@ gap_respelled s n l ends h some own =
       gap-longer s n some (h.gap some),
     )
 
--- a path with filler behind its last part isn't its own spelling
+-- a path with filler after its last component isn't its own canonical form
 pub tail_respelled : (s t : List ℕ) → t ≡ rest s 0 0 → values t ≡ values s → length t < length s
     → s ≡ spelling_of (values s) → ⊥
 tail_respelled s t e same l own = by (spelling_of-shortest s t same)
@@ -85,7 +88,8 @@ rest-all s t e l =
     let is = e ∙ rest-trimmed s trim.len trim.in_range trim.same trim.ends in
     is ∙ take_all trim.len s (omega (arith, ap length is, length-take-le trim.len s trim.in_range))
 
--- a path of two bytes or more that ends in a part is its own spelling exactly if it has no gap
+-- a path of two bytes or more that ends in a component is its own canonical form if and only if it
+-- has no gap
 pub own_if_gapless : (s : List ℕ) (n : ℕ) → 1 < length s → EndsInPart s → FirstGap s n
     → (IsTrue (nat_eq n (length s)) → s ≡ spelling_of (values s))
     × (s ≡ spelling_of (values s) → IsTrue (nat_eq n (length s)))

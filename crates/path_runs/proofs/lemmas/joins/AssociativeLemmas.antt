@@ -1,44 +1,47 @@
--- Joins are associative.
+-- Joins are associative. A string is open if it is empty or ends in a slash.
 use Rattle.std.proofs.Common.{◌≡◌, ℕ, true, false, cond, List, [], ◌∷◌, ◌++◌, refl, sym, ap, ◌∙◌}
 use Rattle.std.proofs.Common.{append_assoc, append-nil}
 use Rattle.unix_path.specs.Parts.{is_rooted}
-use Rattle.unix_path.specs.Joins.{is_open, join_of}
+use Rattle.unix_path.specs.Joins.{needs_no_separator, join_of}
 use Rattle.unix_bytes.proofs.lemmas.lists.ListLemmas.{by_test}
-use Rattle.unix_path.proofs.lemmas.edits.JoinLemmas.{join_of_rooted, join_of_open, join_of_closed}
+use Rattle.unix_path.proofs.lemmas.edits.JoinLemmas.{join_of_rooted, join_of_no_separator}
+use Rattle.unix_path.proofs.lemmas.edits.JoinLemmas.{join_of_separator}
 
--- what a join with a rootless path puts behind a: a slash, or nothing if a is open
+-- what a join of a with a rootless path inserts after a: a slash, or nothing if a is open
 abbrev pub separator : List ℕ → List ℕ
-separator a = cond (is_open a) [] (47 ∷ [])
+separator a = cond (needs_no_separator a) [] (47 ∷ [])
 
 pub join_of-separator : (a b : List ℕ) → is_rooted b ≡ false → join_of a b ≡ (a ++ separator a) ++ b
-join_of-separator a b r = by_test (is_open a)
-    (λ o. join_of_open a b r o ∙ rw o (ap (λ x. x ++ b) (sym (append-nil a))))
-    (λ o. join_of_closed a b r o ∙ rw o refl)
+join_of-separator a b r = by_test (needs_no_separator a)
+    (λ o. join_of_no_separator a b r o ∙ rw o (ap (λ x. x ++ b) (sym (append-nil a))))
+    (λ o. join_of_separator a b r o ∙ rw o refl)
 
--- a path with a slash behind it is open
-is_open-slash : (a : List ℕ) → is_open (a ++ 47 ∷ []) ≡ true
-is_open-slash [] = refl
-is_open-slash (x ∷ []) = refl
-is_open-slash (x ∷ y ∷ a) = is_open-slash (y ∷ a)
+-- a path with a trailing slash is open
+needs_no_separator-slash : (a : List ℕ) → needs_no_separator (a ++ 47 ∷ []) ≡ true
+needs_no_separator-slash [] = refl
+needs_no_separator-slash (x ∷ []) = refl
+needs_no_separator-slash (x ∷ y ∷ a) = needs_no_separator-slash (y ∷ a)
 
-pub is_open-separator : (a : List ℕ) → is_open (a ++ separator a) ≡ true
-is_open-separator a = by_test (is_open a)
-    (λ o. rw o (ap is_open (append-nil a) ∙ o))
-    (λ o. rw o (is_open-slash a))
+pub needs_no_separator-separator : (a : List ℕ) → needs_no_separator (a ++ separator a) ≡ true
+needs_no_separator-separator a = by_test (needs_no_separator a)
+    (λ o. rw o (ap needs_no_separator (append-nil a) ∙ o))
+    (λ o. rw o (needs_no_separator-slash a))
 
--- behind an open path, a path is open exactly if it is open alone
-pub is_open-append : (u b : List ℕ) → is_open u ≡ true → is_open (u ++ b) ≡ is_open b
-is_open-append [] b o = refl
-is_open-append (x ∷ []) [] o = o
-is_open-append (x ∷ []) (c ∷ b) o = refl
-is_open-append (x ∷ y ∷ u) b o = is_open-append (y ∷ u) b o
+-- an open path followed by a second path is open if and only if the second path is open
+pub needs_no_separator-append : (u b : List ℕ) → needs_no_separator u ≡ true
+    → needs_no_separator (u ++ b) ≡ needs_no_separator b
+needs_no_separator-append [] b o = refl
+needs_no_separator-append (x ∷ []) [] o = o
+needs_no_separator-append (x ∷ []) (c ∷ b) o = refl
+needs_no_separator-append (x ∷ y ∷ u) b o = needs_no_separator-append (y ∷ u) b o
 
-is_open-join_of : (a b : List ℕ) → is_rooted b ≡ false → is_open (join_of a b) ≡ is_open b
-is_open-join_of a b r = ap is_open (join_of-separator a b r)
-    ∙ is_open-append (a ++ separator a) b (is_open-separator a)
+needs_no_separator-join_of : (a b : List ℕ) → is_rooted b ≡ false → needs_no_separator (join_of a b)
+    ≡ needs_no_separator b
+needs_no_separator-join_of a b r = ap needs_no_separator (join_of-separator a b r)
+    ∙ needs_no_separator-append (a ++ separator a) b (needs_no_separator-separator a)
 
 pub join_of-nil : (b : List ℕ) → join_of [] b ≡ b
-join_of-nil b = by_test (is_rooted b) (join_of_rooted [] b) (λ r. join_of_open [] b r refl)
+join_of-nil b = by_test (is_rooted b) (join_of_rooted [] b) (λ r. join_of_no_separator [] b r refl)
 
 is_rooted-join_of : (b c : List ℕ) → is_rooted c ≡ false → is_rooted (join_of b c) ≡ is_rooted b
 is_rooted-join_of [] c r = ap is_rooted (join_of-nil c) ∙ r
@@ -52,7 +55,7 @@ join_of-rootless : (a b c : List ℕ) → is_rooted b ≡ false → is_rooted c 
     → join_of (join_of a b) c ≡ join_of a (join_of b c)
 join_of-rootless a b c m n =
     join_of-separator (join_of a b) c n
-    ∙ ap (λ t. (join_of a b ++ cond t [] (47 ∷ [])) ++ c) (is_open-join_of a b m)
+    ∙ ap (λ t. (join_of a b ++ cond t [] (47 ∷ [])) ++ c) (needs_no_separator-join_of a b m)
     ∙ ap (λ x. (x ++ separator b) ++ c) (join_of-separator a b m)
     ∙ regroup a (separator a) b (separator b) c
     ∙ sym (join_of-separator a (join_of b c) (is_rooted-join_of b c n ∙ m)

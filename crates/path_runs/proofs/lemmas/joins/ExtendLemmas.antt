@@ -1,4 +1,4 @@
--- Rootless paths that are joined to a path, all of them or up to one.
+-- Joins of a path with rootless paths: with all of them, or only with those up to some path.
 use Rattle.std.proofs.Common.{◌≡◌, ℕ, suc, ◌≤◌, ◌<◌, false, List, [], ◌∷◌, ◌++◌, length, take, drop}
 use Rattle.std.proofs.Common.{map, Option, slice_get, Some, refl, sym, ap, subst, ◌∙◌, arith}
 use Rattle.std.proofs.Common.{map-id}
@@ -10,22 +10,23 @@ use Rattle.std.proofs.lemmas.Option.{get_or_from_slice_get, slice_get_within}
 use Rattle.std.proofs.Math.Seq.{split_at}
 use Rattle.std.proofs.iter.runs.Made.{took}
 use Rattle.unix_path.specs.Buffers.{bytes_of_each, JoinsBeginning, JoinsFit}
-use Rattle.unix_path.specs.Joins.{is_open, join_of, join_all_of}
+use Rattle.unix_path.specs.Joins.{needs_no_separator, join_of, join_all_of}
 use Rattle.unix_path.specs.Parts.{is_rooted}
 use Rattle.unix_path.specs.declared.path.Path.{Path}
 use Rattle.unix_bytes.proofs.lemmas.lists.ListLemmas.{by_test}
-use Rattle.unix_path.proofs.lemmas.edits.JoinLemmas.{length-join_of_open, length-join_of_closed}
+use Rattle.unix_path.proofs.lemmas.edits.JoinLemmas.{length-join_of_no_separator}
+use Rattle.unix_path.proofs.lemmas.edits.JoinLemmas.{length-join_of_separator}
 use Rattle.path_runs.proofs.lemmas.lists.AllLemmas.{AllByRecursion-end}
 
--- none of these is rooted
+-- none of these paths is rooted
 abbrev pub AllRootless : List (List ℕ) → Type 0
 AllRootless bs = AllByRecursion (λ b. is_rooted b ≡ false) bs
 
 -- a join with a rootless path is no shorter than the first path
 length-join_of : (a b : List ℕ) → is_rooted b ≡ false → length a ≤ length (join_of a b)
-length-join_of a b r = by_test (is_open a)
-    (λ o. omega (arith, length-join_of_open a b r o))
-    (λ o. omega (arith, length-join_of_closed a b r o))
+length-join_of a b r = by_test (needs_no_separator a)
+    (λ o. omega (arith, length-join_of_no_separator a b r o))
+    (λ o. omega (arith, length-join_of_separator a b r o))
 
 -- a join with rootless paths is no shorter than the first path
 length-join_all_of : (a : List ℕ) (bs : List (List ℕ)) → AllRootless bs
@@ -34,19 +35,19 @@ length-join_all_of a [] h = omega arith
 length-join_all_of a (b ∷ bs) h =
     omega (arith, length-join_of a b h.0, length-join_all_of (join_of a b) bs h.1)
 
--- a join with two lists of paths is one with the first list, and then with the second
+-- a join with two lists of paths is a join with the first list, and then with the second
 pub join_all_of-append : (a : List ℕ) (bs cs : List (List ℕ))
     → join_all_of a (bs ++ cs) ≡ join_all_of (join_all_of a bs) cs
 join_all_of-append a [] cs = refl
 join_all_of-append a (b ∷ bs) cs = join_all_of-append (join_of a b) bs cs
 
--- a list is what stands before one of its items, that item, and what stands behind it
+-- a list is the items before item n, that item, and the items after it
 slice_get-split : {X : Type 0} (xs : List X) (n : ℕ) (y : X) → slice_get xs n ≡ Some y
     → xs ≡ take n xs ++ y ∷ drop (suc n) xs
 slice_get-split xs n y e = split_at xs n y (slice_get_within xs n y e)
     ∙ ap (λ z. take n xs ++ z ∷ drop (suc n) xs) (get_or_from_slice_get xs n y y e)
 
--- the join up to one path is no longer than the join with all
+-- the join with the paths up to some path is no longer than the join with all paths
 length-join_of_next : (old : List ℕ) (all xs : List Path) (x : Path)
     → map (λ x. x) xs ≡ take (length xs) all → Some x ≡ slice_get all (length xs)
     → AllRootless (bytes_of_each all)
@@ -67,12 +68,13 @@ length-join_of_next old all xs x prefix at h =
     ap (join_all_of old) parts ∙ join_all_of-append old before onward in
     omega (arith, ap length all_is, length-join_all_of made (bytes_of_each rest) rootless.1)
 
--- if the join up to one of some rootless paths is longer than `most`, so is the join with all
+-- if the join with the rootless paths up to some path is longer than `max_len`, so is the join with
+-- all of them
 pub JoinsBeginning-exceeds : {S : Type 0} {steps : S → Option Path → S → Type 0} {items : S}
-    {all : List Path} (old new : List ℕ) (most : ℕ) → YieldsList steps (λ x. x) items all
-    → AllRootless (bytes_of_each all) → JoinsBeginning steps items old new most
-    → most < length (join_all_of old (bytes_of_each all))
-JoinsBeginning-exceeds {all = all} old new most yields h e =
+    {all : List Path} (old new : List ℕ) (max_len : ℕ) → YieldsList steps (λ x. x) items all
+    → AllRootless (bytes_of_each all) → JoinsBeginning steps items old new max_len
+    → max_len < length (join_all_of old (bytes_of_each all))
+JoinsBeginning-exceeds {all = all} old new max_len yields h e =
     let prefix = YieldsList-so_far yields e.paths e.items_before.0 e.items_before.1 in
     let at = nth_from_yields_List (Some e.next) e.left (length e.paths)
     (e.paths, e.items_before, refl)
@@ -84,12 +86,12 @@ JoinsBeginning-exceeds {all = all} old new most yields h e =
       ap (λ s. length (join_of s e.next.bytes.now)) e.bytes,
     )
 
--- if an iterator gives nothing, what it gave is no path
+-- an iterator over no paths has returned no items
 no_items : {A B : Type 0} (v : A → B) (xs : List A) → map v xs ≡ take (length xs) [] → xs ≡ []
 no_items v [] e = refl
 no_items v (x ∷ xs) e = absurd (omega (arith, ap length e))
 
--- so its join to the empty path is empty
+-- the join of no paths to the empty path is empty
 pub JoinsFit-none : {S B : Type 0} {steps : S → Option Path → S → Type 0} {items : S}
     (v : Path → B) (ys : List B) → ys ≡ [] → YieldsList steps v items ys
     → JoinsFit steps items [] 0

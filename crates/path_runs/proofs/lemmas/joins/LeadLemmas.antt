@@ -1,4 +1,5 @@
--- A leading root or dot, and the values behind it.
+-- A leading root or `.`, and the components after it. An inner component is a `..` or a name, and a
+-- string is open if it is empty or ends in a slash.
 use Rattle.std.proofs.Common.{◌≡◌, ℕ, ◌+◌, Bool, true, false, cond, List, [], ◌∷◌, ◌++◌, ◌<◌}
 use Rattle.std.proofs.Common.{length, map, refl, sym, ap, ap₂, subst, ◌∙◌, arith, append-nil}
 use Rattle.std.specs.List.{AllByRecursion, slice_split}
@@ -6,26 +7,26 @@ use Rattle.std.specs.Str.{bytes_eq}
 use Rattle.unix_path.specs.Parts.{Part, Value, RootDir, CurDir, ParentDir, Normal, is_slash}
 use Rattle.unix_path.specs.Parts.{cur_dir, parent_dir, is_rooted, counts, parts_of_pieces}
 use Rattle.unix_path.specs.Parts.{inner_parts, leading_part, values}
-use Rattle.unix_path.specs.Joins.{is_open, join_of}
+use Rattle.unix_path.specs.Joins.{needs_no_separator, join_of}
 use Rattle.unix_bytes.proofs.lemmas.lists.ListLemmas.{by_test}
 use Rattle.unix_path.proofs.lemmas.edits.JoinLemmas.{join_of_rooted}
 use Rattle.unix_path.proofs.lemmas.parts.PartLemmas.{root_first, root_first-values, values-nil}
 use Rattle.unix_path.proofs.lemmas.parts.PartLemmas.{some_values}
 use Rattle.unix_path.proofs.lemmas.parts.PieceLemmas.{first_piece, slice_split-first}
-use Rattle.path_runs.specs.JoinLaws.{drop_dot, drop_lead, values_added}
+use Rattle.path_runs.specs.JoinLaws.{drop_dot, drop_leading, values_added}
 use Rattle.path_runs.proofs.lemmas.joins.AssociativeLemmas.{join_of-nil}
 use Rattle.unix_path.specs.CommonDir.{inner_values}
 use Rattle.unix_path.proofs.lemmas.order.CommonPrefixLemmas.{values-leading}
 use Rattle.path_runs.proofs.lemmas.joins.ValueLemmas.{values-open, values-join_of}
 
--- a value that can stand behind another
+-- a component that can follow another component: a `..` or a name
 abbrev pub IsInner : Value → Type 0
 IsInner RootDir = ⊥
 IsInner CurDir = ⊥
 IsInner ParentDir = Unit {0}
 IsInner (Normal name) = Unit {0}
 
--- the values of the pieces that count can each stand behind another
+-- the parts of pieces, without their positions, are inner components
 inner_pieces : (at : ℕ) (ps : List (List ℕ))
     → AllByRecursion IsInner (map (λ p. p.value) (parts_of_pieces at ps))
 inner_pieces at [] = tt
@@ -41,12 +42,12 @@ inner_values-inner : (s : List ℕ) → AllByRecursion IsInner (inner_values s)
 unfolding inner_parts
 inner_values-inner s = inner_pieces 0 (slice_split is_slash s)
 
--- neither the root nor a dot stands first
+-- the first component is neither the root nor a `.`
 pub record HasNoLead (vs : List Value) : Type 0 where
-  pub no_lead : drop_lead vs ≡ vs
+  pub no_lead : drop_leading vs ≡ vs
   pub no_root : root_first vs ≡ false
 
--- of inner values neither the root nor a dot stands first
+-- a list of inner components does not begin with the root or a `.`
 pub inner-no_lead : (vs : List Value) → AllByRecursion IsInner vs → HasNoLead vs
 inner-no_lead [] h = record { no_lead = refl; no_root = refl }
 inner-no_lead (RootDir ∷ vs) h = absurd h.0
@@ -62,11 +63,11 @@ abbrev pub dot_first : List (List ℕ) → Bool
 dot_first [] = false
 dot_first (p ∷ ps) = bytes_eq p cur_dir
 
--- the value that stands first: the root, or else a dot, or else none
+-- the leading component: the root, or else a `.`, or else none
 abbrev pub lead_by : Bool → Bool → List Value
 lead_by rooted dotted = cond rooted (RootDir ∷ []) (cond dotted (CurDir ∷ []) [])
 
--- the leading part has the value that stands first
+-- the leading part, without its position, is the root, or else a leading `.`, or else nothing
 leading_values : (s : List ℕ)
     → map (λ (p : Part). p.value) (leading_part s) ≡ lead_by (is_rooted s)
     (dot_first (slice_split is_slash s))
@@ -75,28 +76,29 @@ leading_values s = by_test (is_rooted s) (λ e. rw e refl)
     (λ e. rw (e, slice_split-first s) (by_test (bytes_eq (first_piece s) cur_dir)
     (λ d. rw d refl) (λ d. rw d refl)))
 
--- a path's values are its leading root or dot, and then its inner values
+-- a path's components are its leading root or `.`, followed by its inner components
 pub values-lead : (s : List ℕ)
     → values s ≡ lead_by (is_rooted s) (dot_first (slice_split is_slash s)) ++ inner_values s
 values-lead s = values-leading s ∙ ap (λ vs. vs ++ inner_values s) (leading_values s)
 
--- without the root or the dot that stands first, only what follows it is left
-drop_lead-lead_by : (c d : Bool) (vs : List Value) → HasNoLead vs
-    → drop_lead (lead_by c d ++ vs) ≡ vs
-drop_lead-lead_by true d vs h = refl
-drop_lead-lead_by false true vs h = refl
-drop_lead-lead_by false false vs h = h.no_lead
+-- without the leading root or `.`, only the components after it remain
+drop_leading-lead_by : (c d : Bool) (vs : List Value) → HasNoLead vs
+    → drop_leading (lead_by c d ++ vs) ≡ vs
+drop_leading-lead_by true d vs h = refl
+drop_leading-lead_by false true vs h = refl
+drop_leading-lead_by false false vs h = h.no_lead
 
--- without a leading root or dot a path's values are its inner values
-pub drop_lead-values : (s : List ℕ) → drop_lead (values s) ≡ inner_values s
-drop_lead-values s =
-    ap drop_lead (values-lead s)
-    ∙ drop_lead-lead_by (is_rooted s) _ (inner_values s) (inner_values-no_lead s)
+-- without a leading root or `.`, a path's components are its inner components
+pub drop_leading-values : (s : List ℕ) → drop_leading (values s) ≡ inner_values s
+drop_leading-values s =
+    ap drop_leading (values-lead s)
+    ∙ drop_leading-lead_by (is_rooted s) _ (inner_values s) (inner_values-no_lead s)
 
 same_tail : {x y : Value} {xs ys : List Value} → x ∷ xs ≡ y ∷ ys → xs ≡ ys
 same_tail e = cc
 
--- behind the first value, be it a lead or an inner value, stand inner values
+-- after the first component, which is a leading root or `.` or an inner component, come only inner
+-- components
 inner_lead : (c d : Bool) (vs : List Value) (x : Value) (xs : List Value)
     → AllByRecursion IsInner vs → lead_by c d ++ vs ≡ x ∷ xs → AllByRecursion IsInner xs
 inner_lead true d vs x xs h e = subst (AllByRecursion IsInner) (same_tail e) h
@@ -104,57 +106,59 @@ inner_lead false true vs x xs h e = subst (AllByRecursion IsInner) (same_tail e)
 inner_lead false false [] x xs h e = absurd (cc)
 inner_lead false false (v ∷ vs) x xs h e = subst (AllByRecursion IsInner) (same_tail e) h.1
 
--- behind the first value stand no roots and no dots
+-- all components of a path after the first are inner components
 pub inner-behind : (s : List ℕ) (x : Value) (xs : List Value) → values s ≡ x ∷ xs
     → AllByRecursion IsInner xs
 inner-behind s x xs e =
     inner_lead (is_rooted s) _ (inner_values s) x xs (inner_values-inner s)
     (sym (values-lead s) ∙ e)
 
--- of values of which the first is no root a leading dot is all that can be dropped
-drop_dot-rootless : (vs : List Value) → root_first vs ≡ false → drop_dot vs ≡ drop_lead vs
+-- if the first component is no root, only a leading `.` can be dropped
+drop_dot-rootless : (vs : List Value) → root_first vs ≡ false → drop_dot vs ≡ drop_leading vs
 drop_dot-rootless [] h = refl
 drop_dot-rootless (RootDir ∷ vs) h = absurd (let d : true ≡ false = h in cc)
 drop_dot-rootless (v ∷ vs) h = refl
 
--- without a leading dot a rootless path's values are its inner values
+-- without a leading `.`, a rootless path's components are its inner components
 pub drop_dot-values : (s : List ℕ) → is_rooted s ≡ false → drop_dot (values s) ≡ inner_values s
 drop_dot-values s r =
-    drop_dot-rootless (values s) (root_first-values s ∙ r) ∙ drop_lead-values s
+    drop_dot-rootless (values s) (root_first-values s ∙ r) ∙ drop_leading-values s
 
--- these values, and behind them those of ws, without a leading root or dot unless they are first
+-- vs, followed by ws without a leading root or `.`; if vs is empty, all of ws
 abbrev pub append_values : List Value → List Value → List Value
 append_values [] ws = ws
-append_values (v ∷ vs) ws = (v ∷ vs) ++ drop_lead ws
+append_values (v ∷ vs) ws = (v ∷ vs) ++ drop_leading ws
 
--- values that can stand behind others all stand there
+-- inner components are all appended
 pub append_values-inner : (vs ws : List Value) → AllByRecursion IsInner ws
     → append_values vs ws ≡ vs ++ ws
 append_values-inner [] ws h = refl
 append_values-inner (v ∷ vs) ws h = ap (λ us. v ∷ vs ++ us) (inner-no_lead ws h).no_lead
 
--- behind a path of a byte or more, b adds its inner values
+-- appending the components of b to those of a path of a byte or more adds only b's inner components
 append_values-some : (s b : List ℕ) → 0 < length s
     → values s ++ inner_values b ≡ append_values (values s) (values b)
 append_values-some s b l =
     let some = some_values s l in
-    rw (some.2, drop_lead-values b) refl
+    rw (some.2, drop_leading-values b) refl
 
--- behind an open path, bytes add their values as in a join
-pub values-append_open : (u b : List ℕ) → is_open u ≡ true
+-- after an open path, bytes add their components as in a join
+pub values-append_open : (u b : List ℕ) → needs_no_separator u ≡ true
     → values (u ++ b) ≡ append_values (values u) (values b)
 values-append_open [] b o = rw values-nil refl
 values-append_open (x ∷ u) b o =
     values-open (x ∷ u) b o (omega arith) ∙ append_values-some (x ∷ u) b (omega arith)
 
--- the values of a join with a rootless path
+-- a join with a rootless path has the components of the first path, with those of the second
+-- appended
 pub values-join_of_rootless : (a b : List ℕ) → is_rooted b ≡ false
     → values (join_of a b) ≡ append_values (values a) (values b)
 values-join_of_rootless [] b r = rw (join_of-nil b, values-nil) refl
 values-join_of_rootless (x ∷ a) b r =
     values-join_of (x ∷ a) b (omega arith) r ∙ append_values-some (x ∷ a) b (omega arith)
 
--- a join with a rootless path has the values of the first path, and then the values added
+-- a join with a rootless path has the components of the first path, followed by the components
+-- added
 pub values-join_of_values_added : (a b : List ℕ) → is_rooted b ≡ false
     → values (join_of a b) ≡ values a ++ values_added a b
 values-join_of_values_added [] b r =
@@ -162,7 +166,7 @@ values-join_of_values_added [] b r =
 values-join_of_values_added (x ∷ a) b r = values-join_of (x ∷ a) b (omega arith) r
     ∙ ap (λ vs. values (x ∷ a) ++ vs) (sym (drop_dot-values b r))
 
--- of equal paths both are rooted or neither is
+-- two equal paths are both rooted or both rootless
 pub roots_same : (s t : List ℕ) → values s ≡ values t → is_rooted s ≡ is_rooted t
 roots_same s t e = sym (root_first-values s) ∙ ap root_first e ∙ root_first-values t
 
@@ -178,7 +182,7 @@ joins_same a b c d e f = by_test (is_rooted c)
     root : is_rooted c ≡ is_rooted d
     root = roots_same c d f
 
--- a join with the empty path adds no value
+-- a join with the empty path adds no component
 pub values-join_of_nil : (a : List ℕ) → values (join_of a []) ≡ values a
 values-join_of_nil a = values-join_of_rootless a [] refl
     ∙ ap (append_values (values a)) values-nil

@@ -1,4 +1,4 @@
--- One name behind a path: pushed and popped, or set in place of the file name.
+-- One name after a path: pushed and popped, or set instead of the file name.
 use Rattle.std.proofs.Common.{◌≡◌, ℕ, true, false, List, [], ◌∷◌, ◌++◌, Some, is_some, unwrap_or}
 use Rattle.std.proofs.Common.{sym, ap, ◌∙◌, refl}
 use Rattle.unix_path.specs.Parts.{Value, Normal, is_rooted, values, SameValues}
@@ -13,25 +13,25 @@ use Rattle.unix_path.proofs.lemmas.names.ParentLemmas.{file_name_of-last}
 use Rattle.unix_path.proofs.lemmas.parts.PartLemmas.{root_first, root_first-values}
 use Rattle.unix_path.proofs.lemmas.rests.RestLemmas.{rest-rest, values-rest}
 use Rattle.path_runs.specs.EditLaws.{IsOneName}
-use Rattle.path_runs.proofs.lemmas.joins.AssociativeLemmas.{separator, is_open-separator}
+use Rattle.path_runs.proofs.lemmas.joins.AssociativeLemmas.{separator, needs_no_separator-separator}
 use Rattle.path_runs.proofs.lemmas.joins.AssociativeLemmas.{join_of-separator}
-use Rattle.path_runs.proofs.lemmas.joins.BehindLemmas.{rest-behind, rest-separator}
-use Rattle.path_runs.proofs.lemmas.joins.BehindLemmas.{values-separator}
+use Rattle.path_runs.proofs.lemmas.joins.AppendedLemmas.{rest-appended, rest-separator}
+use Rattle.path_runs.proofs.lemmas.joins.AppendedLemmas.{values-separator}
 use Rattle.path_runs.proofs.lemmas.joins.LeadLemmas.{append_values, append_values-inner}
 use Rattle.path_runs.proofs.lemmas.joins.LeadLemmas.{values-join_of_rootless}
 
--- a path whose last value is a name has a parent
+-- a path whose last component is a name has a parent
 pub parent_of-name : (s name : List ℕ) (vs : List Value) → values s ≡ vs ++ Normal name ∷ []
     → parent_of s ≡ Some (rest s 0 1)
 parent_of-name s name vs e =
     sym (parent_of-push s vs (Normal name) e refl (λ h. cc))
 
--- a path whose last value is a name has that file name
+-- a path whose last component is a name has that file name
 pub file_name_of-name : (s name : List ℕ) (vs : List Value) → values s ≡ vs ++ Normal name ∷ []
     → file_name_of (values s) ≡ Some name
 file_name_of-name s name vs e = ap file_name_of e ∙ file_name_of-last vs (Normal name)
 
--- the rest before the last part has the values before the last
+-- a path without its last component has the components before it
 pub values-rest_push : (s : List ℕ) (vs : List Value) (v : Value) → values s ≡ vs ++ v ∷ []
     → values (rest s 0 1) ≡ vs
 values-rest_push s vs v e = values-rest s 0 1 ∙ ap (middle 0 1) e ∙ middle-push vs v
@@ -49,13 +49,13 @@ values-join_of_one s n name e =
 
 -- ---- a push of one name, and a pop
 
--- a pop after a push of one name answers true
+-- a pop after a push of one name returns true
 pub pop-answer : (s n name : List ℕ) → IsOneName n name
     → is_some (parent_of (join_of s n)) ≡ true
 pop-answer s n name e =
     ap is_some (parent_of-name (join_of s n) name (values s) (values-join_of_one s n name e))
 
--- a pop after a push of one name leaves the values from before the push
+-- a pop after a push of one name leaves the components from before the push
 pub values-popped_of : (s n name : List ℕ) → IsOneName n name
     → SameValues (popped_of (join_of s n)) s
 unfolding popped_of
@@ -65,9 +65,10 @@ values-popped_of s n name e =
     ap (λ o. values (unwrap_or o t)) (parent_of-name t name (values s) all)
     ∙ values-rest_push t (values s) (Normal name) all
 
--- ---- one name in place of the file name
+-- ---- one name instead of the file name
 
--- a join with one name, without its last part, is the first path up to the end of its last part
+-- a join with one name, without its last component, is the first path up to the end of its last
+-- component
 pub rest-join_of_one : (r n name : List ℕ) → IsOneName n name
     → rest (join_of r n) 0 1 ≡ rest r 0 0
 rest-join_of_one r n name e =
@@ -76,21 +77,21 @@ rest-join_of_one r n name e =
     let all : values (u ++ n) ≡ values u ++ Normal name ∷ [] =
     ap values (sym is) ∙ values-join_of_one r n name e
     ∙ ap (λ vs. vs ++ Normal name ∷ []) (sym (values-separator r)) in
-    ap (λ t. rest t 0 1) is ∙ rest-behind u n (Normal name) (is_open-separator r) all
+    ap (λ t. rest t 0 1) is ∙ rest-appended u n (Normal name) (needs_no_separator-separator r) all
     ∙ rest-separator r
 
--- a new file name is joined to the rest before the old one
+-- a new file name is joined to the path without the old file name
 with_name_of-join : (s old n : List ℕ) → file_name_of (values s) ≡ Some old
     → with_name_of s n ≡ join_of (rest s 0 1) n
 with_name_of-join s old n f = ap (λ r. join_of r n) (sym (before_name_of-some s old (sym f)))
 
--- a new file name stands behind the values before the old one
+-- a new file name follows the components before the old file name
 pub values-with_name_of : (s old n name : List ℕ) → file_name_of (values s) ≡ Some old
     → IsOneName n name → values (with_name_of s n) ≡ values (rest s 0 1) ++ Normal name ∷ []
 values-with_name_of s old n name f e =
     ap values (with_name_of-join s old n f) ∙ values-join_of_one (rest s 0 1) n name e
 
--- a new file name leaves the rest before it as it was
+-- a new file name leaves the rest before it unchanged
 pub rest-with_name_of : (s old n name : List ℕ) → file_name_of (values s) ≡ Some old
     → IsOneName n name → rest (with_name_of s n) 0 1 ≡ rest s 0 1
 rest-with_name_of s old n name f e =

@@ -1,10 +1,10 @@
--- What was stripped of its base, joined to that base.
+-- A path stripped of its base, joined to that base.
 use Rattle.std.proofs.Common.{◌≡◌, ℕ, ◌+◌, ◌-◌, false, List, [], ◌∷◌, ◌++◌, length, take, refl, sym}
 use Rattle.std.proofs.Common.{ap, ap₂, ◌∙◌, arith, take_all, length-append}
 use Rattle.std.proofs.lemmas.List.{drop_at}
 use Rattle.unix_path.specs.Parts.{Value, is_rooted, values}
 use Rattle.unix_path.specs.Joins.{join_of}
-use Rattle.unix_path.specs.Prefixes.{stripped_of, Begins}
+use Rattle.unix_path.specs.Prefixes.{stripped_of, IsPrefixOf}
 use Rattle.unix_path.proofs.lemmas.rests.MiddleLemmas.{middle}
 use Rattle.unix_path.proofs.lemmas.parts.PartLemmas.{root_first, root_first-values, values-nil}
 use Rattle.unix_path.proofs.lemmas.parts.PartLemmas.{some_values}
@@ -15,32 +15,34 @@ use Rattle.path_runs.proofs.lemmas.joins.LeadLemmas.{IsInner, inner-no_lead, inn
 use Rattle.path_runs.proofs.lemmas.joins.LeadLemmas.{append_values, append_values-inner}
 use Rattle.path_runs.proofs.lemmas.joins.LeadLemmas.{values-join_of_rootless}
 
--- of vs and then ws, ws is left behind vs
+-- if the components vs are dropped from vs followed by ws, ws remains
 middle-append : (vs ws : List Value) → middle (length vs) 0 (vs ++ ws) ≡ ws
 middle-append vs ws =
     let n = length vs in
     let size : length (vs ++ ws) - (n + 0) ≡ length ws = omega (arith, length-append vs ws) in
     ap₂ take size (drop_at vs ws n refl) ∙ take_all (length ws) ws (omega arith)
 
--- a path without its base has the values that follow the base's
+-- a path without its base has the components that follow the base's
 pub values-stripped_of : (s base : List ℕ) (more : List Value) → values base ++ more ≡ values s
     → values (stripped_of s base) ≡ more
 values-stripped_of s base more e =
     values-rest s (length (values base)) 0 ∙ ap (middle (length (values base)) 0) (sym e)
     ∙ middle-append (values base) more
 
--- bytes with the values behind those of base, joined to base, have the values of the path
-join_behind : (s base r : List ℕ) (v : Value) (vs more : List Value)
+-- if r has the components of the path that follow those of base, base joined with r has the
+-- components of the path
+join_remaining : (s base r : List ℕ) (v : Value) (vs more : List Value)
     → values base ≡ v ∷ vs → values r ≡ more → v ∷ vs ++ more ≡ values s
     → values (join_of base r) ≡ values s
-join_behind s base r v vs more is left all =
+join_remaining s base r v vs more is rest_is all =
     let inner = AllByRecursion-end IsInner vs more (inner-behind s v (vs ++ more) (sym all)) in
     let rootless : is_rooted r ≡ false =
-    sym (root_first-values r) ∙ ap root_first left ∙ (inner-no_lead more inner).no_root in
-    values-join_of_rootless base r rootless ∙ ap₂ append_values is left
+    sym (root_first-values r) ∙ ap root_first rest_is ∙ (inner-no_lead more inner).no_root in
+    values-join_of_rootless base r rootless ∙ ap₂ append_values is rest_is
     ∙ append_values-inner (v ∷ vs) more inner ∙ all
 
--- a path without its base, joined to that base, has the values of base and what follows them
+-- a path without its base, joined to that base, has the components of base and then those that
+-- follow them in the path
 strip_join : (s base : List ℕ) (more : List Value) → values base ++ more ≡ values s
     → values (join_of base (stripped_of s base)) ≡ values s
 strip_join s [] more e =
@@ -48,15 +50,15 @@ strip_join s [] more e =
     ∙ ap (λ vs. vs ++ more) (sym values-nil) ∙ e
 strip_join s (b ∷ base) more e =
     let some = some_values (b ∷ base) (omega arith) in
-    join_behind s (b ∷ base) (stripped_of s (b ∷ base)) some.0 some.1 more some.2
+    join_remaining s (b ∷ base) (stripped_of s (b ∷ base)) some.0 some.1 more some.2
     (values-stripped_of s (b ∷ base) more e) (ap (λ vs. vs ++ more) (sym some.2) ∙ e)
 
--- a path without its base, joined to that base, has the values of the path
-pub values-join_of_stripped : (s base : List ℕ) → Begins (values base) (values s)
+-- a path without its base, joined to that base, has the components of the path
+pub values-join_of_stripped : (s base : List ℕ) → IsPrefixOf (values base) (values s)
     → values (join_of base (stripped_of s base)) ≡ values s
 values-join_of_stripped s base h = strip_join s base h.0 h.1
 
 -- if `joined` is a path without its base, joined to that base, it is equal to the path
-pub strip_then_join : (s base joined : List ℕ) → Begins (values base) (values s)
+pub strip_then_join : (s base joined : List ℕ) → IsPrefixOf (values base) (values s)
     → joined ≡ join_of base (stripped_of s base) → values joined ≡ values s
 strip_then_join s base joined h e = ap values e ∙ values-join_of_stripped s base h

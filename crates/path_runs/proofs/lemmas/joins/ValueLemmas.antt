@@ -1,15 +1,16 @@
--- The values of what stands behind an open string, and of a join with a path that has a byte.
+-- The components that bytes add after an open string, and those of a join whose first path isn't
+-- empty. A string is open if it is empty or ends in a slash.
 use Rattle.std.proofs.Common.{◌≡◌, ℕ, ◌<◌, true, false, List, [], ◌∷◌, ◌++◌, length, sym, ap, ◌∙◌}
 use Rattle.std.proofs.Common.{arith, append_assoc, eqb-true}
 use Rattle.unix_path.specs.Parts.{slash, is_rooted, values}
-use Rattle.unix_path.specs.Joins.{is_open, join_of}
+use Rattle.unix_path.specs.Joins.{needs_no_separator, join_of}
 use Rattle.unix_bytes.proofs.lemmas.lists.ListLemmas.{by_test}
 use Rattle.unix_path.proofs.lemmas.order.CommonPrefixLemmas.{values-past_slash, values-slash}
 use Rattle.unix_path.specs.CommonDir.{inner_values}
-use Rattle.unix_path.proofs.lemmas.edits.JoinLemmas.{join_of_open, join_of_closed}
+use Rattle.unix_path.proofs.lemmas.edits.JoinLemmas.{join_of_no_separator, join_of_separator}
 
 -- an open path of a byte or more ends in a slash
-pub ends_open : (u : List ℕ) → is_open u ≡ true → 0 < length u
+pub ends_open : (u : List ℕ) → needs_no_separator u ≡ true → 0 < length u
     → (f : List ℕ) × (f ++ slash ∷ [] ≡ u)
 ends_open [] o l = absurd (omega arith)
 ends_open (x ∷ []) o l = ([], sym (ap (λ z. z ∷ []) (eqb-true x 47 o)))
@@ -17,8 +18,8 @@ ends_open (x ∷ y ∷ u) o l =
     let more = ends_open (y ∷ u) o (omega arith) in
     (x ∷ more.0, ap (λ z. x ∷ z) more.1)
 
--- behind an open path of a byte or more, bytes add their inner values
-pub values-open : (u b : List ℕ) → is_open u ≡ true → 0 < length u
+-- after an open path of a byte or more, bytes add their inner components
+pub values-open : (u b : List ℕ) → needs_no_separator u ≡ true → 0 < length u
     → values (u ++ b) ≡ values u ++ inner_values b
 values-open u b o l =
     let cut = ends_open u o l in
@@ -26,14 +27,14 @@ values-open u b o l =
     ∙ ap (λ u. values u ++ inner_values b) cut.1
 
 -- a path that isn't open has a byte
-pub not_open : (a : List ℕ) → is_open a ≡ false → 0 < length a
+pub not_open : (a : List ℕ) → needs_no_separator a ≡ false → 0 < length a
 not_open [] o = absurd (let d : true ≡ false = o in cc)
 not_open (x ∷ a) o = omega arith
 
--- joined to a path that isn't empty, a rootless path adds its inner values
+-- a rootless path that is joined to a path that isn't empty adds its inner components
 pub values-join_of : (a b : List ℕ) → 0 < length a → is_rooted b ≡ false
     → values (join_of a b) ≡ values a ++ inner_values b
-values-join_of a b l r = by_test (is_open a)
-    (λ o. ap values (join_of_open a b r o) ∙ values-open a b o l)
-    (λ o. ap values (join_of_closed a b r o ∙ append_assoc a (slash ∷ []) b)
+values-join_of a b l r = by_test (needs_no_separator a)
+    (λ o. ap values (join_of_no_separator a b r o) ∙ values-open a b o l)
+    (λ o. ap values (join_of_separator a b r o ∙ append_assoc a (slash ∷ []) b)
     ∙ values-slash a b l)

@@ -2,7 +2,7 @@
 use Rattle.std.proofs.Common.{List, [], ◌∷◌, ◌++◌}
 use Rattle.std.specs.List.{AllByRecursion}
 
--- what holds of all items holds of the last ones
+-- what holds of all items of a list holds of all items of each suffix
 pub AllByRecursion-end : {X : Type 0} (P : X → Type 0) (xs ys : List X)
     → AllByRecursion P (xs ++ ys) → AllByRecursion P ys
 AllByRecursion-end P [] ys h = h

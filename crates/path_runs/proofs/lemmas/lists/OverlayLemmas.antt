@@ -1,4 +1,4 @@
--- Bytes that are put in a buffer, one behind the other.
+-- Bytes that are written to a buffer, one run after the other.
 use Rattle.std.proofs.Common.{◌≡◌, ◌≤◌, ℕ, ◌+◌, List, [], ◌++◌, length, drop}
 use Rattle.std.proofs.Common.{refl, sym, ap, ap₂, ◌∙◌, length-append}
 use Rattle.std.proofs.lemmas.Bool.{cond-true, le-leb}
@@ -6,11 +6,11 @@ use Rattle.std.proofs.lemmas.List.{take_at, drop_at, drop-drop}
 use Rattle.path_runs.specs.Overlay.{overlay}
 use Rattle.path_runs.specs.Buffer.{buffer_after}
 
--- these bytes, and behind them what stood there
+-- these bytes, written over the beginning of the old contents
 abbrev pub bytes_over : List ℕ → List ℕ → List ℕ
 bytes_over bytes old = bytes ++ drop (length bytes) old
 
--- bytes put at the beginning of a buffer change nothing of what stands behind them
+-- bytes written to the beginning of a buffer leave the bytes after them unchanged
 drop-bytes_over : (first old : List ℕ) (n : ℕ)
     → drop (length first + n) (bytes_over first old) ≡ drop (length first + n) old
 drop-bytes_over first old n =
@@ -18,7 +18,8 @@ drop-bytes_over first old n =
     ∙ ap (drop n) (drop_at first (drop (length first) old) (length first) refl)
     ∙ drop-drop n (length first) old
 
--- to put bytes at the beginning, and then more behind them, is to put both there at once
+-- writing bytes to the beginning, and then more after them, is the same as writing all of them at
+-- once
 pub overlay-bytes_over : (first second old : List ℕ)
     → overlay (length first) second (bytes_over first old) ≡ bytes_over (first ++ second) old
 overlay-bytes_over first second old =
@@ -27,11 +28,11 @@ overlay-bytes_over first second old =
     (drop-bytes_over first old (length second)
     ∙ ap (λ n. drop n old) (sym (length-append first second)))
 
--- bytes put at place 0 are put at the beginning
+-- bytes written at index 0 are written to the beginning
 pub overlay-first : (bytes old : List ℕ) → overlay 0 bytes old ≡ bytes_over bytes old
 overlay-first bytes old = overlay-bytes_over [] bytes old
 
--- a buffer with room for the bytes has them at its beginning after the call
+-- a buffer that is long enough for the bytes has them at its beginning after the call
 pub buffer_after-fits : (bytes old : List ℕ) → length bytes ≤ length old
     → buffer_after bytes old ≡ bytes_over bytes old
 buffer_after-fits bytes old h = cond-true _ _ _ (le-leb (length bytes) (length old) h)

@@ -1,4 +1,4 @@
--- Bytes that are written one behind the other, until the whole stands at the beginning.
+-- Bytes that are written to the beginning of a buffer, one run after the other.
 use Rattle.std.proofs.Common.{◌≡◌, ◌≤◌, ℕ, ◌+◌, List, [], ◌++◌, length, refl, sym, ap, ap₂, ◌∙◌}
 use Rattle.std.proofs.Common.{append_assoc, append-nil, arith, length-append}
 use Rattle.path_runs.specs.Overlay.{overlay}
@@ -6,19 +6,19 @@ use Rattle.path_runs.specs.Buffer.{buffer_after}
 use Rattle.path_runs.proofs.lemmas.lists.OverlayLemmas.{bytes_over, overlay-bytes_over}
 use Rattle.path_runs.proofs.lemmas.lists.OverlayLemmas.{buffer_after-fits}
 
--- `out` is `old` with the first `at` bytes of `whole` put at the beginning; `left` follows them
+-- `out` is `old` with the first `at` bytes of `whole` written to the beginning; `left` is the rest
 pub record WritesOn (whole old : List ℕ) (at : ℕ) (out left : List ℕ) : Type 0 where
   pub start : List ℕ
   pub at_is : at ≡ length start
   pub out_is : out ≡ bytes_over start old
   pub whole_is : start ++ left ≡ whole
 
--- before anything is written the whole is left
+-- before anything is written, the rest is all of `whole`
 pub writes_first : {left : List ℕ} (whole old : List ℕ) → left ≡ whole
     → WritesOn whole old 0 old left
 writes_first whole old e = record { start = []; at_is = refl; out_is = refl; whole_is = e }
 
--- one more stretch of what is left is written
+-- writing the next run of the rest, `stretch`, writes that many more bytes of `whole`
 pub writes_stretch : {whole old out left new : List ℕ} {at end : ℕ} (stretch more : List ℕ)
     → WritesOn whole old at out left → left ≡ stretch ++ more → new ≡ overlay at stretch out
     → end ≡ at + length stretch → WritesOn whole old end new more
@@ -32,7 +32,7 @@ writes_stretch {whole} {old} {out} {left} {new} {at} {end} stretch more h e plac
           ∙ h.whole_is;
     }
 
--- if there is room for the whole, there is room for a stretch of what is left
+-- if `whole` fits, so does the next run of the rest
 pub writes_room : {whole old out left : List ℕ} {at : ℕ} (stretch more : List ℕ)
     → WritesOn whole old at out left → left ≡ stretch ++ more → length whole ≤ length old
     → at + length stretch ≤ length old
@@ -47,7 +47,7 @@ writes_room {whole} {old} {out} {left} {at} stretch more h e fits =
       fits,
     )
 
--- if nothing is left, the whole is written
+-- if the rest is empty, `whole` is written
 pub writes_last : {whole old out left : List ℕ} {at : ℕ} → WritesOn whole old at out left
     → left ≡ [] → length whole ≤ length old → out ≡ buffer_after whole old
 writes_last {whole} {old} {out} {left} {at} h e fits =
@@ -55,7 +55,7 @@ writes_last {whole} {old} {out} {left} {at} h e fits =
     sym (append-nil h.start) ∙ ap (λ left. h.start ++ left) (sym e) ∙ h.whole_is in
     h.out_is ∙ ap (λ start. bytes_over start old) all ∙ sym (buffer_after-fits whole old fits)
 
--- if nothing is left, as many bytes are written as the whole has
+-- if the rest is empty, the number of bytes written is the length of `whole`
 pub writes_end : {whole old out left : List ℕ} {at : ℕ} → WritesOn whole old at out left
     → left ≡ [] → at ≡ length whole
 writes_end {whole} {old} {out} {left} {at} h e =

@@ -1,4 +1,4 @@
--- A name cut at its last dot.
+-- A name split at its last dot.
 use Rattle.std.proofs.Common.{◌≡◌, ◌≢◌, ℕ, ◌+◌, ◌-◌, ◌<◌, false, eqb, List, [], ◌∷◌, ◌++◌, length}
 use Rattle.std.proofs.Common.{get_or, drop, Some, None, sym, ap, ap₂, ◌∙◌, arith, eqb-true, eq-eqb}
 use Rattle.std.proofs.Common.{length-append, append_assoc}
@@ -8,43 +8,43 @@ use Rattle.std.proofs.lemmas.List.{take_at, drop_at, take-append-drop}
 use Rattle.std.proofs.lemmas.List.Elements.{All-nil, All-cons}
 use Rattle.std.specs.List.{position_or_len}
 use Rattle.std.proofs.lemmas.List.Sums.{position_or_len_is}
-use Rattle.unix_path.specs.Names.{past_last, split_name}
+use Rattle.unix_path.specs.Names.{after_last, split_name}
 use Rattle.unix_bytes.proofs.lemmas.lists.ListLemmas.{by_test}
-use Rattle.unix_path.proofs.lemmas.names.NameLemmas.{is_dot, past_last-byte, split_name-whole}
+use Rattle.unix_path.proofs.lemmas.names.NameLemmas.{is_dot, after_last-byte, split_name-whole}
 use Rattle.unix_path.proofs.lemmas.names.NameLemmas.{split_name-cut, split_name-stem}
-use Rattle.path_runs.specs.EditLaws.{HasNone}
+use Rattle.path_runs.specs.EditLaws.{HasNoByte}
 
--- if no byte is b, the byte at k isn't b
-none_at : (s : List ℕ) (b k : ℕ) → HasNone b s → k < length s → eqb (get_or s k 0) b ≡ false
+-- if no byte of a string is b, its byte at index k isn't b
+none_at : (s : List ℕ) (b k : ℕ) → HasNoByte b s → k < length s → eqb (get_or s k 0) b ≡ false
 none_at s b k h l =
     by_test (eqb (get_or s k 0) b) (λ e. absurd (h k 0 l (eqb-true _ _ e))) (λ e. e)
 
--- bytes of which none is b have no first place of b
-pub none_found : (s : List ℕ) (b : ℕ) → HasNone b s → position_or_len (λ c. eqb c b) s ≡ length s
+-- if no byte is b, the index of the first b is the length
+pub none_found : (s : List ℕ) (b : ℕ) → HasNoByte b s → position_or_len (λ c. eqb c b) s ≡ length s
 none_found s b h = position_or_len_is (λ c. eqb c b) s (length s) 0 (omega arith)
     (λ k l. none_at s b k h l) (λ l. absurd (omega arith))
 
-past_last-none : (s : List ℕ) → HasNone 46 s → 0 ≡ past_last is_dot s
-past_last-none s h =
-    past_last-byte 46 s 0 (omega arith) (λ l. absurd (omega arith)) (none_found s 46 h)
+after_last-none : (s : List ℕ) → HasNoByte 46 s → 0 ≡ after_last is_dot s
+after_last-none s h =
+    after_last-byte 46 s 0 (omega arith) (λ l. absurd (omega arith)) (none_found s 46 h)
 
 drop-past_dot : (f x : List ℕ) → drop (length f + 1) (f ++ 46 ∷ x) ≡ x
 drop-past_dot f x = ap (drop (length f + 1)) (sym (append_assoc f (46 ∷ []) x))
     ∙ drop_at (f ++ 46 ∷ []) x (length f + 1) (length-append f (46 ∷ []))
 
--- the last dot is the one behind which no dot stands
-past_last-dot : (f x : List ℕ) → HasNone 46 x → length f + 1 ≡ past_last is_dot (f ++ 46 ∷ x)
-past_last-dot f x h =
+-- a dot that no dot follows is the last dot
+after_last-dot : (f x : List ℕ) → HasNoByte 46 x → length f + 1 ≡ after_last is_dot (f ++ 46 ∷ x)
+after_last-dot f x h =
     let s = f ++ 46 ∷ x in
-    past_last-byte 46 s (length f + 1) (omega (arith, length-append f (46 ∷ x)))
+    after_last-byte 46 s (length f + 1) (omega (arith, length-append f (46 ∷ x)))
     (λ l. ap (λ i. get_or s i 0) {x = length f + 1 - 1} {y = length f} (omega arith)
     ∙ get_or-append_seam f 46 x 0)
     (rw (drop-past_dot f x) (none_found x 46 h))
 
--- a string has no dot, or is cut at its last dot into f and x
+-- a string has no dot, or is split at its last dot into f and x
 data LastDot (s : List ℕ) : Type 0 where
-  NoDot : HasNone 46 s → LastDot s
-  AtDot : (f x : List ℕ) → s ≡ f ++ 46 ∷ x → HasNone 46 x → LastDot s
+  NoDot : HasNoByte 46 s → LastDot s
+  AtDot : (f x : List ℕ) → s ≡ f ++ 46 ∷ x → HasNoByte 46 x → LastDot s
 
 last_dot-cons : (b : ℕ) (s : List ℕ) → LastDot s → LastDot (b ∷ s)
 last_dot-cons b s (AtDot f x e h) = AtDot (b ∷ f) x (ap (λ z. b ∷ z) e) h
@@ -56,15 +56,15 @@ last_dot : (s : List ℕ) → LastDot s
 last_dot [] = NoDot (All-nil (λ c. c ≢ 46))
 last_dot (b ∷ s) = last_dot-cons b s (last_dot s)
 
--- a name is cut at its last dot if a byte stands before that
-pub split_name-dot : (f x : List ℕ) → 0 < length f → HasNone 46 x
+-- a name is split at its last dot if a byte comes before the dot
+pub split_name-dot : (f x : List ℕ) → 0 < length f → HasNoByte 46 x
     → split_name (f ++ 46 ∷ x) ≡ (f, Some x)
 split_name-dot f x l h =
     let n = length f + 1 in
-    split_name-cut (f ++ 46 ∷ x) n (past_last-dot f x h) (omega arith)
+    split_name-cut (f ++ 46 ∷ x) n (after_last-dot f x h) (omega arith)
     ∙ ap₂ (λ a b. (a, Some b)) (take_at f (46 ∷ x) (n - 1) (omega arith)) (drop-past_dot f x)
 
--- a name is its stem, or its stem with a dot and its extension behind
+-- a name is its stem, or its stem followed by a dot and its extension
 pub data SplitCase (name : List ℕ) : Type 0 where
   Whole : split_name name ≡ (name, None) → SplitCase name
   Cut : (b : ℕ) (f x : List ℕ) → name ≡ b ∷ f ++ 46 ∷ x
@@ -74,9 +74,9 @@ pub split_case : (name : List ℕ) → SplitCase name
 split_case name = by (last_dot name)
   where
     by : LastDot name → SplitCase name
-    by (NoDot h) = Whole (split_name-whole name 0 (past_last-none name h) (omega arith))
+    by (NoDot h) = Whole (split_name-whole name 0 (after_last-none name h) (omega arith))
     by (AtDot [] x e h) = Whole (split_name-whole name 1
-        (past_last-dot [] x h ∙ ap (past_last is_dot) (sym e)) (omega arith))
+        (after_last-dot [] x h ∙ ap (after_last is_dot) (sym e)) (omega arith))
     by (AtDot (b ∷ f) x e h) =
         Cut b f x e (ap split_name e ∙ split_name-dot (b ∷ f) x (omega arith) h)
 

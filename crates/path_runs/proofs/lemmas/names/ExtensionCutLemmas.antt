@@ -1,4 +1,4 @@
--- The bytes and the values of a path with an extension set or added.
+-- The bytes and the components of a path with an extension set or added.
 use Rattle.std.proofs.Common.{◌≡◌, ℕ, ◌+◌, false, eqb, List, [], ◌∷◌, ◌++◌, length, take, Option}
 use Rattle.std.proofs.Common.{Some, None, refl, sym, ap, ◌∙◌, append_assoc, append-nil}
 use Rattle.std.proofs.Common.{length-append}
@@ -21,7 +21,8 @@ use Rattle.path_runs.proofs.lemmas.joins.LeadLemmas.{append_values, values-appen
 regroup : (f a b c : List ℕ) → ((f ++ a) ++ b) ++ c ≡ f ++ (a ++ (b ++ c))
 regroup f a b c = simp append_assoc
 
--- what stands up to the end of a beginning of the file name is the prefix and that beginning
+-- the bytes up to the end of a prefix of the file name are the bytes before the name and that
+-- prefix
 take-name : (s name a r : List ℕ) (c : NameCut s name) → name ≡ a ++ r
     → take (last_start_of (parts s) + length a) s ≡ c.prefix ++ a
 take-name s name a r c e =
@@ -33,7 +34,8 @@ take-name s name a r c e =
     ∙ append_assoc (c.prefix ++ a) r c.back)
     ∙ take_at (c.prefix ++ a) (r ++ c.back) n size
 
--- with an extension set a path is the prefix, the stem, the dot if there is one, and the extension
+-- a path with an extension set is the bytes before the name, the stem, the dot if there is one, and
+-- the extension
 pub with_extension_of-cut : (s name x : List ℕ) → file_name_of (values s) ≡ Some name
     → (c : NameCut s name)
     → with_extension_of s x ≡ c.prefix ++ ((split_name name).0 ++ (dot_before x ++ x))
@@ -44,13 +46,13 @@ with_extension_of-cut s name x e c =
     ∙ ap (λ z. (z ++ dot_before x) ++ x) (take-name s name (split_name name).0 stem.0 c stem.1)
     ∙ regroup c.prefix (split_name name).0 (dot_before x) x
 
--- setting an extension leaves a path without a file name as it is
+-- setting an extension leaves a path without a file name unchanged
 with_extension_of-none : (s x : List ℕ) → file_name_of (values s) ≡ None
     → with_extension_of s x ≡ s
 unfolding with_extension_of stem_end_of
 with_extension_of-none s x e = ap (λ o. with_extension_at s x (stem_end_by s o)) e
 
--- with an extension added a path is the prefix, the name, a dot and the extension
+-- a path with an extension added is the bytes before the name, the name, a dot and the extension
 added_extension_of-cut : (s name x : List ℕ) → eqb (length x) 0 ≡ false
     → file_name_of (values s) ≡ Some name → (c : NameCut s name)
     → added_extension_of s x ≡ c.prefix ++ (name ++ 46 ∷ x)
@@ -61,12 +63,14 @@ added_extension_of-cut s name x some e c =
     ∙ ap (λ z. (z ++ 46 ∷ []) ++ x) (take-name s name name [] c (sym (append-nil name)))
     ∙ regroup c.prefix name (46 ∷ []) x
 
--- the values, and in place of a file name what n of it adds
+-- the components, with the file name `name` replaced by what the bytes `n name` add; unchanged
+-- without a file name
 abbrev pub renamed : (List ℕ → List ℕ) → List Value → List Value
 renamed n vs =
     option_map_or (λ name. append_values (middle 0 1 vs) (values (n name))) (file_name_of vs) vs
 
--- if f changes nothing but a file name, to n of it, it depends on the path's values alone
+-- if f only replaces the file name `name` by `n name`, the components of its result depend only on
+-- the path's components
 values-renamed : (f n : List ℕ → List ℕ) (s : List ℕ)
     → (file_name_of (values s) ≡ None → f s ≡ s)
     → ((name : List ℕ) → file_name_of (values s) ≡ Some name → (c : NameCut s name)
@@ -89,13 +93,13 @@ values-renamed f n s none some = by (file_name_of (values s)) refl
 abbrev pub name_with : List ℕ → List ℕ → List ℕ
 name_with x name = (split_name name).0 ++ (dot_before x ++ x)
 
--- the values of a path with an extension set depend on the path's values alone
+-- the components of a path with an extension set depend only on the path's components
 pub values-with_extension_of : (s x : List ℕ)
     → values (with_extension_of s x) ≡ renamed (name_with x) (values s)
 values-with_extension_of s x = values-renamed (λ s. with_extension_of s x) (name_with x) s
     (with_extension_of-none s x) (λ name e c. with_extension_of-cut s name x e c)
 
--- and so do those of a path with an extension added
+-- the components of a path with an extension added depend only on the path's components
 pub values-added_extension_of : (s x : List ℕ) → eqb (length x) 0 ≡ false
     → values (added_extension_of s x) ≡ renamed (λ name. name ++ 46 ∷ x) (values s)
 values-added_extension_of s x some =

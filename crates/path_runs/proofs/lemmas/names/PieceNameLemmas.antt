@@ -1,4 +1,4 @@
--- A string without a slash that is the name of its one part.
+-- A string without a slash that is the name of its only component.
 use Rattle.std.proofs.Common.{◌≡◌, ℕ, ◌<◌, false, List, length, ap, arith, get_or, eq-eqb}
 use Rattle.std.proofs.lemmas.Bool.{both_ways}
 use Rattle.std.proofs.lemmas.List.Sums.{fails_before_first}
@@ -7,17 +7,17 @@ use Rattle.std.specs.Str.{bytes_eq}
 use Rattle.std.proofs.lemmas.Slice.Eq.{bytes_eq-Decides}
 use Rattle.unix_path.specs.Parts.{is_slash, cur_dir, parent_dir}
 use Rattle.unix_bytes.proofs.lemmas.lists.ListLemmas.{by_test}
-use Rattle.path_runs.specs.EditLaws.{HasNone}
+use Rattle.path_runs.specs.EditLaws.{HasNoByte}
 use Rattle.path_runs.proofs.lemmas.names.DotLemmas.{none_found}
 use Rattle.unix_path.proofs.lemmas.names.NameCutLemmas.{IsName}
 
--- a string without a place of a slash has no byte that is one
-pub no_slash_byte : (s : List ℕ) → position_or_len is_slash s ≡ length s → HasNone 47 s
+-- if the index of the first slash is the length, no byte is a slash
+pub no_slash_byte : (s : List ℕ) → position_or_len is_slash s ≡ length s → HasNoByte 47 s
 no_slash_byte s h = λ k d l is. both_ways _
     (fails_before_first is_slash s k d (omega (arith, h))) (eq-eqb (get_or s k d) 47 is)
 
 -- a string longer than `..` in which no byte is a slash is a name
-pub long-name : (s : List ℕ) → 2 < length s → HasNone 47 s → IsName s
+pub long-name : (s : List ℕ) → 2 < length s → HasNoByte 47 s → IsName s
 long-name s l h = record {
   some = omega arith;
   no_slash = none_found s 47 h;

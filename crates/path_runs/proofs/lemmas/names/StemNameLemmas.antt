@@ -1,4 +1,4 @@
--- A name put together again from its stem and its extension.
+-- A name, rebuilt from its stem and its extension.
 use Rattle.std.proofs.Common.{◌≡◌, ℕ, List, Option, Some, None, option_map, sym, ap, ◌∙◌}
 use Rattle.std.proofs.lemmas.Option.{same_Some, none-some}
 use Rattle.std.specs.Option.{option_and_then}
@@ -6,7 +6,7 @@ use Rattle.unix_path.specs.Names.{split_name}
 use Rattle.path_runs.specs.QueryLaws.{name_from_stem}
 use Rattle.path_runs.proofs.lemmas.names.DotLemmas.{SplitCase, Whole, Cut, split_case}
 
--- a name is its stem, and behind it a dot and its extension if it has one
+-- a name is its stem, followed by a dot and its extension if it has one
 pub name_from_stem-split_name : (name : List ℕ)
     → name_from_stem (split_name name).0 (split_name name).1 ≡ name
 name_from_stem-split_name name = by (split_case name)
@@ -15,7 +15,7 @@ name_from_stem-split_name name = by (split_case name)
     by (Whole d) = ap (λ cut. name_from_stem cut.0 cut.1) d
     by (Cut b f x w d) = ap (λ cut. name_from_stem cut.0 cut.1) d ∙ sym w
 
--- a file name that has a stem is made of its stem and its extension
+-- a file name that has a stem consists of its stem and its extension
 pub file_name-from_stem : (o : Option (List ℕ)) (stem : List ℕ)
     → option_map (λ name. (split_name name).0) o ≡ Some stem
     → o ≡ Some (name_from_stem stem (option_and_then (λ name. (split_name name).1) o))

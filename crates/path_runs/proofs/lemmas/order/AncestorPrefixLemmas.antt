@@ -1,34 +1,34 @@
--- The ancestors of a path, step by step; each is a prefix of its bytes.
+-- The ancestors of a path, one by one: each is a prefix of its bytes.
 use Rattle.std.proofs.Common.{ℕ, zero, suc, ◌+◌, List, [], ◌++◌, length, drop, map}
 use Rattle.std.proofs.Common.{sym, ap, ◌∙◌, append-nil, take-append-drop}
 use Rattle.std.specs.List.{All, AllByRecursion, range_with_len}
 use Rattle.std.proofs.lemmas.List.Elements.{All-from_recursion}
 use Rattle.unix_path.specs.Rest.{rest}
 use Rattle.unix_path.specs.Parents.{depth_of, ancestors_of}
-use Rattle.unix_path.specs.Prefixes.{Begins}
+use Rattle.unix_path.specs.Prefixes.{IsPrefixOf}
 use Rattle.unix_path.proofs.lemmas.rests.RestLemmas.{take-rest}
 
 -- a path begins with `prefix`
-abbrev IsPrefixOf : List ℕ → List ℕ → Type 0
-IsPrefixOf s prefix = Begins prefix s
+abbrev HasPrefix : List ℕ → List ℕ → Type 0
+HasPrefix s prefix = IsPrefixOf prefix s
 
--- a path begins with each rest before its last parts
-rest-prefix : (s : List ℕ) (m : ℕ) → IsPrefixOf s (rest s 0 m)
+-- a path begins with the bytes of the path without its last m components
+rest-prefix : (s : List ℕ) (m : ℕ) → HasPrefix s (rest s 0 m)
 rest-prefix s m =
     let n = length (rest s 0 m) in
     (drop n s, ap (λ u. u ++ drop n s) (sym (take-rest s m)) ∙ take-append-drop n s)
 
--- a path begins with each of n rests before its last parts
+-- a path begins with the bytes of the path without its last m components, for each of n numbers m
 rests-prefixes : (s : List ℕ) (a n : ℕ)
-    → AllByRecursion (IsPrefixOf s) (map (λ m. rest s 0 m) (range_with_len a n))
+    → AllByRecursion (HasPrefix s) (map (λ m. rest s 0 m) (range_with_len a n))
 rests-prefixes s a zero = tt
 rests-prefixes s a (suc n) = (rest-prefix s a, rests-prefixes s (a + 1) n)
 
-ancestors-recursion : (s : List ℕ) → AllByRecursion (IsPrefixOf s) (ancestors_of s)
+ancestors-recursion : (s : List ℕ) → AllByRecursion (HasPrefix s) (ancestors_of s)
 unfolding ancestors_of
 ancestors-recursion s = (([], append-nil s), rests-prefixes s 1 (depth_of s))
 
 -- a path begins with each of its ancestors
-pub ancestors_of-prefixes : (s : List ℕ) → All (λ prefix. Begins prefix s) (ancestors_of s)
+pub ancestors_of-prefixes : (s : List ℕ) → All (λ prefix. IsPrefixOf prefix s) (ancestors_of s)
 ancestors_of-prefixes s =
-    All-from_recursion (IsPrefixOf s) (ancestors_of s) (ancestors-recursion s)
+    All-from_recursion (HasPrefix s) (ancestors_of s) (ancestors-recursion s)

@@ -1,4 +1,4 @@
--- The values of a path can be told from the bytes that they feed a hasher.
+-- The bytes that a path feeds a hasher determine its components.
 use Rattle.std.proofs.Common.{◌≡◌, ℕ, false, cond, List, [], ◌∷◌, ◌++◌, length}
 use Rattle.std.proofs.Common.{refl, sym, ap, ap₂, ◌∙◌, arith, append-nil, length-append}
 use Rattle.std.specs.List.{AllByRecursion, slice_split, concat}
@@ -9,59 +9,60 @@ use Rattle.std.proofs.lemmas.List.Splits.{slice_split_at}
 use Rattle.unix_path.specs.Hashed.{hash_input_of}
 use Rattle.unix_path.specs.Parts.{is_slash, slash, cur_dir, Value, RootDir, CurDir}
 use Rattle.unix_path.specs.Parts.{value_of_piece, value_bytes, values}
-use Rattle.unix_path.specs.Prefixes.{Begins}
-use Rattle.path_runs.proofs.lemmas.order.FeedLemmas.{with_zeros, with_zeros-cancel}
-use Rattle.path_runs.proofs.lemmas.order.FeedLemmas.{concat-hash_input_of}
+use Rattle.unix_path.specs.Prefixes.{IsPrefixOf}
+use Rattle.path_runs.proofs.lemmas.order.HashInputLemmas.{with_zeros, with_zeros-cancel}
+use Rattle.path_runs.proofs.lemmas.order.HashInputLemmas.{concat-hash_input_of}
 use Rattle.path_runs.proofs.lemmas.spelling.PieceValueLemmas.{HoldsOfPieces, NoSlash, values-hold}
 use Rattle.unix_path.proofs.lemmas.parts.ValueLemmas.{value_bytes-piece}
 
--- the value of what stands before the first slash that is fed
-told_value : List ℕ → Value
-told_value b = cond (bytes_eq b []) RootDir (cond (bytes_eq b cur_dir) CurDir (value_of_piece b))
+-- the component that feeds exactly the bytes b before the first slash
+value_fed_by : List ℕ → Value
+value_fed_by b = cond (bytes_eq b []) RootDir (cond (bytes_eq b cur_dir) CurDir (value_of_piece b))
 
--- what stands before the first slash tells the value
-record IsTold (v : Value) : Type 0 where
+-- the bytes that v feeds before the first slash, `piece`, determine v
+record IsDetermined (v : Value) : Type 0 where
   piece : List ℕ
-  behind : List ℕ
+  after_slash : List ℕ
   no_slash : NoSlash piece
-  fed : (x : List ℕ) → value_bytes v ++ slash ∷ x ≡ piece ++ slash ∷ (behind ++ x)
-  tells : told_value piece ≡ v
+  fed : (x : List ℕ) → value_bytes v ++ slash ∷ x ≡ piece ++ slash ∷ (after_slash ++ x)
+  determines : value_fed_by piece ≡ v
 
-root_told : IsTold RootDir
-unfolding told_value
-root_told = record {
+root_determined : IsDetermined RootDir
+unfolding value_fed_by
+root_determined = record {
   piece = [];
-  behind = slash ∷ [];
+  after_slash = slash ∷ [];
   no_slash = tt;
   fed = λ x. refl;
-  tells = refl;
+  determines = refl;
 }
 
-dot_told : IsTold CurDir
-unfolding told_value
-dot_told = record {
+dot_determined : IsDetermined CurDir
+unfolding value_fed_by
+dot_determined = record {
   piece = cur_dir;
-  behind = [];
+  after_slash = [];
   no_slash = (refl, tt);
   fed = λ x. refl;
-  tells = refl;
+  determines = refl;
 }
 
-piece_told : HoldsOfPieces IsTold
-unfolding told_value
-piece_told p h d e = record {
+piece_determined : HoldsOfPieces IsDetermined
+unfolding value_fed_by
+piece_determined p h d e = record {
   piece = p;
-  behind = [];
+  after_slash = [];
   no_slash = h;
   fed = λ x. ap (λ b. b ++ slash ∷ x) (value_bytes-piece p);
-  tells = rw (d, e) refl;
+  determines = rw (d, e) refl;
 }
 
--- each value of a path is told by what stands before its first slash
-values-told : (s : List ℕ) → AllByRecursion IsTold (values s)
-values-told s = values-hold IsTold root_told dot_told piece_told s
+-- each component of a path is determined by the bytes that it feeds before the first slash
+values-determined : (s : List ℕ) → AllByRecursion IsDetermined (values s)
+values-determined s = values-hold IsDetermined root_determined dot_determined piece_determined s
 
--- if two pieces, each with a slash and more behind it, make the same string, they are the same
+-- if two pieces, each followed by a slash and more bytes, make the same string, the pieces are the
+-- same
 same_piece : (p q x y : List ℕ) → NoSlash p → NoSlash q → p ++ slash ∷ x ≡ q ++ slash ∷ y → p ≡ q
 same_piece p q x y h k e =
     let split : (r z : List ℕ) → NoSlash r
@@ -71,16 +72,19 @@ same_piece p q x y h k e =
     let both = sym (split p x h) ∙ ap (slice_split is_slash) e ∙ split q y k in
     cc
 
--- two values whose bytes begin the same string, each with a slash behind, are the same
-same_value : (v w : Value) (x y : List ℕ) → IsTold v → IsTold w
+-- if the bytes of two components, each followed by a slash and more bytes, make the same string,
+-- the components are the same
+same_value : (v w : Value) (x y : List ℕ) → IsDetermined v → IsDetermined w
     → value_bytes v ++ slash ∷ x ≡ value_bytes w ++ slash ∷ y → v ≡ w
 same_value v w x y m n e =
-    let pieces = same_piece m.piece n.piece (m.behind ++ x) (n.behind ++ y) m.no_slash n.no_slash
+    let pieces = same_piece m.piece n.piece (m.after_slash ++ x) (n.after_slash ++ y) m.no_slash
+    n.no_slash
     (sym (m.fed x) ∙ e ∙ n.fed y) in
-    sym m.tells ∙ ap told_value pieces ∙ n.tells
+    sym m.determines ∙ ap value_fed_by pieces ∙ n.determines
 
--- two values that begin the same fed bytes are the same, and so is what follows
-same_first : (v w : Value) (x y : List ℕ) → IsTold v → IsTold w
+-- if what two components feed, each followed by more bytes, makes the same string, the components
+-- are the same, and so are the bytes that follow
+same_first : (v w : Value) (x y : List ℕ) → IsDetermined v → IsDetermined w
     → value_bytes v ++ slash ∷ with_zeros v x ≡ value_bytes w ++ slash ∷ with_zeros w y
     → (v ≡ w) × (x ≡ y)
 same_first v w x y m n e =
@@ -89,27 +93,30 @@ same_first v w x y m n e =
     let after = append_cancel_left (value_bytes v) _ _ whole in
     (same, with_zeros-cancel v x y (append_cancel_left (slash ∷ []) _ _ after))
 
--- if the bytes that some values feed begin those of others, the values begin the others
-begins-told : (vs ws : List Value) → AllByRecursion IsTold vs → AllByRecursion IsTold ws
+-- if the bytes that vs feeds are a prefix of the bytes that ws feeds, vs is a prefix of ws
+begins-determined : (vs ws : List Value) → AllByRecursion IsDetermined vs
+    → AllByRecursion IsDetermined ws
     → (x : List ℕ) → concat (hash_input_of vs) ++ x ≡ concat (hash_input_of ws) ++ []
-    → Begins vs ws
-begins-told [] ws m n x e = (ws, refl)
-begins-told (v ∷ vs) [] m n x e =
+    → IsPrefixOf vs ws
+begins-determined [] ws m n x e = (ws, refl)
+begins-determined (v ∷ vs) [] m n x e =
     let b = value_bytes v in
     let others = slash ∷ with_zeros v (concat (hash_input_of vs) ++ x) in
     let none : b ++ others ≡ [] = sym (concat-hash_input_of v vs x) ∙ e in
     absurd (omega (arith, ap length none, length-append b others))
-begins-told (v ∷ vs) (w ∷ ws) m n x e =
+begins-determined (v ∷ vs) (w ∷ ws) m n x e =
     let left = concat (hash_input_of vs) ++ x in
     let right = concat (hash_input_of ws) ++ [] in
     let first = same_first v w left right m.0 n.0
     (sym (concat-hash_input_of v vs x) ∙ e ∙ concat-hash_input_of w ws []) in
-    let others = begins-told vs ws m.1 n.1 x first.1 in
+    let others = begins-determined vs ws m.1 n.1 x first.1 in
     (others.0, ap₂ (λ u us. u ∷ us) first.0 others.1)
 
--- if the bytes that one path feeds begin another's, its values begin the other's
-pub bytes_fed-Begins : (s t x : List ℕ)
+-- if the bytes that one path feeds are a prefix of another's, its components are a prefix of the
+-- other's
+pub bytes_fed-IsPrefixOf : (s t x : List ℕ)
     → concat (hash_input_of (values s)) ++ x ≡ concat (hash_input_of (values t))
-    → Begins (values s) (values t)
-bytes_fed-Begins s t x e = begins-told (values s) (values t) (values-told s) (values-told t) x
+    → IsPrefixOf (values s) (values t)
+bytes_fed-IsPrefixOf s t x e =
+    begins-determined (values s) (values t) (values-determined s) (values-determined t) x
     (e ∙ sym (append-nil (concat (hash_input_of (values t)))))

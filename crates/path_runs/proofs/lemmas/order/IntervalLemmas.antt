@@ -1,18 +1,20 @@
--- Value lists that begin with a base stand side by side in the order, and the base before them.
+-- In the order of lists of components, those that start with a base are adjacent, and the base
+-- comes before them.
 use Rattle.std.proofs.Common.{◌≡◌, true, true≢false, List, [], ◌∷◌, ◌++◌, refl, sym, ap, ap₂}
 use Rattle.std.proofs.Common.{◌∙◌, Ordering, Less, Equal, Greater}
 use Rattle.std.specs.Ordering.{is_le, ordering_then, ordering_reverse}
 use Rattle.std.proofs.lemmas.Cmp.{tied_itself}
-use Rattle.unix_bytes.specs.Begins.{Begins}
+use Rattle.unix_bytes.specs.IsPrefixOf.{IsPrefixOf}
 use Rattle.unix_path.specs.Parts.{Value}
 use Rattle.unix_path.specs.Order.{value_cmp, values_cmp}
 use Rattle.unix_path.specs.OrderLaws.{value_cmp-total, value_cmp-equal}
 
--- between two lists that begin with a value stand only lists that begin with it
+-- a list between two lists that start with the component a starts with a too; if its tail starts
+-- with base, the list starts with a and base
 begins_between-cons : (a b : Value) (base v : List Value) (o p q r : Ordering)
     → value_cmp a b ≡ o → p ≡ ordering_reverse o
     → is_le (ordering_then o q) ≡ true → is_le (ordering_then p r) ≡ true
-    → (is_le q ≡ true → is_le r ≡ true → Begins base v) → Begins (a ∷ base) (b ∷ v)
+    → (is_le q ≡ true → is_le r ≡ true → IsPrefixOf base v) → IsPrefixOf (a ∷ base) (b ∷ v)
 begins_between-cons a b base v Less p q r is back after before behind =
     absurd (true≢false (sym before ∙ ap (λ o. is_le (ordering_then o r)) back))
 begins_between-cons a b base v Equal p q r is back after before behind =
@@ -21,10 +23,10 @@ begins_between-cons a b base v Equal p q r is back after before behind =
 begins_between-cons a b base v Greater p q r is back after before behind =
     absurd (true≢false (sym after))
 
--- what lies between base with x and base with y behind it begins with base
+-- what lies between base followed by x and base followed by y starts with base
 begins_between-append : (base v x y : List Value)
     → is_le (values_cmp (base ++ x) v) ≡ true → is_le (values_cmp v (base ++ y)) ≡ true
-    → Begins base v
+    → IsPrefixOf base v
 begins_between-append [] v x y after before = (v, refl)
 begins_between-append (a ∷ base) [] x y after before = absurd (true≢false (sym after))
 begins_between-append (a ∷ base) (b ∷ v) x y after before =
@@ -32,15 +34,15 @@ begins_between-append (a ∷ base) (b ∷ v) x y after before =
     (values_cmp (base ++ x) v) (values_cmp v (base ++ y))
     refl (value_cmp-total.antisymm b a) after before (begins_between-append base v x y)
 
--- what lies between two lists that begin with base begins with base
-pub begins_between : (base u v w : List Value) → Begins base u → Begins base w
-    → is_le (values_cmp u v) ≡ true → is_le (values_cmp v w) ≡ true → Begins base v
+-- what lies between two lists that start with base starts with base
+pub begins_between : (base u v w : List Value) → IsPrefixOf base u → IsPrefixOf base w
+    → is_le (values_cmp u v) ≡ true → is_le (values_cmp v w) ≡ true → IsPrefixOf base v
 begins_between base u v w first last after before =
     begins_between-append base v first.0 last.0
     (ap (λ t. is_le (values_cmp t v)) first.1 ∙ after)
     (ap (λ t. is_le (values_cmp v t)) last.1 ∙ before)
 
--- a list isn't greater than itself with more behind it
+-- a list isn't greater than the same list with more components after it
 is_le-append : (base more : List Value) → is_le (values_cmp base (base ++ more)) ≡ true
 is_le-append [] [] = refl
 is_le-append [] (v ∷ more) = refl
@@ -49,7 +51,7 @@ is_le-append (v ∷ base) more =
     (tied_itself value_cmp-total v)
     ∙ is_le-append base more
 
--- a list isn't greater than one that it begins
-pub base_not_greater : (base v : List Value) → Begins base v → is_le (values_cmp base v) ≡ true
+-- a list isn't greater than one that starts with it
+pub base_not_greater : (base v : List Value) → IsPrefixOf base v → is_le (values_cmp base v) ≡ true
 base_not_greater base v begins =
     sym (ap (λ t. is_le (values_cmp base t)) begins.1) ∙ is_le-append base begins.0

@@ -1,4 +1,5 @@
--- Value lists are equal exactly if they tie in the order, and if they begin each other.
+-- Lists of components are equal if and only if they tie in the order. Lists of components that are
+-- prefixes of each other are equal.
 use Rattle.std.proofs.Common.{◌≡◌, ◌↔◌, ◌⊎◌, inl, inr, refl, List, ◌++◌, length, sym, ap, ◌∙◌}
 use Rattle.std.proofs.Common.{arith}
 use Rattle.std.proofs.Common.{append-nil, Ordering, Less, Equal, Greater}
@@ -11,24 +12,24 @@ use Rattle.unix_path.specs.Order.{values_cmp, IsBefore}
 use Rattle.path_runs.specs.OrderLaws.{OneOrder}
 use Rattle.unix_path.specs.OrderLaws.{values_cmp-total, values_cmp-equal}
 
--- only equal value lists tie in the order
+-- lists of components tie in the order if and only if they are equal
 pub values_cmp-ties : (v w : List Value) → (values_cmp v w ≡ Equal) ↔ (v ≡ w)
 values_cmp-ties v w =
     (values_cmp-equal v w, λ e. ap (values_cmp v) (sym e) ∙ tied_itself values_cmp-total v)
 
--- value lists of which each begins the other are equal, since neither is longer
+-- lists of components that are prefixes of each other are equal, since neither is longer
 pub begins_both_ways : (v w x y : List Value) → v ++ x ≡ w → w ++ y ≡ v → v ≡ w
 begins_both_ways v w x y d e =
     let none = nil_from_length x
     (omega (arith, length-append v x, length-append w y, ap length d, ap length e)) in
     sym (append-nil v) ∙ ap (λ z. v ++ z) (sym none) ∙ d
 
--- what is less than another value list comes behind none that it is not behind
+-- if w is less than v, then v is greater than w
 before-reversed : (v w : List Value) → IsBefore w v → values_cmp v w ≡ Greater
 before-reversed v w before =
     values_cmp-total.antisymm v w ∙ ap ordering_reverse before
 
--- of two value lists one is less, or they are equal
+-- of two lists of components one is less, or they are equal
 one_of : (v w : List Value) (o : Ordering) → values_cmp v w ≡ o
     → (v ≡ w) ⊎ (IsBefore v w ⊎ IsBefore w v)
 one_of v w Less is = inr (inl is)
@@ -36,10 +37,10 @@ one_of v w Equal is = inl (values_cmp-equal v w is)
 one_of v w Greater is =
     inr (inr (values_cmp-total.antisymm w v ∙ ap ordering_reverse is))
 
--- and no two of these hold
+-- for two lists one and only one holds: they are equal, the first is less, or the second is less
 pub one_order : OneOrder
 one_order v w = record {
-  some = one_of v w (values_cmp v w) refl;
+  one_holds = one_of v w (values_cmp v w) refl;
   not_first_two = λ h. absurd (let d : Equal ≡ Less =
       sym ((values_cmp-ties v w).1 h.0) ∙ h.1 in cc);
   not_outer = λ h. absurd (let d : Equal ≡ Greater =

@@ -1,4 +1,4 @@
--- The parent of a path stands before it in the order, and with its file name is the path again.
+-- A path's parent sorts before the path, and joined with the path's file name it equals the path.
 use Rattle.std.proofs.Common.{◌≡◌, ℕ, List, [], ◌∷◌, ◌++◌, Some, refl, sym, ap, ap₂, ◌∙◌}
 use Rattle.std.specs.Ordering.{ordering_then}
 use Rattle.std.proofs.lemmas.Cmp.{tied_itself}
@@ -14,18 +14,18 @@ use Rattle.unix_path.proofs.lemmas.names.NameCutLemmas.{name_cut, values-name}
 use Rattle.path_runs.proofs.lemmas.joins.SiblingLemmas.{values-rest_push, values-join_of_one}
 use Rattle.unix_bytes.proofs.lemmas.lists.ListLemmas.{Snoc, Empty, Push, snoc}
 
--- values stand before themselves with one more behind
+-- a list of components is before the same list with one more component
 before_push : (vs : List Value) (v : Value) → IsBefore vs (vs ++ v ∷ [])
 before_push [] v = refl
 before_push (w ∷ vs) v =
     ap (λ o. ordering_then o (values_cmp vs (vs ++ v ∷ []))) (tied_itself value_cmp-total w)
     ∙ before_push vs v
 
--- a path without values has no parent
+-- a path without components has no parent
 no_parent : (s parent : List ℕ) → values s ≡ [] → parent_of s ≡ Some parent → ⊥
 no_parent s parent is e = none-some parent (parent_of-none s is ∙ e)
 
--- a path's parent stands before it in the order
+-- a path's parent is before the path in the order
 pub parent-before : (s parent : List ℕ) → parent_of s ≡ Some parent
     → IsBefore (values parent) (values s)
 parent-before s parent e = by (snoc (values s))

@@ -1,4 +1,5 @@
--- A table with paths as keys is a table by values: look-ups, insertions and removals.
+-- Lookups, insertions and removals in a table with paths as keys have the results that they have in
+-- a table whose keys are the paths' components.
 use Rattle.std.proofs.Common.{◌≡◌, ℕ, true, false, cond, List, [], ◌∷◌, Some, refl, ap}
 use Rattle.std.specs.BTreeMap.{insert_entry, is_at}
 use Rattle.std.specs.Map.{remove_entry}
@@ -8,14 +9,14 @@ use Rattle.unix_path.specs.Order.{values_cmp}
 use Rattle.unix_path.specs.Parts.{Value, values}
 use Rattle.path_runs.specs.TableLaws.{rows_of, LookupByValues, InsertByValues, RemoveByValues}
 
--- a look-up by a path finds what the rows have at its values
+-- a lookup by a path finds what the rows have at its components
 pub lookup-rows_of : {K V : Type 0} (bytes_of : K → List ℕ) → LookupByValues bytes_of V
 lookup-rows_of bytes_of w [] = refl
 lookup-rows_of bytes_of w (e ∷ entries) =
     ap (λ r. cond (is_at (values_cmp w) (values (bytes_of e.0))) (Some e.1) r)
     (lookup-rows_of bytes_of w entries)
 
--- a removal by a path removes from the rows at its values
+-- a removal by a path removes from the rows at its components
 pub remove-rows_of : {K V : Type 0} (bytes_of : K → List ℕ) → RemoveByValues bytes_of V
 remove-rows_of bytes_of w [] = refl
 remove-rows_of {K} {V} bytes_of w (e ∷ entries) =
@@ -29,7 +30,7 @@ remove-rows_of {K} {V} bytes_of w (e ∷ entries) =
       | false ↦ ap (λ rows. row ∷ rows) (remove-rows_of bytes_of w entries)
     ]
 
--- an insertion by a path inserts into the rows at its values
+-- an insertion by a path inserts into the rows at its components
 pub insert-rows_of : {K V : Type 0} (bytes_of : K → List ℕ) → InsertByValues bytes_of V
 insert-rows_of bytes_of [] key value = refl
 insert-rows_of {K} {V} bytes_of (e ∷ entries) key value =

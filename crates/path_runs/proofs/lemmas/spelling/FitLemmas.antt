@@ -1,4 +1,4 @@
--- The parts of a path have no more bytes than the path.
+-- The components of a path have at most as many bytes as the path.
 use Rattle.std.proofs.Common.{◌≤◌, ℕ, List, [], ◌∷◌, length, map, ⊎_elim, refl, ap, arith}
 use Rattle.std.proofs.Common.{length-append}
 use Rattle.std.specs.List.{sum, sum_by}
@@ -8,11 +8,11 @@ use Rattle.unix_path.specs.Parts.{Value, RootDir, value_bytes, values}
 use Rattle.path_runs.specs.Spelling.{slashed_bytes, spelling_of}
 use Rattle.path_runs.proofs.lemmas.spelling.LeanLemmas.{spelling_of-shortest}
 
--- how many bytes the values have
+-- the number of bytes of the components
 abbrev pub byte_count : List Value → ℕ
 byte_count vs = sum_by (λ v. length (value_bytes v)) vs
 
--- values have no more bytes than these have with slashes between
+-- components have at most as many bytes as they have with slashes between them
 byte_count-slashed_bytes : (vs : List Value) → byte_count vs ≤ length (slashed_bytes vs)
 byte_count-slashed_bytes [] = omega arith
 byte_count-slashed_bytes (v ∷ []) = omega (arith, sum_by-cons (λ v. length (value_bytes v)) v [])
@@ -23,7 +23,7 @@ byte_count-slashed_bytes (v ∷ w ∷ vs) = omega (
   byte_count-slashed_bytes (w ∷ vs),
 )
 
--- values have no more bytes than their spelling
+-- components have at most as many bytes as their canonical form
 byte_count-spelling_of : (vs : List Value) → byte_count vs ≤ length (spelling_of vs)
 unfolding spelling_of
 byte_count-spelling_of [] = omega arith
@@ -34,14 +34,14 @@ byte_count-spelling_of (RootDir ∷ vs) = omega (
 )
 byte_count-spelling_of (v ∷ vs) = byte_count-slashed_bytes (v ∷ vs)
 
--- a path's values have no more bytes than the path
+-- a path's components have at most as many bytes as the path
 pub byte_count-values : (s : List ℕ) → byte_count (values s) ≤ length s
 byte_count-values s =
     let spelled = byte_count-spelling_of (values s) in
     ⊎_elim (λ same. omega (arith, spelled, ap length same)) (λ longer. omega (arith, spelled))
     (spelling_of-shortest s s refl)
 
--- the bytes of a path's parts, as a list of strings, are no more than the path's
+-- the components of a path, as a list of strings, have at most as many bytes as the path
 pub sum_by-items : (s : List ℕ) → sum_by length (map value_bytes (values s)) ≤ length s
 sum_by-items s =
     let vs = values s in

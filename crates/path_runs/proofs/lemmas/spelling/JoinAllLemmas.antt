@@ -1,51 +1,55 @@
--- The bytes of a path's values, each joined to those before it, are the spelling.
+-- The bytes of a path's components, each joined to those before it, are the canonical form. A
+-- string is open if it is empty or ends in a slash, and unslashed if it isn't empty and neither
+-- begins nor ends with a slash.
 use Rattle.std.proofs.Common.{◌≡◌, ℕ, true, false, List, [], ◌∷◌, ◌++◌, map, refl, sym, ap, ◌∙◌}
 use Rattle.std.proofs.Common.{append_assoc}
 use Rattle.std.specs.List.{AllByRecursion, join_with_byte}
 use Rattle.unix_path.specs.Parts.{slash, Value, RootDir, value_bytes, values}
-use Rattle.unix_path.specs.Joins.{is_open, join_all_of}
-use Rattle.unix_path.proofs.lemmas.edits.JoinLemmas.{join_of_rooted, join_of_closed}
+use Rattle.unix_path.specs.Joins.{needs_no_separator, join_all_of}
+use Rattle.unix_path.proofs.lemmas.edits.JoinLemmas.{join_of_rooted, join_of_separator}
 use Rattle.path_runs.specs.Spelling.{slashed_bytes, spelling_of}
 use Rattle.path_runs.proofs.lemmas.joins.AssociativeLemmas.{separator, join_of-separator}
 use Rattle.path_runs.proofs.lemmas.spelling.SpellLemmas.{spelling_of-root}
 use Rattle.path_runs.proofs.lemmas.spelling.UnslashedLemmas.{IsUnslashed, IsUnslashedValue, Shape}
 use Rattle.path_runs.proofs.lemmas.spelling.UnslashedLemmas.{Rooted, Rootless, values-shape}
 
--- what is put before the first of some strings stands before their join
+-- x put before the first of some strings comes before the strings joined by slashes
 join_with_byte-onto : (x b : List ℕ) (bs : List (List ℕ))
     → join_with_byte slash ((x ++ b) ∷ bs) ≡ x ++ join_with_byte slash (b ∷ bs)
 join_with_byte-onto x b [] = refl
 join_with_byte-onto x b (c ∷ bs) = append_assoc x b (slash ∷ join_with_byte slash (c ∷ bs))
 
--- a path that ends in one that isn't open isn't open
-is_open-append_closed : (a b : List ℕ) → is_open b ≡ false → is_open (a ++ b) ≡ false
-is_open-append_closed [] b e = e
-is_open-append_closed (x ∷ []) [] e = absurd (let d : true ≡ false = e in cc)
-is_open-append_closed (x ∷ []) (y ∷ b) e = e
-is_open-append_closed (x ∷ y ∷ a) b e = is_open-append_closed (y ∷ a) b e
+-- a path that ends with the bytes of a path that isn't open isn't open
+needs_no_separator-append_closed : (a b : List ℕ) → needs_no_separator b ≡ false
+    → needs_no_separator (a ++ b) ≡ false
+needs_no_separator-append_closed [] b e = e
+needs_no_separator-append_closed (x ∷ []) [] e = absurd (let d : true ≡ false = e in cc)
+needs_no_separator-append_closed (x ∷ []) (y ∷ b) e = e
+needs_no_separator-append_closed (x ∷ y ∷ a) b e = needs_no_separator-append_closed (y ∷ a) b e
 
--- all these are unslashed
+-- all these strings are unslashed
 abbrev pub AllUnslashed : List (List ℕ) → Type 0
 AllUnslashed bs = AllByRecursion IsUnslashed bs
 
--- unslashed paths, joined to a path that isn't open, each follow a slash
-join_all_of-closed : (a : List ℕ) (bs : List (List ℕ)) → is_open a ≡ false → AllUnslashed bs
+-- unslashed paths that are joined to a path that isn't open each follow a slash
+join_all_of-closed : (a : List ℕ) (bs : List (List ℕ)) → needs_no_separator a ≡ false
+    → AllUnslashed bs
     → join_all_of a bs ≡ join_with_byte slash (a ∷ bs)
 join_all_of-closed a [] o h = refl
 join_all_of-closed a (b ∷ bs) o h =
-    ap (λ c. join_all_of c bs) (join_of_closed a b h.0.rootless o)
+    ap (λ c. join_all_of c bs) (join_of_separator a b h.0.rootless o)
     ∙ join_all_of-closed ((a ++ slash ∷ []) ++ b) bs
-    (is_open-append_closed (a ++ slash ∷ []) b h.0.closed) h.1
+    (needs_no_separator-append_closed (a ++ slash ∷ []) b h.0.closed) h.1
     ∙ join_with_byte-onto (a ++ slash ∷ []) b bs
     ∙ append_assoc a (slash ∷ []) (join_with_byte slash (b ∷ bs))
 
--- unslashed paths, joined to any path, one of them at least, have slashes between them
+-- one or more unslashed paths that are joined to any path have slashes between them
 pub join_all_of-some : (a b : List ℕ) (bs : List (List ℕ)) → AllUnslashed (b ∷ bs)
     → join_all_of a (b ∷ bs) ≡ (a ++ separator a) ++ join_with_byte slash (b ∷ bs)
 join_all_of-some a b bs h =
     ap (λ c. join_all_of c bs) (join_of-separator a b h.0.rootless)
     ∙ join_all_of-closed ((a ++ separator a) ++ b) bs
-    (is_open-append_closed (a ++ separator a) b h.0.closed) h.1
+    (needs_no_separator-append_closed (a ++ separator a) b h.0.closed) h.1
     ∙ join_with_byte-onto (a ++ separator a) b bs
 
 join_all_of-unslashed : (bs : List (List ℕ)) → AllUnslashed bs
@@ -53,7 +57,7 @@ join_all_of-unslashed : (bs : List (List ℕ)) → AllUnslashed bs
 join_all_of-unslashed [] h = refl
 join_all_of-unslashed (b ∷ bs) h = join_all_of-some [] b bs h
 
--- unslashed paths, joined to the root, follow it with slashes between them
+-- unslashed paths that are joined to the root follow it with slashes between them
 join_all_of-root : (bs : List (List ℕ)) → AllUnslashed bs
     → join_all_of [] ((slash ∷ []) ∷ bs) ≡ slash ∷ join_with_byte slash bs
 join_all_of-root [] h = join_of_rooted [] (slash ∷ []) refl
@@ -66,7 +70,7 @@ pub unslashed_bytes : (vs : List Value) → AllByRecursion IsUnslashedValue vs
 unslashed_bytes [] h = tt
 unslashed_bytes (v ∷ vs) h = (h.0.unslashed, unslashed_bytes vs h.1)
 
--- the spelling of unslashed values is their bytes with a slash between two of them
+-- the canonical form of unslashed components is their bytes with slashes between them
 pub spelling_of-unslashed : (vs : List Value) → AllByRecursion IsUnslashedValue vs
     → spelling_of vs ≡ slashed_bytes vs
 unfolding spelling_of
@@ -74,7 +78,7 @@ spelling_of-unslashed [] h = refl
 spelling_of-unslashed (RootDir ∷ vs) h = absurd (h.0.no_root refl)
 spelling_of-unslashed (v ∷ vs) h = refl
 
--- the values' bytes, each joined to those before it, are the spelling
+-- the components' bytes, each joined to those before it, are the canonical form
 pub join_all_of-values : (s : List ℕ)
     → join_all_of [] (map value_bytes (values s)) ≡ spelling_of (values s)
 join_all_of-values s = by (values-shape s)

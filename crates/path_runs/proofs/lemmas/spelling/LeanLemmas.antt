@@ -1,4 +1,4 @@
--- No path is shorter than the spelling of its values.
+-- No path is shorter than its canonical form. A piece counts if it is neither empty nor `.`.
 use Rattle.std.proofs.Common.{◌≡◌, ℕ, ◌+◌, ◌<◌, ◌≤◌, eqb, List, [], ◌∷◌, ◌++◌, length, drop, sym}
 use Rattle.std.proofs.Common.{refl, ap, subst, ◌∙◌, ◌⊎◌, inl, inr, arith, append-nil, length-append}
 use Rattle.std.proofs.Common.{eqb-true}
@@ -15,36 +15,41 @@ use Rattle.path_runs.specs.Spelling.{slash_each, slashed_bytes, spelling_of}
 use Rattle.path_runs.proofs.lemmas.spelling.PieceValueLemmas.{inner_values-pieces, names_of}
 use Rattle.path_runs.proofs.lemmas.spelling.PieceValueLemmas.{values-rooted}
 use Rattle.path_runs.proofs.lemmas.spelling.SpellLemmas.{spelling_of-root}
-use Rattle.path_runs.proofs.lemmas.gaps.KeptLemmas.{first_slash, nothing_left, slashed_parts-slash}
-use Rattle.path_runs.proofs.lemmas.gaps.StretchLemmas.{slashed_bytes-cons}
-use Rattle.path_runs.proofs.lemmas.gaps.StretchLemmas.{spelling_of-name, spelling_of-short}
+use Rattle.path_runs.proofs.lemmas.gaps.FirstGapLemmas.{first_slash, no_parts_after_end}
+use Rattle.path_runs.proofs.lemmas.gaps.FirstGapLemmas.{slashed_parts-slash}
+use Rattle.path_runs.proofs.lemmas.gaps.GapSpellingLemmas.{slashed_bytes-cons}
+use Rattle.path_runs.proofs.lemmas.gaps.GapSpellingLemmas.{spelling_of-name, spelling_of-short}
 
--- the same bytes, or fewer
-abbrev Leaner : List ℕ → List ℕ → Type 0
-Leaner u s = (u ≡ s) ⊎ (length u < length s)
+-- u has the same bytes as s, or is shorter
+abbrev SameOrShorter : List ℕ → List ℕ → Type 0
+SameOrShorter u s = (u ≡ s) ⊎ (length u < length s)
 
-Leaner-append : (p u s : List ℕ) → Leaner u s → Leaner (p ++ u) (p ++ s)
-Leaner-append p u s (inl e) = inl (ap (λ z. p ++ z) e)
-Leaner-append p u s (inr h) = inr (omega (arith, length-append p u, length-append p s))
+SameOrShorter-append : (p u s : List ℕ) → SameOrShorter u s → SameOrShorter (p ++ u) (p ++ s)
+SameOrShorter-append p u s (inl e) = inl (ap (λ z. p ++ z) e)
+SameOrShorter-append p u s (inr h) = inr (omega (arith, length-append p u, length-append p s))
 
-Leaner-longer : (u s t : List ℕ) → Leaner u s → length s < length t → Leaner u t
-Leaner-longer u s t (inl e) l = inr (omega (arith, ap length e))
-Leaner-longer u s t (inr h) l = inr (omega arith)
+SameOrShorter-longer : (u s t : List ℕ) → SameOrShorter u s → length s < length t
+    → SameOrShorter u t
+SameOrShorter-longer u s t (inl e) l = inr (omega (arith, ap length e))
+SameOrShorter-longer u s t (inr h) l = inr (omega arith)
 
--- the pieces, each behind a slash
+-- the pieces, each after a slash
 abbrev each_piece : List (List ℕ) → List ℕ
 each_piece ps = flat_map (λ p. slash ∷ p) ps
 
--- without the pieces that don't count that is the same, or fewer bytes
-Leaner-names : (ps : List (List ℕ)) → Leaner (slash_each (names_of ps)) (each_piece ps)
-Leaner-names [] = inl refl
-Leaner-names (p ∷ ps) = by_test (counts p)
+-- pieces, each after a slash, are the same or shorter without the pieces that don't count
+SameOrShorter-names : (ps : List (List ℕ))
+    → SameOrShorter (slash_each (names_of ps)) (each_piece ps)
+SameOrShorter-names [] = inl refl
+SameOrShorter-names (p ∷ ps) = by_test (counts p)
     (λ e. rw (e, value_bytes-piece p)
-    (Leaner-append (slash ∷ p) (slash_each (names_of ps)) (each_piece ps) (Leaner-names ps)))
-    (λ e. rw e (Leaner-longer (slash_each (names_of ps)) (each_piece ps) (each_piece (p ∷ ps))
-    (Leaner-names ps) (omega (arith, length-append p (each_piece ps)))))
+    (SameOrShorter-append (slash ∷ p) (slash_each (names_of ps)) (each_piece ps)
+    (SameOrShorter-names ps)))
+    (λ e. rw e (SameOrShorter-longer (slash_each (names_of ps)) (each_piece ps)
+    (each_piece (p ∷ ps))
+    (SameOrShorter-names ps) (omega (arith, length-append p (each_piece ps)))))
 
--- each behind a slash, pieces are a slash and the joined pieces
+-- pieces, each after a slash, are a slash and the joined pieces
 each_piece-join : (p : List ℕ) (ps : List (List ℕ))
     → each_piece (p ∷ ps) ≡ slash ∷ join_with_byte slash (p ∷ ps)
 each_piece-join p [] = ap (λ u. slash ∷ u) (append-nil p)
@@ -61,24 +66,24 @@ each_piece-whole s =
     ∙ ap (λ ps. slash ∷ join_with_byte slash ps) (sym first)
     ∙ ap (λ u. slash ∷ u) (join_with_byte-pieces s)
 
--- the parts of a string, each behind a slash, are the string behind one, or fewer bytes
-slashed_parts-lean : (s : List ℕ) → Leaner (slashed_parts s) (slash ∷ s)
+-- the components of a string, each after a slash, are the string after a slash, or shorter
+slashed_parts-lean : (s : List ℕ) → SameOrShorter (slashed_parts s) (slash ∷ s)
 unfolding slashed_parts
 slashed_parts-lean s =
-    subst (λ vs. Leaner (slash_each vs) (slash ∷ s)) (sym (inner_values-pieces s))
-    (subst (Leaner (slash_each (names_of (slice_split is_slash s)))) (each_piece-whole s)
-    (Leaner-names (slice_split is_slash s)))
+    subst (λ vs. SameOrShorter (slash_each vs) (slash ∷ s)) (sym (inner_values-pieces s))
+    (subst (SameOrShorter (slash_each (names_of (slice_split is_slash s)))) (each_piece-whole s)
+    (SameOrShorter-names (slice_split is_slash s)))
 
-Leaner-length : (u s : List ℕ) → Leaner u s → length u ≤ length s
-Leaner-length u s (inl e) = omega (arith, ap length e)
-Leaner-length u s (inr h) = omega arith
+SameOrShorter-length : (u s : List ℕ) → SameOrShorter u s → length u ≤ length s
+SameOrShorter-length u s (inl e) = omega (arith, ap length e)
+SameOrShorter-length u s (inr h) = omega arith
 
--- the parts of a string, each behind a slash, take at most one byte more than the string
+-- the components of a string, each after a slash, have at most one byte more than the string
 pub slashed_parts-length : (s : List ℕ) → length (slashed_parts s) ≤ length s + 1
 slashed_parts-length s =
-    omega (arith, Leaner-length (slashed_parts s) (slash ∷ s) (slashed_parts-lean s))
+    omega (arith, SameOrShorter-length (slashed_parts s) (slash ∷ s) (slashed_parts-lean s))
 
--- the names between a string's slashes are spelled as no more bytes than the string has
+-- a string's components, with slashes between them, have at most as many bytes as the string
 pub slashed_bytes-lean : (s : List ℕ) → length (slashed_bytes (inner_values s)) ≤ length s
 unfolding slashed_parts
 slashed_bytes-lean s = by (inner_values s) (slashed_parts-length s)
@@ -88,44 +93,44 @@ slashed_bytes-lean s = by (inner_values s) (slashed_parts-length s)
     by [] l = omega arith
     by (v ∷ vs) l = omega (arith, ap length (slashed_bytes-cons v vs))
 
--- behind the root, too, values with slashes between are as many bytes as those behind it, or fewer
-Leaner-root : (vs : List Value) (s : List ℕ) → Leaner (slash_each vs) (slash ∷ s)
-    → Leaner (slash ∷ slashed_bytes vs) (slash ∷ s)
-Leaner-root [] [] h = inl refl
-Leaner-root [] (x ∷ s) h = inr (omega arith)
-Leaner-root (v ∷ vs) s h = rw (slashed_bytes-cons v vs) h
+-- after the root, components with slashes between them are the bytes after the root, or shorter
+SameOrShorter-root : (vs : List Value) (s : List ℕ) → SameOrShorter (slash_each vs) (slash ∷ s)
+    → SameOrShorter (slash ∷ slashed_bytes vs) (slash ∷ s)
+SameOrShorter-root [] [] h = inl refl
+SameOrShorter-root [] (x ∷ s) h = inr (omega arith)
+SameOrShorter-root (v ∷ vs) s h = rw (slashed_bytes-cons v vs) h
 
--- the first piece, and then the parts, each behind a slash, are the string, or fewer bytes
-Leaner-first : (s : List ℕ)
-    → Leaner (first_piece s ++ slashed_parts (drop (position_or_len is_slash s) s)) s
-Leaner-first [] = inl (nothing_left [] [] 0 (omega arith))
-Leaner-first (x ∷ s) = by_test (eqb x 47)
+-- the first piece, followed by the components, each after a slash, is the string, or shorter
+SameOrShorter-first : (s : List ℕ)
+    → SameOrShorter (first_piece s ++ slashed_parts (drop (position_or_len is_slash s) s)) s
+SameOrShorter-first [] = inl (no_parts_after_end [] [] 0 (omega arith))
+SameOrShorter-first (x ∷ s) = by_test (eqb x 47)
     (λ e. rw (first_slash x s e, slashed_parts-slash x s e, eqb-true x 47 e) (slashed_parts-lean s))
     (λ e. rw (
       first_piece-other x s e,
       position_or_len-other x s e,
       drop-suc_cons (position_or_len is_slash s) x s,
     )
-    (Leaner-append (x ∷ []) _ s (Leaner-first s)))
+    (SameOrShorter-append (x ∷ []) _ s (SameOrShorter-first s)))
 
--- the spelling of a path is the path itself, or has fewer bytes
-spelling_of-lean : (s : List ℕ) → Leaner (spelling_of (values s)) s
+-- the canonical form of a path is the path itself, or shorter
+spelling_of-lean : (s : List ℕ) → SameOrShorter (spelling_of (values s)) s
 unfolding slashed_parts
 spelling_of-lean [] = inl (spelling_of-short [] (omega arith))
 spelling_of-lean (x ∷ s) = by_test (eqb x 47)
-    (λ e. rw (eqb-true x 47 e) (subst (λ u. Leaner u (slash ∷ s))
+    (λ e. rw (eqb-true x 47 e) (subst (λ u. SameOrShorter u (slash ∷ s))
     (sym (ap spelling_of (values-rooted s ∙ ap (λ vs. RootDir ∷ vs) (sym (inner_values-pieces s)))
     ∙ spelling_of-root (inner_values s)))
-    (Leaner-root (inner_values s) s (slashed_parts-lean s))))
-    (λ e. rw (spelling_of-name (x ∷ s) (omega arith) e) (Leaner-first (x ∷ s)))
+    (SameOrShorter-root (inner_values s) s (slashed_parts-lean s))))
+    (λ e. rw (spelling_of-name (x ∷ s) (omega arith) e) (SameOrShorter-first (x ∷ s)))
 
--- each path with the values of s is the spelling of these, or longer
+-- a path with the components of s is the canonical form of s, or longer than it
 pub spelling_of-shortest : (s t : List ℕ) → values t ≡ values s
     → (t ≡ spelling_of (values s)) ⊎ (length (spelling_of (values s)) < length t)
 spelling_of-shortest s t e =
-    by (subst (λ z. Leaner (spelling_of z) t) e (spelling_of-lean t))
+    by (subst (λ z. SameOrShorter (spelling_of z) t) e (spelling_of-lean t))
   where
-    by : Leaner (spelling_of (values s)) t
+    by : SameOrShorter (spelling_of (values s)) t
         → (t ≡ spelling_of (values s)) ⊎ (length (spelling_of (values s)) < length t)
     by (inl h) = inl (sym h)
     by (inr h) = inr h

@@ -1,4 +1,5 @@
--- The values of a path by the pieces between its slashes, and what holds of all of them.
+-- The components of a path from the pieces between its slashes, and what holds of all components. A
+-- piece counts if it is neither empty nor `.`.
 use Rattle.std.proofs.Common.{◌≡◌, ℕ, ◌+◌, Bool, true, false, cond, eqb, List, [], ◌∷◌, ◌++◌}
 use Rattle.std.proofs.Common.{length, map, filter, refl, sym, ap, subst, ◌∙◌, eqb-true}
 use Rattle.std.specs.List.{AllByRecursion, slice_split, onto_first}
@@ -11,7 +12,7 @@ use Rattle.unix_bytes.proofs.lemmas.lists.ListLemmas.{by_test}
 use Rattle.path_runs.proofs.lemmas.joins.LeadLemmas.{dot_first, lead_by, values-lead}
 use Rattle.unix_path.specs.CommonDir.{inner_values}
 
--- the values of the pieces that count
+-- the components of the pieces that count
 abbrev pub names_of : List (List ℕ) → List Value
 names_of ps = map value_of_piece (filter counts ps)
 
@@ -19,12 +20,12 @@ names_of ps = map value_of_piece (filter counts ps)
 abbrev pub AllCount : List (List ℕ) → Type 0
 AllCount ps = AllByRecursion (λ p. counts p ≡ true) ps
 
--- if all pieces count, they are those that count
+-- if all pieces count, none is left out
 pub filter-all : (ps : List (List ℕ)) → AllCount ps → filter counts ps ≡ ps
 filter-all [] h = refl
 filter-all (p ∷ ps) h = rw h.0 (ap (λ qs. p ∷ qs) (filter-all ps h.1))
 
--- the parts of the pieces have the values of the pieces that count
+-- the parts of pieces, without their positions, are the components of the pieces that count
 names_of-parts : (at : ℕ) (ps : List (List ℕ))
     → map (λ (p : Part). p.value) (parts_of_pieces at ps) ≡ names_of ps
 names_of-parts at [] = refl
@@ -36,7 +37,8 @@ pub inner_values-pieces : (s : List ℕ) → inner_values s ≡ names_of (slice_
 unfolding inner_parts
 inner_values-pieces s = names_of-parts 0 (slice_split is_slash s)
 
--- a path's values are its leading root or dot, and then those of its pieces that count
+-- a path's components are its leading root or `.`, followed by the components of its pieces that
+-- count
 values-pieces : (s : List ℕ)
     → values s ≡ lead_by (is_rooted s) (dot_first (slice_split is_slash s)) ++ names_of
     (slice_split is_slash s)
@@ -44,11 +46,13 @@ values-pieces s = values-lead s
     ∙ ap (λ vs. lead_by (is_rooted s) (dot_first (slice_split is_slash s)) ++ vs)
     (inner_values-pieces s)
 
--- a rooted path's values are the root, and then those of the pieces behind it that count
+-- a rooted path's components are the root, followed by the components of the pieces after it that
+-- count
 pub values-rooted : (t : List ℕ) → values (slash ∷ t) ≡ RootDir ∷ names_of (slice_split is_slash t)
 values-rooted t = values-pieces (slash ∷ t)
 
--- a rootless path's values are a first `.`, if it has one, and then those of its pieces that count
+-- a rootless path's components are a leading `.`, if it has one, followed by the components of its
+-- pieces that count
 pub values-rootless : (s : List ℕ) (ps : List (List ℕ)) → is_rooted s ≡ false
     → slice_split is_slash s ≡ ps
     → values s ≡ cond (dot_first ps) (CurDir ∷ []) [] ++ names_of ps
@@ -65,7 +69,7 @@ is_rooted-slash (x ∷ t) e = (t, ap (λ x. x ∷ t) (eqb-true x 47 e))
 abbrev pub NoSlash : List ℕ → Type 0
 NoSlash p = AllByRecursion (λ b. is_slash b ≡ false) p
 
--- a byte that is no slash, put before the first piece, leaves pieces without a slash
+-- if a byte that is no slash is put before the first piece, still no piece has a slash
 onto_first-no_slash : (x : ℕ) (ps : List (List ℕ)) → is_slash x ≡ false → AllByRecursion NoSlash ps
     → AllByRecursion NoSlash (onto_first x ps)
 onto_first-no_slash x [] e h = ((e, tt), tt)
@@ -80,13 +84,13 @@ slice_split-no_slash (x ∷ s) = by_test (eqb x 47)
     (λ e. subst (AllByRecursion NoSlash) (sym (slice_split-cons_no is_slash x s e))
     (onto_first-no_slash x (slice_split is_slash s) e (slice_split-no_slash s)))
 
--- P holds of the value of each piece that counts and has no slash
+-- P holds of the component of each piece that counts and has no slash
 abbrev pub HoldsOfPieces : (Value → Type 0) → Type 0
 HoldsOfPieces P =
     (p : List ℕ) → NoSlash p → bytes_eq p [] ≡ false → bytes_eq p cur_dir ≡ false
     → P (value_of_piece p)
 
--- what holds of the pieces holds of the values of those that count
+-- if P holds of the component of each piece that counts, it holds of all components of such pieces
 names_of-hold : (P : Value → Type 0) → HoldsOfPieces P → (ps : List (List ℕ))
     → AllByRecursion NoSlash ps → AllByRecursion P (names_of ps)
 names_of-hold P of_piece [] h = tt
@@ -95,13 +99,13 @@ names_of-hold P of_piece (p ∷ ps) h =
     by_test (bytes_eq p []) (λ e. rw e more) (λ e. by_test (bytes_eq p cur_dir)
     (λ f. rw (e, f) more) (λ f. rw (e, f) (of_piece p h.0 e f, more)))
 
--- what holds of `.` and of some values holds of these behind a first `.`, if there is one
+-- what holds of `.` and of some components also holds with a leading `.`, if there is one
 lead-hold : (P : Value → Type 0) → P CurDir → (c : Bool) (vs : List Value)
     → AllByRecursion P vs → AllByRecursion P (cond c (CurDir ∷ []) [] ++ vs)
 lead-hold P of_dot true vs h = (of_dot, h)
 lead-hold P of_dot false vs h = h
 
--- what holds of `.` and of the pieces holds of each value of a rootless path
+-- what holds of `.` and of the components of pieces holds of each component of a rootless path
 pub values-hold_rootless : (P : Value → Type 0) → P CurDir → HoldsOfPieces P → (s : List ℕ)
     → is_rooted s ≡ false → AllByRecursion P (values s)
 values-hold_rootless P of_dot of_piece s r =
@@ -110,7 +114,7 @@ values-hold_rootless P of_dot of_piece s r =
     (lead-hold P of_dot (dot_first ps) (names_of ps)
     (names_of-hold P of_piece ps (slice_split-no_slash s)))
 
--- what holds of the pieces holds of each value behind the root
+-- what holds of the components of pieces holds of each component after the root
 pub values-hold_rooted : (P : Value → Type 0) → HoldsOfPieces P → (s : List ℕ)
     → is_rooted s ≡ true
     → (vs : List Value) × (values s ≡ RootDir ∷ vs) × AllByRecursion P vs
@@ -122,7 +126,7 @@ values-hold_rooted P of_piece s r =
       names_of-hold P of_piece ps (slice_split-no_slash t.0),
     )
 
--- what holds of the root, of `.` and of the pieces holds of each value of a path
+-- what holds of the root, of `.` and of the components of pieces holds of each component of a path
 pub values-hold : (P : Value → Type 0) → P RootDir → P CurDir → HoldsOfPieces P → (s : List ℕ)
     → AllByRecursion P (values s)
 values-hold P of_root of_dot of_piece s = by_test (is_rooted s)

@@ -1,4 +1,5 @@
--- How values are spelled, by what stands first.
+-- The canonical form of components: it differs if the first of them is the root. A piece counts if
+-- it is neither empty nor `.`.
 use Rattle.std.proofs.Common.{◌≡◌, ℕ, List, [], ◌∷◌, map, filter, refl, ap, ap₂, ◌∙◌}
 use Rattle.std.specs.List.{slice_split, join_with_byte}
 use Rattle.unix_path.specs.Parts.{is_slash, slash, Value, RootDir, CurDir, value_of_piece}
@@ -7,12 +8,13 @@ use Rattle.unix_path.proofs.lemmas.parts.ValueLemmas.{value_bytes-piece, no_root
 use Rattle.path_runs.specs.Spelling.{slashed_bytes, spelling_of}
 use Rattle.path_runs.proofs.lemmas.spelling.PieceValueLemmas.{names_of, values-rooted}
 
--- the values of pieces have the bytes of these pieces
+-- the components of pieces have the bytes of these pieces
 pub bytes_of_pieces : (ps : List (List ℕ)) → map value_bytes (map value_of_piece ps) ≡ ps
 bytes_of_pieces [] = refl
 bytes_of_pieces (p ∷ ps) = ap₂ (λ q qs. q ∷ qs) (value_bytes-piece p) (bytes_of_pieces ps)
 
--- the names of some pieces are spelled as those pieces that count, with slashes between
+-- the components of the pieces that count, with slashes between them, are these pieces with slashes
+-- between them
 pub slashed_bytes-names : (ps : List (List ℕ))
     → slashed_bytes (names_of ps) ≡ join_with_byte slash (filter counts ps)
 slashed_bytes-names ps = ap (join_with_byte slash) (bytes_of_pieces (filter counts ps))
@@ -25,7 +27,8 @@ pub spelling_of-dot : (vs : List Value) → spelling_of (CurDir ∷ vs) ≡ slas
 unfolding spelling_of
 spelling_of-dot vs = refl
 
--- values of which the first isn't the root are spelled with slashes between
+-- if the first component isn't the root, the canonical form is the components with slashes between
+-- them
 pub spelling_of-cons : (v : Value) (vs : List Value) → (v ≡ RootDir → ⊥)
     → spelling_of (v ∷ vs) ≡ slashed_bytes (v ∷ vs)
 unfolding spelling_of
@@ -36,7 +39,7 @@ pub spelling_of-nil : spelling_of [] ≡ []
 unfolding spelling_of
 spelling_of-nil = refl
 
--- the values of pieces are spelled as the pieces, with slashes between
+-- the canonical form of the components of pieces is the pieces with slashes between them
 pub spelling_of-pieces : (ps : List (List ℕ))
     → spelling_of (map value_of_piece ps) ≡ join_with_byte slash ps
 spelling_of-pieces [] = spelling_of-nil
@@ -44,7 +47,8 @@ spelling_of-pieces (p ∷ ps) =
     spelling_of-cons (value_of_piece p) (map value_of_piece ps) (no_root_piece p)
     ∙ ap (join_with_byte slash) (bytes_of_pieces (p ∷ ps))
 
--- a rooted path is spelled as a slash, and then its pieces that count with slashes between
+-- the canonical form of a rooted path is a slash, followed by the pieces that count, with slashes
+-- between them
 pub spelling_of-rooted : (t : List ℕ)
     → spelling_of (values (slash ∷ t)) ≡ slash ∷ join_with_byte slash
     (filter counts (slice_split is_slash t))

@@ -1,10 +1,10 @@
--- The values of a path but for its root are bytes that a slash neither begins nor ends.
+-- The components of a path, except its root, neither begin nor end with a slash.
 use Rattle.std.proofs.Common.{◌≡◌, ℕ, true, false, List, [], ◌∷◌, refl}
 use Rattle.std.specs.List.{AllByRecursion}
 use Rattle.std.specs.Str.{bytes_eq}
 use Rattle.unix_path.specs.Parts.{parent_dir, Value, RootDir, value_of_piece, value_bytes}
 use Rattle.unix_path.specs.Parts.{is_rooted, values}
-use Rattle.unix_path.specs.Joins.{is_open}
+use Rattle.unix_path.specs.Joins.{needs_no_separator}
 use Rattle.unix_bytes.proofs.lemmas.lists.ListLemmas.{by_test}
 use Rattle.path_runs.proofs.lemmas.spelling.PieceValueLemmas.{HoldsOfPieces, NoSlash}
 use Rattle.path_runs.proofs.lemmas.spelling.PieceValueLemmas.{values-hold_rooted}
@@ -13,18 +13,19 @@ use Rattle.path_runs.proofs.lemmas.spelling.PieceValueLemmas.{values-hold_rootle
 -- not empty, and neither beginning nor ending with a slash
 pub record IsUnslashed (b : List ℕ) : Type 0 where
   pub rootless : is_rooted b ≡ false
-  pub closed : is_open b ≡ false
+  pub closed : needs_no_separator b ≡ false
 
-is_open-no_slash : (x : ℕ) (p : List ℕ) → NoSlash (x ∷ p) → is_open (x ∷ p) ≡ false
-is_open-no_slash x [] h = h.0
-is_open-no_slash x (y ∷ p) h = is_open-no_slash y p h.1
+needs_no_separator-no_slash : (x : ℕ) (p : List ℕ) → NoSlash (x ∷ p) → needs_no_separator (x ∷ p)
+    ≡ false
+needs_no_separator-no_slash x [] h = h.0
+needs_no_separator-no_slash x (y ∷ p) h = needs_no_separator-no_slash y p h.1
 
 -- a piece that isn't empty is unslashed
 unslashed_piece : (p : List ℕ) → NoSlash p → bytes_eq p [] ≡ false → IsUnslashed p
 unslashed_piece [] h e = absurd (let d : true ≡ false = e in cc)
-unslashed_piece (x ∷ p) h e = record { rootless = h.0; closed = is_open-no_slash x p h }
+unslashed_piece (x ∷ p) h e = record { rootless = h.0; closed = needs_no_separator-no_slash x p h }
 
--- the bytes are unslashed, and the value isn't the root
+-- the bytes are unslashed, and the component isn't the root
 pub record IsUnslashedValue (v : Value) : Type 0 where
   pub unslashed : IsUnslashed (value_bytes v)
   pub no_root : v ≡ RootDir → ⊥
@@ -38,12 +39,12 @@ unslashed_value p h = by_test (bytes_eq p parent_dir)
 unslashed_names : HoldsOfPieces IsUnslashedValue
 unslashed_names p h e f = unslashed_value p (unslashed_piece p h e)
 
--- the root and then unslashed values, or unslashed values alone
+-- the root followed by unslashed components, or only unslashed components
 pub data Shape (vs : List Value) : Type 0 where
   Rooted : (ws : List Value) → vs ≡ RootDir ∷ ws → AllByRecursion IsUnslashedValue ws → Shape vs
   Rootless : AllByRecursion IsUnslashedValue vs → Shape vs
 
--- a path's values are the root and then unslashed ones, or unslashed ones alone
+-- a path's components are the root followed by unslashed components, or only unslashed components
 pub values-shape : (s : List ℕ) → Shape (values s)
 values-shape s = by_test (is_rooted s)
     (λ r. let behind = values-hold_rooted IsUnslashedValue unslashed_names s r in

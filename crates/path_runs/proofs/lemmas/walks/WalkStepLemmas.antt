@@ -15,13 +15,14 @@ use Rattle.unix_path.proofs.lemmas.rests.RestLemmas.{rest-rest}
 use Rattle.path_runs.specs.Turns.{is_front}
 use Rattle.path_runs.specs.declared.walk.Turn.{Turn}
 use Rattle.path_runs.specs.declared.walk.Turn.TheVariants.{Front, Back}
-use Rattle.path_runs.proofs.lemmas.walks.WalkLemmas.{is_back, HasWalked, length-left}
+use Rattle.path_runs.proofs.lemmas.walks.WalkLemmas.{is_back, HasWalked, length-remaining}
 
--- of n turns or fewer all are among the first n
+-- if there are at most n turns, the first n turns are all turns
 take-take_early : (n i : ℕ) (ts : List Turn) → i ≤ n → take n (take i ts) ≡ take i ts
 take-take_early n i ts l = take_all n (take i ts) (omega (arith, length-take i ts))
 
--- while fewer than n turns have been made, one more adds one that passes the test, or none
+-- while fewer than n turns have been made, one more turn adds 1 to the count if the turn passes the
+-- test
 count_by-more : (test : Turn → Bool) (n i : ℕ) (ts : List Turn) (passes : Bool) → i < n
     → i < length ts → test (get_or ts i Front) ≡ passes
     → count_by test (take n (take (i + 1) ts))
@@ -35,52 +36,55 @@ count_by-more test n i ts passes early l e =
     by true e = count_by_more_yes test ts i Front l e
     by false e = count_by_more_no test ts i Front l e ∙ sym (add-zero (count_by test (take i ts)))
 
--- one more turn at either end takes nothing if no part is left
-HasWalked-none : {s : List ℕ} {ts : List Turn} {i : ℕ} {front behind : List Value} {left : List ℕ}
-    (after : List ℕ) → HasWalked s ts i front left behind → values left ≡ [] → values after ≡ []
+-- one more turn at either end takes nothing if no component remains
+HasWalked-none : {s : List ℕ} {ts : List Turn} {i : ℕ} {front behind : List Value}
+    {remaining : List ℕ}
+    (after : List ℕ) → HasWalked s ts i front remaining behind → values remaining ≡ []
+    → values after ≡ []
     → HasWalked s ts (i + 1) front after behind
-HasWalked-none {s} {ts} {i} {front} {behind} {left} after h none more =
+HasWalked-none {s} {ts} {i} {front} {behind} {remaining} after h none more =
     let n = length (values s) in
     let late : n ≤ i = omega
-    (arith, length-left h, ap length none, length-take n (take i ts), length-take i ts) in
+    (arith, length-remaining h, ap length none, length-take n (take i ts), length-take i ts) in
     let same : take n (take i ts) ≡ take n (take (i + 1) ts) =
     take-take n i ts late ∙ sym (take-take n (i + 1) ts (omega arith)) in
     record {
       whole = ap (λ vs. front ++ vs ++ reverse behind) (more ∙ sym none) ∙ h.whole;
-      left_is = values-none after more ∙ sym (values-none left none) ∙ h.left_is;
+      remaining_is = values-none after more ∙ sym (values-none remaining none) ∙ h.remaining_is;
       fronts = h.fronts ∙ ap (count_by is_front) same;
       backs = h.backs ∙ ap (count_by is_back) same;
     }
 
--- while a part is left, fewer turns than parts have been made
-in_time : {s : List ℕ} {ts : List Turn} {i : ℕ} {front behind : List Value} {left : List ℕ}
-    → HasWalked s ts i front left behind → i < length ts → 0 < length (values left)
+-- while a component remains, fewer turns than components have been made
+in_time : {s : List ℕ} {ts : List Turn} {i : ℕ} {front behind : List Value} {remaining : List ℕ}
+    → HasWalked s ts i front remaining behind → i < length ts → 0 < length (values remaining)
     → i < length (values s)
 in_time {s} {ts} {i} h l some = omega (
   arith,
-  length-left h,
+  length-remaining h,
   length-take (length (values s)) (take i ts),
   length-take i ts,
 )
 
--- one more turn in front takes the part that a call of `next` gave, if it gave one
+-- one more turn at the front takes the component that a call of `next` returned, if it returned one
 pub HasWalked-front : {A : Type 0} (shows : A → Value) (s : List ℕ) (ts : List Turn) (i : ℕ)
-    (front : List Value) (left : List ℕ) (behind : List Value) (item : Option A) (after : List ℕ)
-    → HasWalked s ts i front left behind → i < length ts → get_or ts i Front ≡ Front
-    → MatchOption item ((values left ≡ []) × (values after ≡ []))
-    (λ x. values left ≡ shows x ∷ values after)
-    → after ≡ rest left 1 0
+    (front : List Value) (remaining : List ℕ) (behind : List Value) (item : Option A)
+    (after : List ℕ)
+    → HasWalked s ts i front remaining behind → i < length ts → get_or ts i Front ≡ Front
+    → MatchOption item ((values remaining ≡ []) × (values after ≡ []))
+    (λ x. values remaining ≡ shows x ∷ values after)
+    → after ≡ rest remaining 1 0
     → HasWalked s ts (i + 1) (front ++ map shows (option_to_list item)) after behind
-HasWalked-front shows s ts i front left behind None after h l turn gives leaves =
+HasWalked-front shows s ts i front remaining behind None after h l turn gives leaves =
     rw (append-nil front) (HasWalked-none after h gives.0 gives.1)
-HasWalked-front shows s ts i front left behind (Some x) after h l turn gives leaves =
+HasWalked-front shows s ts i front remaining behind (Some x) after h l turn gives leaves =
     let n = length (values s) in
     let early = in_time h l (omega (arith, ap length gives)) in
     let size = length-append front (shows x ∷ []) in
     record {
       whole = ap (λ l. l ++ reverse behind) (append_assoc front (shows x ∷ []) (values after)
           ∙ ap (λ l. front ++ l) (sym gives)) ∙ h.whole;
-      left_is = leaves ∙ ap (λ t. rest t 1 0) h.left_is
+      remaining_is = leaves ∙ ap (λ t. rest t 1 0) h.remaining_is
           ∙ rest-rest s (length front) (length behind) 1 0
           ∙ ap₂ (rest s) (sym size) (add-zero (length behind));
       fronts = omega
@@ -88,17 +92,19 @@ HasWalked-front shows s ts i front left behind (Some x) after h l turn gives lea
       backs = omega (arith, h.backs, count_by-more is_back n i ts false early l (ap is_back turn));
     }
 
--- one more turn behind takes the part that a call of `next_back` gave, if it gave one
+-- one more turn at the back takes the component that a call of `next_back` returned, if it returned
+-- one
 pub HasWalked-back : {A : Type 0} (shows : A → Value) (s : List ℕ) (ts : List Turn) (i : ℕ)
-    (front : List Value) (left : List ℕ) (behind : List Value) (item : Option A) (after : List ℕ)
-    → HasWalked s ts i front left behind → i < length ts → get_or ts i Front ≡ Back
-    → MatchOption item ((values left ≡ []) × (values after ≡ []))
-    (λ x. values left ≡ values after ++ shows x ∷ [])
-    → after ≡ rest left 0 1
+    (front : List Value) (remaining : List ℕ) (behind : List Value) (item : Option A)
+    (after : List ℕ)
+    → HasWalked s ts i front remaining behind → i < length ts → get_or ts i Front ≡ Back
+    → MatchOption item ((values remaining ≡ []) × (values after ≡ []))
+    (λ x. values remaining ≡ values after ++ shows x ∷ [])
+    → after ≡ rest remaining 0 1
     → HasWalked s ts (i + 1) front after (behind ++ map shows (option_to_list item))
-HasWalked-back shows s ts i front left behind None after h l turn gives leaves =
+HasWalked-back shows s ts i front remaining behind None after h l turn gives leaves =
     rw (append-nil behind) (HasWalked-none after h gives.0 gives.1)
-HasWalked-back shows s ts i front left behind (Some x) after h l turn gives leaves =
+HasWalked-back shows s ts i front remaining behind (Some x) after h l turn gives leaves =
     let n = length (values s) in
     let v = shows x in
     let early = in_time h l
@@ -109,7 +115,7 @@ HasWalked-back shows s ts i front left behind (Some x) after h l turn gives leav
           ∙ sym (append_assoc (front ++ values after) (v ∷ []) (reverse behind))
           ∙ ap (λ l. l ++ reverse behind) (append_assoc front (values after) (v ∷ [])
           ∙ ap (λ l. front ++ l) (sym gives)) ∙ h.whole;
-      left_is = leaves ∙ ap (λ t. rest t 0 1) h.left_is
+      remaining_is = leaves ∙ ap (λ t. rest t 0 1) h.remaining_is
           ∙ rest-rest s (length front) (length behind) 0 1
           ∙ ap₂ (rest s) (add-zero (length front)) (sym size);
       fronts =
@@ -118,27 +124,27 @@ HasWalked-back shows s ts i front left behind (Some x) after h l turn gives leav
           (arith, size, h.backs, count_by-more is_back n i ts true early l (ap is_back turn));
     }
 
--- if nothing is left, `next` gives nothing
-pub none_in_front : {S A V : Type 0} (shows : A → V) (left : S → List V) (s t : S)
-    (item : Option A) → YieldsFirstBy shows left s item t → left s ≡ [] → item ≡ None
-none_in_front shows left s t None h none = refl
-none_in_front shows left s t (Some x) h none =
+-- if nothing remains, `next` returns `None`
+pub none_before : {S A V : Type 0} (shows : A → V) (remaining : S → List V) (s t : S)
+    (item : Option A) → YieldsFirstBy shows remaining s item t → remaining s ≡ [] → item ≡ None
+none_before shows remaining s t None h none = refl
+none_before shows remaining s t (Some x) h none =
     absurd (omega (arith, ap length (sym h ∙ none)))
 
--- and `next_back` gives nothing
-pub none_behind : {S A V : Type 0} (shows : A → V) (left : S → List V) (s t : S)
-    (item : Option A) → YieldsLastBy shows left s item t → left s ≡ [] → item ≡ None
-none_behind shows left s t None h none = refl
-none_behind shows left s t (Some x) h none = absurd (omega (
+-- if nothing remains, `next_back` returns `None`
+pub none_after : {S A V : Type 0} (shows : A → V) (remaining : S → List V) (s t : S)
+    (item : Option A) → YieldsLastBy shows remaining s item t → remaining s ≡ [] → item ≡ None
+none_after shows remaining s t None h none = refl
+none_after shows remaining s t (Some x) h none = absurd (omega (
   arith,
   ap length (sym h ∙ none),
-  length-append (left t) (shows x ∷ []),
+  length-append (remaining t) (shows x ∷ []),
 ))
 
--- of the empty path nothing is ever left
+-- in a walk over the empty path no component remains
 pub none_of_empty : {s : List ℕ} {ts : List Turn} {i : ℕ} {front behind : List Value}
-    {left : List ℕ} → HasWalked s ts i front left behind → s ≡ [] → values left ≡ []
+    {remaining : List ℕ} → HasWalked s ts i front remaining behind → s ≡ [] → values remaining ≡ []
 none_of_empty {front = front} {behind = behind} h none =
     let k = length front in
     let m = length behind in
-    ap values (h.left_is ∙ ap (λ u. rest u k m) none ∙ rest-nil k m) ∙ values-nil
+    ap values (h.remaining_is ∙ ap (λ u. rest u k m) none ∙ rest-nil k m) ∙ values-nil

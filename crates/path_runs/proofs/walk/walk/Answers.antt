@@ -3,7 +3,7 @@ use Rattle.std.proofs.lemmas.List.{map-append}
 use Rattle.unix_path.specs.Views.{value_of}
 use Rattle.unix_path.specs.Cursor.{cursor_values}
 use Rattle.path_runs.proofs.lemmas.walks.WalkStepLemmas.{HasWalked-front, HasWalked-back}
-use Rattle.path_runs.proofs.lemmas.walks.WalkStepLemmas.{none_behind, none_in_front, none_of_empty}
+use Rattle.path_runs.proofs.lemmas.walks.WalkStepLemmas.{none_after, none_before, none_of_empty}
 use Rattle.path_runs.proofs.walk.walk.Goals.{in-Front+in_ok-push_some-in-Front}
 use Rattle.path_runs.proofs.walk.walk.Goals.{in-Back+in_ok-push_some-in-Back}
 use Rattle.path_runs.proofs.walk.walk.Goals as goal
@@ -20,14 +20,14 @@ loop-turn-preserved c =
           let gives = w.next.ensures.steps in
           let pushed = w.in_ok-push_some-in-Front.ensures.items in
           let added = map-append value_of c.loop-turn.front.items in
-          rw (w.left-is, w.front-is, w.behind-is, pushed, added)
+          rw (w.remaining-is, w.front-is, w.behind-is, pushed, added)
           (HasWalked-front value_of s ts i _ _ _ w.next.result _ h l w.in-Front.is
           gives.item_is gives.rest_is)
       | in-Back+in_ok-push_some-in-Back w ↦
           let gives = w.next_back.ensures.steps in
           let pushed = w.in_ok-push_some-in-Back.ensures.items in
           let added = map-append value_of c.loop-turn.behind.items in
-          rw (w.left-is, w.front-is, w.behind-is, pushed, added)
+          rw (w.remaining-is, w.front-is, w.behind-is, pushed, added)
           (HasWalked-back value_of s ts i _ _ _ w.next_back.result _ h l w.in-Back.is
           gives.item_is gives.rest_is)
     ]
@@ -35,14 +35,15 @@ loop-turn-preserved c =
 pub returns-in_err-push_some-in-Front-clause-succeeds_empty :
     goal.returns-in_err-push_some-in-Front-clause-succeeds_empty
 returns-in_err-push_some-in-Front-clause-succeeds_empty c = λ empty.
-    let none = none_in_front value_of cursor_values c.loop-turn.left c.next.new.self c.next.result
+    let none = none_before value_of cursor_values c.loop-turn.remaining c.next.new.self
+    c.next.result
     c.next.ensures.steps.item_is (none_of_empty c.loop-turn.invariant empty) in
     absurd (false≢true (c.in_err-push_some-in-Front.ensures.succeeds none))
 
 pub returns-in_err-push_some-in-Back-clause-succeeds_empty :
     goal.returns-in_err-push_some-in-Back-clause-succeeds_empty
 returns-in_err-push_some-in-Back-clause-succeeds_empty c = λ empty.
-    let none = none_behind value_of cursor_values c.loop-turn.left c.next_back.new.self
+    let none = none_after value_of cursor_values c.loop-turn.remaining c.next_back.new.self
     c.next_back.result c.next_back.ensures.steps.item_is
     (none_of_empty c.loop-turn.invariant empty) in
     absurd (false≢true (c.in_err-push_some-in-Back.ensures.succeeds none))

@@ -7,4 +7,4 @@ use Rattle.path_runs.proofs.walk.walk.Given as goal
 abbrev pub invariant-loop-turn : goal.invariant-loop-turn
 invariant-loop-turn l =
     HasWalked l.fn.path.bytes.now l.turns l.turn-index (map value_of l.front.items)
-    (cursor_rest l.left) (map value_of l.behind.items)
+    (cursor_rest l.remaining) (map value_of l.behind.items)

@@ -10,8 +10,8 @@ use Rattle.std.specs.Ordering.{is_eq}
 use Rattle.unix_bytes.proofs.lemmas.lists.ListLemmas.{by_test}
 use Rattle.unix_path.specs.Order.{values_cmp}
 use Rattle.unix_path.specs.Parts.{Value}
-use Rattle.path_table.specs.Table.{is_under}
-use Rattle.path_table.proofs.BeginLemmas.{begins_from_under, under_from_begins}
+use Rattle.path_runs.specs.Rows.{is_under}
+use Rattle.path_runs.proofs.lemmas.rows.UnderLemmas.{begins_from_under, under_from_begins}
 use Rattle.path_keys.specs.Ranges.{bytes_cmp, end_of}
 use Rattle.path_keys.proofs.lemmas.values.RangeLemmas.{begins-lies_under}
 use Rattle.path_tree.specs.Children.{are_same, child_row, children_of, is_below}
@@ -36,6 +36,7 @@ module _ {V : Type 0} (base : List Value) where
       (child_row base row ∷ fresh (Some (take (length base + 1) row.0)) rows))
       (fresh last rows)
 
+  -- after a child, what `dedup` leaves is that child and the fresh children of the later rows
   dedup_from-fresh : (k : List Value × Option V) (rows : List (List Value × V))
       → dedup_from are_same k
       (map (child_row base) (filter (λ row. is_below base row.0) rows))
@@ -75,16 +76,19 @@ module _ {V : Type 0} (base : List Value) where
   unfolding fresh
   new_child last row below other rows = rw (below, other) refl
 
+-- `le_less`, by the order of the first two
 le_less_by : (x y z : List ℕ) (o : Ordering) → bytes_cmp x y ≡ o → is_le o ≡ true
     → bytes_cmp y z ≡ Less → bytes_cmp x z ≡ Less
 le_less_by x y z Less is le less = nat_list_cmp_total.trans x y z is less
 le_less_by x y z Equal is le less = nat_list_cmp_total.congr x y z is ∙ less
 le_less_by x y z Greater is le less = absurd (let e = le in cc)
 
+-- what is at most a second, which is less than a third, is less than the third
 pub le_less : (x y z : List ℕ) → is_le (bytes_cmp x y) ≡ true → bytes_cmp y z ≡ Less
     → bytes_cmp x z ≡ Less
 le_less x y z le less = le_less_by x y z (bytes_cmp x y) refl le less
 
+-- what follows from a fact holds of an option's value if the fact does
 if_some : {A : Type 0} (P Q : A → Type 0) → ((a : A) → P a → Q a) → (o : Option A) → IfSome o P
     → IfSome o Q
 if_some P Q holds None h = tt
@@ -117,6 +121,7 @@ module _ {K : Type 0} (bytes_of : K → List ℕ) where
   abbrev pub is_behind : List ℕ → K → Bool
   is_behind end k = is_le (bytes_cmp end (bytes_of k))
 
+  -- what follows a key after a range is after the range too
   pub stays_behind : (end : List ℕ) (k l : K) → is_behind end k ≡ true
       → keys_cmp bytes_of k l ≡ Less → is_behind end l ≡ true
   stays_behind end k l is less = ap is_le (le_less end (bytes_of k) (bytes_of l) is less)

@@ -7,7 +7,7 @@ use Rattle.std.proofs.lemmas.List.{drop_at, length-map, nil_from_length}
 use Rattle.std.specs.Cmp.{both_ways}
 use Rattle.std.specs.List.{position_or_len}
 use Rattle.unix_path.specs.Parts.{Value, RootDir, CurDir, ParentDir, Normal}
-use Rattle.unix_path.specs.Prefixes.{Begins}
+use Rattle.unix_path.specs.Prefixes.{IsPrefixOf}
 use Rattle.path_runs.specs.Spelling.{spelling_of}
 use Rattle.path_keys.specs.Codes.{AllFit, Fits}
 use Rattle.path_keys.specs.Keys.{code, key_of, raised, IsKey}
@@ -32,6 +32,7 @@ first_zero-name b n rest h place is =
           ∙ first_zero name rest (raised-NoZero (b ∷ n) h.no_slash) ∙ long,
     )
 
+-- a code that begins with 0 has two bytes
 pub mark_long : (first : Bool) (v : Value) (rest : List ℕ) → Fits first v → (place : ℕ)
     → place ≡ position_or_len is_zero (code v ++ rest) → place ≡ 0 → 2 ≡ length (code v)
 mark_long first RootDir rest h place is none = refl
@@ -41,6 +42,7 @@ mark_long first (Normal []) rest h place is none = absurd (let e = h.some in cc)
 mark_long first (Normal (b ∷ n)) rest h place is none =
     absurd (omega (arith, (first_zero-name b n rest h place is).1))
 
+-- any other code ends at its first 0
 pub name_long : (first : Bool) (v : Value) (rest : List ℕ) → Fits first v → (place : ℕ)
     → place ≡ position_or_len is_zero (code v ++ rest) → place ≢ 0
     → place + 1 ≡ length (code v)
@@ -55,9 +57,11 @@ name_long first (Normal (b ∷ n)) rest h place is some =
 pub key_of-own : (key : List ℕ) → is_own key ≡ true → key ≡ key_of (key_values key)
 key_of-own key own = sym (own-is key own) ∙ ap key_of (own-values key own)
 
+-- bytes that pass the test are the key of a path
 pub IsKey-own : (key : List ℕ) → is_own key ≡ true → ∥ IsKey key ∥₁
 IsKey-own key own = ∣ (spelling_of (key_values key), own-is key own) ∣₁
 
+-- the components that a key represents may be those of a path
 pub fit-own : (key : List ℕ) → is_own key ≡ true → AllFit true (key_values key)
 fit-own key own =
     subst (AllFit true) (own-values key own) (values-fit (spelling_of (key_values key)))
@@ -67,11 +71,13 @@ pub own-fit : (vs : List Value) → AllFit true vs → is_own (key_of vs) ≡ tr
 own-fit vs h =
     subst (λ us. is_own (key_of us) ≡ true) (values-spelled vs h) (own-key_of (spelling_of vs))
 
+-- each of several components that fit does
 fits-at : (first : Bool) (us : List Value) (v : Value) (ws : List Value)
     → AllFit first (us ++ v ∷ ws) → (at : Bool) × Fits at v
 fits-at first [] v ws h = (first, h.0)
 fits-at first (u ∷ us) v ws h = fits-at false us v ws h.1
 
+-- the first of several components that fit do
 fit-front : (first : Bool) (us : List Value) (v : Value) (ws : List Value)
     → AllFit first (us ++ v ∷ ws) → AllFit first (us ++ v ∷ [])
 fit-front first [] v ws h = (h.0, tt)
@@ -90,7 +96,8 @@ pub record GoesOn (base key : List ℕ) : Type 0 where
   pub long : length (key_of (key_values base ++ v ∷ [])) ≡ length base + length (code v)
 
 module _ (base key : List ℕ) (own : is_own key ≡ true) (base_own : is_own base ≡ true)
-    (begins : Begins base key) (longer : length base < length key) where
+    (begins : IsPrefixOf base key) (longer : length base < length key) where
+  -- `goes_on`, by the components that follow those of the base
   with_more : (ws : List Value) → key_values base ++ ws ≡ key_values key → GoesOn base key
   with_more [] is =
       let same : length key ≡ length base =
@@ -131,10 +138,12 @@ module _ (base key : List ℕ) (own : is_own key ≡ true) (base_own : is_own ba
 
   -- the beginning of the key that has one code more than the base's
   module _ (n : ℕ) (h : GoesOn base key) (n_is : n ≡ length base + length (code h.v)) where
+    -- these bytes are the key of the base's components and one more
     pub child_is : take n key ≡ key_of (key_values base ++ h.v ∷ [])
     child_is = ap (take n) h.key_is
         ∙ take_at (key_of (key_values base ++ h.v ∷ [])) (key_of h.more) n (h.long ∙ sym n_is)
 
+    -- the key has at least as many bytes
     pub child_in_range : n < length key + 1
     child_in_range = omega (
       arith,
@@ -144,12 +153,15 @@ module _ (base key : List ℕ) (own : is_own key ≡ true) (base_own : is_own ba
       length-append (key_of (key_values base ++ h.v ∷ [])) (key_of h.more),
     )
 
+    -- they are the key of a path
     pub child_own : is_own (take n key) ≡ true
     child_own = ap is_own child_is ∙ own-fit (key_values base ++ h.v ∷ []) h.fit
 
+    -- they represent one component more than the base
     one_longer : length (key_values base ++ h.v ∷ []) ≡ length (key_values base) + 1
     one_longer = length-append (key_values base) (h.v ∷ [])
 
+    -- they represent the first components of the key
     pub child_values : key_values (take n key)
         ≡ take (length (key_values base) + 1) (key_values key)
     child_values =
@@ -158,11 +170,13 @@ module _ (base key : List ℕ) (own : is_own key ≡ true) (base_own : is_own ba
         ∙ sym (take_at vs h.more (length (key_values base) + 1) one_longer)
         ∙ ap (take (length (key_values base) + 1)) (sym h.is)
 
+    -- of which there is one more than the base has
     pub child_long : length (key_values (take n key)) ≡ length (key_values base) + 1
     child_long =
         ap (λ k. length (key_values k)) child_is
         ∙ ap length (key_values-key_of true (key_values base ++ h.v ∷ []) h.fit) ∙ one_longer
 
+    -- no components have a key without bytes, except none
     no_more : length (key_of h.more) ≡ 0 → h.more ≡ []
     no_more = none h.more
       where
@@ -175,11 +189,13 @@ module _ (base key : List ℕ) (own : is_own key ≡ true) (base_own : is_own ba
           length-append (code w) (key_of ws),
         ))
 
+    -- the length of the key, by the components that follow the child
     key_long : length key ≡ n + length (key_of h.more)
     key_long = ap length h.key_is
         ∙ length-append (key_of (key_values base ++ h.v ∷ [])) (key_of h.more)
         ∙ ap (λ m. m + length (key_of h.more)) (h.long ∙ sym n_is)
 
+    -- the number of its components, by those that follow the child
     values_long : length (key_values key) ≡ length (key_values base) + 1 + length h.more
     values_long = ap length h.is ∙ length-append (key_values base ++ h.v ∷ []) h.more
         ∙ ap (λ m. m + length h.more) one_longer

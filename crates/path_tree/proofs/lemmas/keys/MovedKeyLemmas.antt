@@ -3,7 +3,7 @@ use Rattle.std.proofs.Common.{◌≡◌, ◌∙◌, ◌<◌, ℕ, Bool, true, fa
 use Rattle.std.proofs.Common.{drop, length, refl, subst, sym}
 use Rattle.std.proofs.lemmas.List.{drop_at}
 use Rattle.unix_path.specs.Parts.{Value, RootDir, CurDir, ParentDir, Normal}
-use Rattle.unix_path.specs.Prefixes.{Begins}
+use Rattle.unix_path.specs.Prefixes.{IsPrefixOf}
 use Rattle.path_keys.specs.Codes.{AllFit, Fits}
 use Rattle.path_keys.specs.Keys.{key_of}
 use Rattle.path_keys.proofs.lemmas.values.KeyLemmas.{key_of-append, key_of-nil}
@@ -19,10 +19,12 @@ fits_anywhere first CurDir h = absurd (let e = h in cc)
 fits_anywhere first ParentDir h = tt
 fits_anywhere first (Normal name) h = h
 
+-- components that fit after others also fit first
 all_fit_anywhere : (first : Bool) (vs : List Value) → AllFit false vs → AllFit first vs
 all_fit_anywhere first [] h = tt
 all_fit_anywhere first (v ∷ vs) h = (fits_anywhere first v h.0, h.1)
 
+-- components that fit, followed by others that fit after others, fit
 fit-append : (first : Bool) (us ws : List Value) → AllFit first us → AllFit false ws
     → AllFit first (us ++ ws)
 fit-append first [] ws h k = all_fit_anywhere first ws k
@@ -35,13 +37,14 @@ fit-behind first v [] ws h = h.1
 fit-behind first v (u ∷ us) ws h = fit-behind false u us ws h.1
 
 module _ (key from to : List ℕ) (own : is_own key ≡ true) (from_own : is_own from ≡ true)
-    (to_own : is_own to ≡ true) (some : 0 < length from) (begins : Begins from key) where
+    (to_own : is_own to ≡ true) (some : 0 < length from) (begins : IsPrefixOf from key) where
   -- what follows the base's values in the key's
   pub record Follows : Type 0 where
     pub ws : List Value
     pub is : key_values from ++ ws ≡ key_values key
     pub fit : AllFit false ws
 
+  -- `follows`, by the components of the base
   follows-by : (fs ws : List Value) → key_values from ≡ fs → fs ++ ws ≡ key_values key
       → AllFit false ws
   follows-by [] ws none is =
@@ -50,6 +53,7 @@ module _ (key from to : List ℕ) (own : is_own key ≡ true) (from_own : is_own
   follows-by (f ∷ fs) ws same is =
       fit-behind true f fs ws (subst (AllFit true) (sym is) (fit-own key own))
 
+  -- what follows the base's components in the key fits after others
   pub follows : Follows
   follows =
       let under = values_begin from key from_own own begins in
@@ -59,23 +63,28 @@ module _ (key from to : List ℕ) (own : is_own key ≡ true) (from_own : is_own
         fit = follows-by (key_values from) under.0 refl under.1;
       }
 
+  -- the bytes after the base are the key of the components that follow
   rest_is : drop (length from) key ≡ key_of follows.ws
   rest_is = ap (drop (length from)) (key_of-own key own ∙ ap key_of (sym follows.is)
       ∙ key_of-append (key_values from) follows.ws
       ∙ ap (λ k. k ++ key_of follows.ws) (sym (key_of-own from from_own)))
       ∙ drop_at from (key_of follows.ws) (length from) refl
 
+  -- the moved bytes are the key of the target's components and those that follow
   new_is : to ++ drop (length from) key ≡ key_of (key_values to ++ follows.ws)
   new_is = ap (λ k. to ++ k) rest_is
       ∙ ap (λ k. k ++ key_of follows.ws) (key_of-own to to_own)
       ∙ sym (key_of-append (key_values to) follows.ws)
 
+  -- these may be the components of a path
   new_fit : AllFit true (key_values to ++ follows.ws)
   new_fit = fit-append true (key_values to) follows.ws (fit-own to to_own) follows.fit
 
+  -- so the moved bytes are the key of a path
   pub moved_own : is_own (to ++ drop (length from) key) ≡ true
   moved_own = ap is_own new_is ∙ own-fit (key_values to ++ follows.ws) new_fit
 
+  -- and represent the target's components and those that follow
   pub moved_values : key_values (to ++ drop (length from) key)
       ≡ key_values to ++ drop (length (key_values from)) (key_values key)
   moved_values =

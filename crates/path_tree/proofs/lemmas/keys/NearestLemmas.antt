@@ -5,10 +5,10 @@ use Rattle.std.proofs.Common.{append_assoc, append-nil, length-append, length-ta
 use Rattle.std.proofs.Common.{take_all, take_at, take-take, true, true≢false}
 use Rattle.std.proofs.lemmas.List.{nil_from_length}
 use Rattle.unix_path.specs.Parts.{Value, values}
-use Rattle.unix_path.specs.Prefixes.{Begins, stripped_of}
+use Rattle.unix_path.specs.Prefixes.{IsPrefixOf, stripped_of}
 use Rattle.path_runs.specs.Spelling.{spelling_of}
 use Rattle.path_runs.proofs.lemmas.spelling.ReadBackLemmas.{values-spelling_of}
-use Rattle.path_table.specs.Table.{value_at}
+use Rattle.path_runs.specs.Rows.{value_at}
 use Rattle.path_keys.specs.Keys.{code, key_of}
 use Rattle.path_keys.proofs.lemmas.values.KeyLemmas.{key_of-append, key_of-cons, key_of-nil}
 use Rattle.path_tree.specs.Nearest.{IsNearest}
@@ -23,7 +23,7 @@ key-is key s own is =
     ∙ ap key_of (values-spelling_of s)
 
 -- lists of one length that begin a list are the same
-same_prefix : {A : Type 0} (u v w : List A) → Begins u w → Begins v w → length u ≡ length v
+same_prefix : {A : Type 0} (u v w : List A) → IsPrefixOf u w → IsPrefixOf v w → length u ≡ length v
     → u ≡ v
 same_prefix u v w begins other long =
     sym (take_at u begins.0 (length u) refl)
@@ -43,10 +43,10 @@ module _ {V : Type 0} (s key : List ℕ) (rows : List (List Value × V)) where
   -- what is left of the path s begins it, has the first `end` bytes of the key as its key, and no
   -- longer beginning of s has a row
   pub record GoesUp (end : ℕ) (left : List ℕ) : Type 0 where
-    pub begins : Begins (values left) (values s)
+    pub begins : IsPrefixOf (values left) (values s)
     pub in_range : end ≤ length key
     pub key_is : take end key ≡ key_of (values left)
-    pub longest : (v : List Value) → IsSome (value_at v rows) → Begins v (values s)
+    pub longest : (v : List Value) → IsSome (value_at v rows) → IsPrefixOf v (values s)
         → length v ≤ length (values left)
 
   -- at first all of it is left
@@ -73,12 +73,14 @@ module _ {V : Type 0} (s key : List ℕ) (rows : List (List Value × V)) where
       ∙ ap (λ k. key_of (values new) ++ k)
       (key_of-cons v [] ∙ ap (λ k. code v ++ k) key_of-nil ∙ append-nil (code v))
 
+  -- the length of that key, by the prefix without its last component
   key_long : (end : ℕ) (left new : List ℕ) (v : Value) → GoesUp end left
       → values left ≡ values new ++ v ∷ [] → end ≡ length (key_of (values new)) + length (code v)
   key_long end left new v h is =
       sym (length-take-le end key h.in_range) ∙ ap length (key_cut end left new v h is)
       ∙ length-append (key_of (values new)) (code v)
 
+  -- so it is at least as long as the code of that component
   pub code_fits : (end : ℕ) (left new : List ℕ) (v : Value) → GoesUp end left
       → values left ≡ values new ++ v ∷ [] → length (code v) ≤ end
   code_fits end left new v h is = omega (arith, key_long end left new v h is)
@@ -129,7 +131,7 @@ module _ {V : Type 0} (s key : List ℕ) (rows : List (List Value × V)) where
   -- without one at the empty path there is none
   pub none_nearer : (end : ℕ) (left : List ℕ) → GoesUp end left
       → value_at (values left) rows ≡ None → values left ≡ []
-      → (v : List Value) → Begins v (values s) → value_at v rows ≡ None
+      → (v : List Value) → IsPrefixOf v (values s) → value_at v rows ≡ None
   none_nearer end left h none empty v begins =
       is_none (value_at v rows) (λ some.
       let long : length v ≡ 0 = omega (arith, h.longest v some begins, ap length empty) in

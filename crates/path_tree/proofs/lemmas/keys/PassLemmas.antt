@@ -12,6 +12,7 @@ abbrev pub AllKeys : {K V : Type 0} → (K → List ℕ) → (List ℕ → Bool)
 AllKeys bytes_of test entries = AllPass (λ k. test (bytes_of k)) (keys_of entries)
 
 module _ {K V : Type 0} (bytes_of : K → List ℕ) (test : List ℕ → Bool) (keep : K × V → Bool) where
+  -- the keys of entries that a filter keeps pass
   AllKeys-kept : (entries : List (K × V)) → AllKeys bytes_of test entries
       → AllKeys bytes_of test (filter keep entries)
   AllKeys-kept [] all = all
@@ -51,6 +52,7 @@ module _ {K V : Type 0} (bytes_of : K → List ℕ) (test : List ℕ → Bool) (
 -- a test that more keys pass
 module _ {K V : Type 0} (bytes_of : K → List ℕ) (test more : List ℕ → Bool)
     (wider : (key : List ℕ) → test key ≡ true → more key ≡ true) where
+  -- keys that pass a test pass a wider one
   pub AllKeys-wider : (entries : List (K × V)) → AllKeys bytes_of test entries
       → AllKeys bytes_of more entries
   AllKeys-wider [] all = All-nil (λ k. more (bytes_of k) ≡ true)
@@ -63,6 +65,7 @@ module _ {K V : Type 0} (bytes_of : K → List ℕ) (test more : List ℕ → Bo
 -- a test that each key passes
 module _ {K V : Type 0} (bytes_of : K → List ℕ) (test : List ℕ → Bool)
     (passes : (key : List ℕ) → test key ≡ true) where
+  -- all keys pass a test that each passes
   pub AllKeys-always : (entries : List (K × V)) → AllKeys bytes_of test entries
   AllKeys-always [] = All-nil (λ k. test (bytes_of k) ≡ true)
   AllKeys-always (e ∷ entries) =

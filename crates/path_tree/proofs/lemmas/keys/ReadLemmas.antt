@@ -69,6 +69,7 @@ pub own-is : (key : List ℕ) → is_own key ≡ true
     → key_of (values (spelling_of (key_values key))) ≡ key
 own-is key own = (bytes_eq-Decides (key_of (values (spelling_of (key_values key)))) key).0 own
 
+-- the path that spells the components of a key has these components
 pub own-values : (key : List ℕ) → is_own key ≡ true
     → values (spelling_of (key_values key)) ≡ key_values key
 own-values key own =

@@ -34,18 +34,21 @@ module _ {K V : Type 0} (bytes_of : K → List ℕ) where
   abbrev pub Own : List (K × V) → Type 0
   Own entries = AllPass (λ k. is_own (bytes_of k)) (keys_of entries)
 
+  -- the same, by recursion on the entries
   pub all_own : (entries : List (K × V)) → Own entries → AllOwn entries
   all_own entries own =
       recursion_from_All (λ k. is_own (bytes_of k) ≡ true) (keys_of entries) own
 
 module _ {K : Type 0} (bytes_of : K → List ℕ) (key : List ℕ) (v : List Value)
     (stands : StandsFor key v) where
+  -- two keys are the same if and only if their components are equal
   is_it-is_at : (k : K) → is_own (bytes_of k) ≡ true
       → is_it bytes_of key k ≡ is_at (values_cmp v) (key_values (bytes_of k))
   is_it-is_at k other = ap is_eq (bytes_cmp-stands key v stands (bytes_of k) other)
 
 module _ {K V : Type 0} (bytes_of : K → List ℕ) (key : List ℕ) (v : List Value)
     (stands : StandsFor key v) where
+  -- `lookup-rows_by`, by recursion on the entries
   lookup-all_own : (entries : List (K × V)) → AllOwn bytes_of entries
       → lookup (is_it bytes_of key) entries
       ≡ lookup (is_at (values_cmp v)) (rows_by bytes_of entries)
@@ -62,6 +65,7 @@ module _ {K V : Type 0} (bytes_of : K → List ℕ) (key : List ℕ) (v : List V
       ≡ lookup (is_at (values_cmp v)) (rows_by bytes_of entries)
   lookup-rows_by entries all = lookup-all_own entries (all_own bytes_of entries all)
 
+  -- `remove-rows_by`, by recursion on the entries
   remove-all_own : (entries : List (K × V)) → AllOwn bytes_of entries
       → rows_by bytes_of (remove_entry (is_it bytes_of key) entries)
       ≡ remove_entry (is_at (values_cmp v)) (rows_by bytes_of entries)
@@ -85,6 +89,7 @@ module _ {K V : Type 0} (bytes_of : K → List ℕ) (key : List ℕ) (v : List V
       ≡ remove_entry (is_at (values_cmp v)) (rows_by bytes_of entries)
   remove-rows_by entries all = remove-all_own entries (all_own bytes_of entries all)
 
+  -- `set_value-rows_by`, by recursion on the entries
   set_value-all_own : (entries : List (K × V)) (x : V) → AllOwn bytes_of entries
       → rows_by bytes_of (set_value (is_it bytes_of key) entries x)
       ≡ set_value (is_at (values_cmp v)) (rows_by bytes_of entries) x
@@ -110,6 +115,7 @@ module _ {K V : Type 0} (bytes_of : K → List ℕ) (key : List ℕ) (v : List V
 
 module _ {K V : Type 0} (bytes_of : K → List ℕ) (key : K) (v : List Value)
     (stands : StandsFor (bytes_of key) v) where
+  -- `insert-rows_by`, by recursion on the entries
   insert-all_own : (entries : List (K × V)) (x : V) → AllOwn bytes_of entries
       → rows_by bytes_of (insert_entry (keys_cmp bytes_of) entries key x)
       ≡ insert_entry values_cmp (rows_by bytes_of entries) v x

@@ -10,10 +10,10 @@ use Rattle.std.specs.Map.{keys_of}
 use Rattle.std.specs.Ordering.{ordering_reverse}
 use Rattle.unix_path.specs.Order.{values_cmp}
 use Rattle.unix_path.specs.Parts.{Value}
-use Rattle.unix_path.specs.Prefixes.{Begins}
+use Rattle.unix_path.specs.Prefixes.{IsPrefixOf}
 use Rattle.path_runs.specs.Spelling.{spelling_of}
-use Rattle.path_table.specs.Table.{is_under}
-use Rattle.path_table.proofs.BeginLemmas.{begins_from_under, under_from_begins}
+use Rattle.path_runs.specs.Rows.{is_under}
+use Rattle.path_runs.proofs.lemmas.rows.UnderLemmas.{begins_from_under, under_from_begins}
 use Rattle.path_keys.specs.Ranges.{bytes_cmp, end_of, LiesUnder}
 use Rattle.path_keys.proofs.lemmas.values.CodeLemmas.{values-coded}
 use Rattle.path_keys.proofs.lemmas.values.OrderLemmas.{key_of-begins, begins-key_of}
@@ -24,39 +24,46 @@ use Rattle.path_tree.proofs.lemmas.keys.RowLemmas.{AllOwn, Own, all_own, keys_cm
 
 -- a key begins another exactly if its values begin the other's
 module _ (k l : List ℕ) (own : is_own k ≡ true) (other : is_own l ≡ true) where
-  pub key_begins : Begins (key_values k) (key_values l) → Begins k l
+  -- if the components begin the other's, so do the bytes
+  pub key_begins : IsPrefixOf (key_values k) (key_values l) → IsPrefixOf k l
   key_begins begins =
-      subst₂ Begins (own-is k own) (own-is l other)
+      subst₂ IsPrefixOf (own-is k own) (own-is l other)
       (begins-key_of _ _
-      (subst₂ Begins (sym (own-values k own)) (sym (own-values l other)) begins))
+      (subst₂ IsPrefixOf (sym (own-values k own)) (sym (own-values l other)) begins))
 
-  pub values_begin : Begins k l → Begins (key_values k) (key_values l)
+  -- if the bytes begin the other's, so do the components
+  pub values_begin : IsPrefixOf k l → IsPrefixOf (key_values k) (key_values l)
   values_begin begins =
       let s = spelling_of (key_values k) in
       let t = spelling_of (key_values l) in
-      let both = subst₂ Begins (sym (own-is k own)) (sym (own-is l other)) begins in
-      subst₂ Begins (own-values k own) (own-values l other)
+      let both = subst₂ IsPrefixOf (sym (own-is k own)) (sym (own-is l other)) begins in
+      subst₂ IsPrefixOf (own-values k own) (own-values l other)
       (key_of-begins _ _ (values-coded s) (values-coded t) both.0 both.1)
 
-less_not_le : (o : Ordering) (p : Ordering) → o ≡ ordering_reverse p
+-- what is less is not at least
+pub less_not_le : (o : Ordering) (p : Ordering) → o ≡ ordering_reverse p
     → p ≡ Less → not (is_le o) ≡ true
 less_not_le o p is less = ap (λ o. not (is_le o)) (is ∙ ap ordering_reverse less)
 
-less_from_not_le : (p : Ordering) → not (is_le (ordering_reverse p)) ≡ true → p ≡ Less
+-- what is not at least is less
+pub less_from_not_le : (p : Ordering) → not (is_le (ordering_reverse p)) ≡ true → p ≡ Less
 less_from_not_le Less h = refl
 less_from_not_le Equal h = absurd (let e = h in cc)
 less_from_not_le Greater h = absurd (let e = h in cc)
 
-both_true : (p q : Bool) → p ≡ true → q ≡ true → (p && q) ≡ true
+-- two tests that are true are true together
+pub both_true : (p q : Bool) → p ≡ true → q ≡ true → (p && q) ≡ true
 both_true true true h k = refl
 both_true true false h k = k
 both_true false q h k = h
 
-first_true : (p q : Bool) → (p && q) ≡ true → p ≡ true
+-- of two tests that are true together, the first is true
+pub first_true : (p q : Bool) → (p && q) ≡ true → p ≡ true
 first_true true q h = refl
 first_true false q h = h
 
-second_true : (p q : Bool) → (p && q) ≡ true → q ≡ true
+-- and the second
+pub second_true : (p q : Bool) → (p && q) ≡ true → q ≡ true
 second_true true true h = refl
 second_true true false h = h
 second_true false q h = absurd (let e = h in cc)
@@ -102,6 +109,7 @@ all-under base none v =
 
 module _ {K V : Type 0} (bytes_of : K → List ℕ) (test : K → Bool) (keep : List Value → Bool)
     (is : (k : K) → is_own (bytes_of k) ≡ true → test k ≡ keep (key_values (bytes_of k))) where
+  -- `filter-rows_by`, by recursion on the entries
   filter-all_own : (entries : List (K × V)) → AllOwn bytes_of entries
       → rows_by bytes_of (filter (λ e. test e.0) entries)
       ≡ filter (λ row. keep row.0) (rows_by bytes_of entries)
@@ -124,6 +132,7 @@ module _ {K V : Type 0} (bytes_of : K → List ℕ) (test : K → Bool) (keep : 
   filter-rows_by entries all = filter-all_own entries (all_own bytes_of entries all)
 
 module _ {K V : Type 0} (bytes_of : K → List ℕ) where
+  -- what is greater by its bytes is greater by its components
   behind-all_own : (k : K) (entries : List (K × V)) → is_own (bytes_of k) ≡ true
       → AllOwn bytes_of entries
       → AllByRecursion (λ l. keys_cmp bytes_of k l ≡ Less) (keys_of entries)
@@ -135,6 +144,7 @@ module _ {K V : Type 0} (bytes_of : K → List ℕ) where
     behind-all_own k entries own all.1 behind.1,
   )
 
+  -- `sorted-rows_by`, by recursion on the entries
   sorted-all_own : (entries : List (K × V)) → AllOwn bytes_of entries
       → IsStrictlySortedBy (keys_cmp bytes_of) (keys_of entries)
       → IsStrictlySortedBy values_cmp (keys_of (rows_by bytes_of entries))

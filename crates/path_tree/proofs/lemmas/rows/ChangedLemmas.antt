@@ -1,38 +1,107 @@
--- The rows that two trees have with different values, one row more: it is one of them, or it isn't.
-use Rattle.std.proofs.Common.{◌≡◌, ◌∙◌, Bool, true, false, cond, List, ◌∷◌, None, Some, ap, not}
-use Rattle.std.specs.List.{cons_option, filter}
+-- The entries that two trees have with different values, one entry more: it is one of them, or it
+-- is not.
+use Rattle.std.proofs.Common.{◌≡◌, ◌∙◌, ℕ, Bool, true, false, cond, List, [], ◌∷◌, None}
+use Rattle.std.proofs.Common.{Some, Less, ap, map, not, refl}
+use Rattle.std.specs.Borrow.{Bor}
+use Rattle.std.specs.List.{AllByRecursion, cons_option, filter}
+use Rattle.std.specs.List.Sorted.{IsStrictlySortedBy}
+use Rattle.std.specs.Map.{keys_of}
 use Rattle.std.specs.Option.{option_map}
-use Rattle.unix_path.specs.Parts.{Value}
-use Rattle.path_table.specs.Table.{value_at}
-use Rattle.path_tree.specs.Changed.{rows_changed, rows_in_both}
+use Rattle.unix_bytes.proofs.lemmas.lists.ListLemmas.{by_test}
+use Rattle.path_keys.specs.Ranges.{bytes_cmp}
+use Rattle.path_tree.specs.Changed.{entries_changed, entries_in_both, lent_both}
+use Rattle.path_tree.specs.Rows.{entry_at}
 
-module _ {V : Type 0} (eq : V → V → Bool) (other : List (List Value × V))
-    (row : List Value × V) (rows : List (List Value × V)) where
-  with_found : (y : V) → value_at row.0 other ≡ Some y
-      → rows_changed eq other (row ∷ rows)
-      ≡ cond (not (eq row.1 y)) ((row.0, row.1, y) ∷ rows_changed eq other rows)
-      (rows_changed eq other rows)
+-- the keys of entries with two values
+abbrev pub both_keys : {V W : Type 0} → List (List ℕ × V × W) → List (List ℕ)
+both_keys both = map (λ b. b.0) both
+
+-- the keys of borrowed entries
+pub both_keys-lent : {V W : Type 0} (both : List (Bor (List ℕ) × Bor V × Bor W))
+    → map (λ b. b.0.now) both ≡ both_keys (map lent_both both)
+both_keys-lent [] = refl
+both_keys-lent (b ∷ both) = ap (λ l. b.0.now ∷ l) (both_keys-lent both)
+
+module _ {V W : Type 0} (other : List (List ℕ × W)) where
+  -- what holds of all keys holds of those that the others have too
+  all_in_both : (P : List ℕ → Type 0) → (es : List (List ℕ × V)) → AllByRecursion P (keys_of es)
+      → AllByRecursion P (both_keys (entries_in_both other es))
+  all_in_both P [] all = tt
+  all_in_both P (e ∷ es) all =
+      elim (entry_at e.0 other) as (λ o. AllByRecursion P (both_keys
+      (cons_option (option_map (λ y. (e.0, e.1, y)) o) (entries_in_both other es)))) [
+        | None ↦ all_in_both P es all.1
+        | Some y ↦ (all.0, all_in_both P es all.1)
+      ]
+
+  -- the entries in both are sorted
+  sorted_in_both : (es : List (List ℕ × V)) → IsStrictlySortedBy bytes_cmp (keys_of es)
+      → IsStrictlySortedBy bytes_cmp (both_keys (entries_in_both other es))
+  unfolding IsStrictlySortedBy
+  sorted_in_both [] sorted = tt
+  sorted_in_both (e ∷ es) sorted =
+      elim (entry_at e.0 other) as (λ o. IsStrictlySortedBy bytes_cmp (both_keys
+      (cons_option (option_map (λ y. (e.0, e.1, y)) o) (entries_in_both other es)))) [
+        | None ↦ sorted_in_both es sorted.1
+        | Some y ↦
+            (all_in_both (λ l. bytes_cmp e.0 l ≡ Less) es sorted.0, sorted_in_both es sorted.1)
+      ]
+
+module _ {V W : Type 0} (keep : (List ℕ × V × W) → Bool) where
+  -- what holds of all keys holds of those that a filter keeps
+  all_both : (P : List ℕ → Type 0) → (both : List (List ℕ × V × W))
+      → AllByRecursion P (both_keys both) → AllByRecursion P (both_keys (filter keep both))
+  all_both P [] all = tt
+  all_both P (b ∷ both) all = by_test (keep b)
+      (λ is. rw is (all.0, all_both P both all.1))
+      (λ fails. rw fails (all_both P both all.1))
+
+  -- what a filter keeps is sorted
+  sorted_both : (both : List (List ℕ × V × W)) → IsStrictlySortedBy bytes_cmp (both_keys both)
+      → IsStrictlySortedBy bytes_cmp (both_keys (filter keep both))
+  unfolding IsStrictlySortedBy
+  sorted_both [] sorted = tt
+  sorted_both (b ∷ both) sorted = by_test (keep b)
+      (λ is. rw is
+      (all_both (λ l. bytes_cmp b.0 l ≡ Less) both sorted.0, sorted_both both sorted.1))
+      (λ fails. rw fails (sorted_both both sorted.1))
+
+-- the changed entries are sorted
+pub sorted-changed : {V : Type 0} (eq : V → V → Bool) (other es : List (List ℕ × V))
+    → IsStrictlySortedBy bytes_cmp (keys_of es)
+    → IsStrictlySortedBy bytes_cmp (both_keys (entries_changed eq other es))
+sorted-changed eq other es sorted =
+    sorted_both (λ both. not (eq both.1 both.2)) (entries_in_both other es)
+    (sorted_in_both other es sorted)
+
+module _ {V : Type 0} (eq : V → V → Bool) (other : List (List ℕ × V)) (e : List ℕ × V)
+    (es : List (List ℕ × V)) where
+  -- an entry whose key the others have is one of them if the values are not equal
+  with_found : (y : V) → entry_at e.0 other ≡ Some y
+      → entries_changed eq other (e ∷ es)
+      ≡ cond (not (eq e.1 y)) ((e.0, e.1, y) ∷ entries_changed eq other es)
+      (entries_changed eq other es)
   with_found y is =
-      ap (λ o. filter (λ (both : List Value × V × V). not (eq both.1 both.2))
-      (cons_option (option_map (λ y. (row.0, row.1, y)) o) (rows_in_both other rows))) is
+      ap (λ o. filter (λ (both : List ℕ × V × V). not (eq both.1 both.2))
+      (cons_option (option_map (λ y. (e.0, e.1, y)) o) (entries_in_both other es))) is
 
-  -- a row at whose values the others have nothing is none of those
-  pub absent_row : value_at row.0 other ≡ None
-      → rows_changed eq other (row ∷ rows) ≡ rows_changed eq other rows
-  absent_row is =
-      ap (λ o. filter (λ (both : List Value × V × V). not (eq both.1 both.2))
-      (cons_option (option_map (λ y. (row.0, row.1, y)) o) (rows_in_both other rows))) is
+  -- an entry whose key the others lack is not one of them
+  pub absent_entry : entry_at e.0 other ≡ None
+      → entries_changed eq other (e ∷ es) ≡ entries_changed eq other es
+  absent_entry is =
+      ap (λ o. filter (λ (both : List ℕ × V × V). not (eq both.1 both.2))
+      (cons_option (option_map (λ y. (e.0, e.1, y)) o) (entries_in_both other es))) is
 
-  -- nor is one at which the others have the same
-  pub equal_row : (y : V) → value_at row.0 other ≡ Some y → eq row.1 y ≡ true
-      → rows_changed eq other (row ∷ rows) ≡ rows_changed eq other rows
-  equal_row y is same = with_found y is
-      ∙ ap (λ b. cond (not b) ((row.0, row.1, y) ∷ rows_changed eq other rows)
-      (rows_changed eq other rows)) same
+  -- nor is an entry for which the others have an equal value
+  pub equal_entry : (y : V) → entry_at e.0 other ≡ Some y → eq e.1 y ≡ true
+      → entries_changed eq other (e ∷ es) ≡ entries_changed eq other es
+  equal_entry y is same = with_found y is
+      ∙ ap (λ b. cond (not b) ((e.0, e.1, y) ∷ entries_changed eq other es)
+      (entries_changed eq other es)) same
 
-  -- another is the first of them
-  pub changed_row : (y : V) → value_at row.0 other ≡ Some y → eq row.1 y ≡ false
-      → rows_changed eq other (row ∷ rows) ≡ (row.0, row.1, y) ∷ rows_changed eq other rows
-  changed_row y is differ = with_found y is
-      ∙ ap (λ b. cond (not b) ((row.0, row.1, y) ∷ rows_changed eq other rows)
-      (rows_changed eq other rows)) differ
+  -- any other entry is the first of them
+  pub changed_entry : (y : V) → entry_at e.0 other ≡ Some y → eq e.1 y ≡ false
+      → entries_changed eq other (e ∷ es) ≡ (e.0, e.1, y) ∷ entries_changed eq other es
+  changed_entry y is differ = with_found y is
+      ∙ ap (λ b. cond (not b) ((e.0, e.1, y) ∷ entries_changed eq other es)
+      (entries_changed eq other es)) differ

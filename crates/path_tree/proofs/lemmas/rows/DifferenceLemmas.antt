@@ -1,22 +1,21 @@
--- The rows that others lack, one row more: it is one of them, or it isn't.
-use Rattle.std.proofs.Common.{◌≡◌, true, false, cond, List, [], ◌∷◌, ◌++◌, ap, map, not, refl}
+-- The entries that others lack, one entry more: it is one of them, or it is not.
+use Rattle.std.proofs.Common.{◌≡◌, ℕ, true, false, cond, List, [], ◌∷◌, ◌++◌, ap, map, not, refl}
 use Rattle.std.specs.Option.{is_some}
-use Rattle.unix_path.specs.Parts.{Value}
-use Rattle.path_table.specs.Table.{value_at}
-use Rattle.path_tree.specs.Difference.{rows_lacking}
+use Rattle.path_tree.specs.Difference.{entries_lacking}
+use Rattle.path_tree.specs.Rows.{entry_at}
 
-module _ {V W : Type 0} (other : List (List Value × W)) (row : List Value × V)
-    (rows : List (List Value × V)) where
-  -- a row that the others lack is the first of those
-  pub lacks_row : is_some (value_at row.0 other) ≡ false
-      → rows_lacking other (row ∷ rows) ≡ row ∷ rows_lacking other rows
-  lacks_row is =
-      let left = rows_lacking other rows in ap (λ b. cond (not b) (row ∷ left) left) is
+module _ {V W : Type 0} (other : List (List ℕ × W)) (e : List ℕ × V)
+    (es : List (List ℕ × V)) where
+  -- an entry that the others lack is the first of them
+  pub lacks_entry : is_some (entry_at e.0 other) ≡ false
+      → entries_lacking other (e ∷ es) ≡ e ∷ entries_lacking other es
+  lacks_entry is =
+      let rest = entries_lacking other es in ap (λ b. cond (not b) (e ∷ rest) rest) is
 
-  -- a row that the others have is none of those
-  pub has_row : is_some (value_at row.0 other) ≡ true
-      → rows_lacking other (row ∷ rows) ≡ rows_lacking other rows
-  has_row is = let left = rows_lacking other rows in ap (λ b. cond (not b) (row ∷ left) left) is
+  -- an entry that the others have is not one of them
+  pub has_entry : is_some (entry_at e.0 other) ≡ true
+      → entries_lacking other (e ∷ es) ≡ entries_lacking other es
+  has_entry is = let rest = entries_lacking other es in ap (λ b. cond (not b) (e ∷ rest) rest) is
 
 -- a list with one element more, mapped before others
 pub map_push-append : {A B : Type 0} (f : A → B) (xs : List A) (x : A) (ys : List B)
@@ -24,7 +23,7 @@ pub map_push-append : {A B : Type 0} (f : A → B) (xs : List A) (x : A) (ys : L
 map_push-append f [] x ys = refl
 map_push-append f (a ∷ xs) x ys = ap (λ l. f a ∷ l) (map_push-append f xs x ys)
 
--- a list with an element isn't empty
+-- a list with an element is not empty
 pub some_append : {A : Type 0} (xs : List A) (x : A) (ys : List A) → xs ++ x ∷ ys ≡ [] → ⊥
 some_append [] x ys none = let e = none in cc
 some_append (a ∷ xs) x ys none = let e = none in cc

@@ -7,8 +7,8 @@ use Rattle.std.specs.List.{starts_with}
 use Rattle.unix_path.specs.Order.{values_cmp}
 use Rattle.unix_path.specs.Parts.{Value, values}
 use Rattle.unix_path.specs.declared.path.Path.{Path}
-use Rattle.path_table.specs.Table.{is_under}
-use Rattle.path_table.proofs.BeginLemmas.{begins_from_under, under_from_begins}
+use Rattle.path_runs.specs.Rows.{is_under}
+use Rattle.path_runs.proofs.lemmas.rows.UnderLemmas.{begins_from_under, under_from_begins}
 use Rattle.path_keys.proofs.lemmas.values.BeginLemmas.{begins_told}
 use Rattle.path_tree.specs.Many.{inserted_all}
 use Rattle.path_tree.specs.Rows.{Key, key_rows}

@@ -12,9 +12,9 @@ use Rattle.unix_bytes.proofs.lemmas.lists.ListLemmas.{by_test}
 use Rattle.unix_path.specs.Order.{values_cmp}
 use Rattle.unix_path.specs.OrderLaws.{values_cmp-equal, values_cmp-total}
 use Rattle.unix_path.specs.Parts.{Value}
-use Rattle.unix_path.specs.Prefixes.{Begins}
-use Rattle.path_table.specs.Table.{is_under}
-use Rattle.path_table.proofs.BeginLemmas.{begins_from_under, under_from_begins}
+use Rattle.unix_path.specs.Prefixes.{IsPrefixOf}
+use Rattle.path_runs.specs.Rows.{is_under}
+use Rattle.path_runs.proofs.lemmas.rows.UnderLemmas.{begins_from_under, under_from_begins}
 use Rattle.path_tree.specs.Moved.{moved_row, moved_rows, rows_with}
 use Rattle.path_tree.specs.Rows.{rows_outside, rows_under}
 use Rattle.path_tree.proofs.lemmas.rows.WalkLemmas.{all_kept}
@@ -29,6 +29,7 @@ module _ {V : Type 0} (v : List Value) (x : V) where
       ap (λ o. match_ordering o ((v, x) ∷ row ∷ rows) ((row.0, x) ∷ rows)
       (row ∷ insert_entry values_cmp rows v x)) all.0
 
+  -- what is less than a component list is less than all that are greater
   less_all : (w : List Value) → values_cmp v w ≡ Less → (vs : List (List Value))
       → AllByRecursion (λ u. values_cmp w u ≡ Less) vs
       → AllByRecursion (λ u. values_cmp v u ≡ Less) vs
@@ -36,6 +37,7 @@ module _ {V : Type 0} (v : List Value) (x : V) where
   less_all w less (u ∷ vs) all =
       (values_cmp-total.trans v w u less all.0, less_all w less vs all.1)
 
+  -- what is less than all rows and an inserted row is less than all of them
   all_insert : (w : List Value) → values_cmp w v ≡ Less → (rows : List (List Value × V))
       → AllByRecursion (λ u. values_cmp w u ≡ Less) (keys_of rows)
       → AllByRecursion (λ u. values_cmp w u ≡ Less) (keys_of (insert_entry values_cmp rows v x))
@@ -49,6 +51,7 @@ module _ {V : Type 0} (v : List Value) (x : V) where
         | Greater ↦ (all.0, all_insert w less rows all.1)
       ]
 
+  -- `sorted-insert`, by the order of the inserted row and the first one
   sorted-by : (row : List Value × V) (rows : List (List Value × V)) (o : Ordering)
       → values_cmp v row.0 ≡ o
       → AllByRecursion (λ u. values_cmp row.0 u ≡ Less) (keys_of rows)
@@ -75,6 +78,7 @@ module _ {V : Type 0} (v : List Value) (x : V) where
       (sorted-insert rows sorted.1)
 
   module _ (q : List Value → Bool) where
+    -- the rows that pass a test of their components
     abbrev keep : List (List Value × V) → List (List Value × V)
     keep rows = filter (λ row. q row.0) rows
 
@@ -132,6 +136,7 @@ module _ {V : Type 0} (v : List Value) (x : V) where
 
 module _ {V : Type 0} (rows : List (List Value × V))
     (sorted : IsStrictlySortedBy values_cmp (keys_of rows)) where
+  -- rows stay sorted when others are inserted
   sorted-with : (others : List (List Value × V))
       → IsStrictlySortedBy values_cmp (keys_of (rows_with rows others))
   sorted-with [] = sorted
@@ -156,6 +161,7 @@ none_under base (row ∷ rows) none = by_test (is_under base row.0)
     (λ under. absurd (let e = rw under at none in cc))
     (λ other. (other, none_under base rows (rw other at none)))
 
+-- if no row is under base, all are outside
 all_outside : {V : Type 0} (base : List Value) (rows : List (List Value × V))
     → AllByRecursion (λ row. is_under base row.0 ≡ false) rows → rows_outside base rows ≡ rows
 all_outside base [] all = refl
@@ -190,13 +196,14 @@ pub all_last : {V : Type 0} (P : List Value × V → Type 0) (front last : List 
 all_last P [] last all = all
 all_last P (row ∷ front) last all = all_last P front last all.1
 
-with_first : (u v : Value) → u ≡ v → (us vs : List Value) → Begins us vs ⊎ Begins vs us
-    → Begins (u ∷ us) (v ∷ vs) ⊎ Begins (v ∷ vs) (u ∷ us)
+-- of two lists, one begins the other also with the same first component before both
+with_first : (u v : Value) → u ≡ v → (us vs : List Value) → IsPrefixOf us vs ⊎ IsPrefixOf vs us
+    → IsPrefixOf (u ∷ us) (v ∷ vs) ⊎ IsPrefixOf (v ∷ vs) (u ∷ us)
 with_first u v first us vs (inl h) = inl (h.0, ap₂ (λ w ws. w ∷ ws) first h.1)
 with_first u v first us vs (inr h) = inr (h.0, ap₂ (λ w ws. w ∷ ws) (sym first) h.1)
 
 -- of two beginnings of one list, one begins the other
-either_begins : (us vs x y : List Value) → us ++ x ≡ vs ++ y → Begins us vs ⊎ Begins vs us
+either_begins : (us vs x y : List Value) → us ++ x ≡ vs ++ y → IsPrefixOf us vs ⊎ IsPrefixOf vs us
 either_begins [] vs x y same = inl (vs, refl)
 either_begins (u ∷ us) [] x y same = inr (u ∷ us, refl)
 either_begins (u ∷ us) (v ∷ vs) x y same =
@@ -204,29 +211,31 @@ either_begins (u ∷ us) (v ∷ vs) x y same =
     let others : us ++ x ≡ vs ++ y = cc in
     with_first u v first us vs (either_begins us vs x y others)
 
-begins_through : (us vs ws : List Value) → Begins us vs → Begins vs ws → Begins us ws
+-- what begins a list that begins another begins the other
+begins_through : (us vs ws : List Value) → IsPrefixOf us vs → IsPrefixOf vs ws → IsPrefixOf us ws
 begins_through us vs ws h k =
     (h.0 ++ k.0, sym (append_assoc us h.0 k.0) ∙ ap (λ l. l ++ k.0) h.1 ∙ k.1)
 
 -- bases that don't begin each other: what begins with one doesn't with the other
-not_either : (from to v w : List Value) → (Begins from to → ⊥) → is_under to v ≡ false
-    → Begins from v → Begins from (to ++ w) → ⊥
+not_either : (from to v w : List Value) → (IsPrefixOf from to → ⊥) → is_under to v ≡ false
+    → IsPrefixOf from v → IsPrefixOf from (to ++ w) → ⊥
 not_either from to v w apart free there begins =
     by (either_begins from to begins.0 w begins.1)
   where
-    by : Begins from to ⊎ Begins to from → ⊥
+    by : IsPrefixOf from to ⊎ IsPrefixOf to from → ⊥
     by (inl h) = apart h
     by (inr h) =
         let e = sym free ∙ under_from_begins to v (begins_through to from v h there) in cc
 
-not_under_source : (from to v w : List Value) → (Begins from to → ⊥) → is_under to v ≡ false
+-- a row that is moved to another base is not under its old one
+not_under_source : (from to v w : List Value) → (IsPrefixOf from to → ⊥) → is_under to v ≡ false
     → is_under from v ≡ true → is_under from (to ++ w) ≡ false
 not_under_source from to v w apart free under = by_test (is_under from (to ++ w))
     (λ inside. absurd (not_either from to v w apart free (begins_from_under from v under)
     (begins_from_under from (to ++ w) inside)))
     (λ other. other)
 
-module _ {V : Type 0} (from to : List Value) (apart : Begins from to → ⊥) where
+module _ {V : Type 0} (from to : List Value) (apart : IsPrefixOf from to → ⊥) where
   -- moved rows aren't under the source
   pub moved_outside : (rows : List (List Value × V))
       → AllByRecursion (λ row. is_under to row.0 ≡ false) rows
@@ -247,6 +256,7 @@ moves_row from to row rows under =
     ap (λ b. map (moved_row from to) (cond b (row ∷ rows_under from rows) (rows_under from rows)))
     under
 
+-- a row that is not under the source is not moved
 pub leaves_row : {V : Type 0} (from to : List Value) (row : List Value × V)
     (rows : List (List Value × V)) → is_under from row.0 ≡ false
     → moved_rows from to (row ∷ rows) ≡ moved_rows from to rows
@@ -254,6 +264,7 @@ leaves_row from to row rows other =
     ap (λ b. map (moved_row from to) (cond b (row ∷ rows_under from rows) (rows_under from rows)))
     other
 
+-- as many rows are moved as are under the source
 pub length-moved : {V : Type 0} (from to : List Value) (rows : List (List Value × V))
     → length (moved_rows from to rows) ≡ length (rows_under from rows)
 length-moved from to rows = length-map (rows_under from rows) (moved_row from to)

@@ -12,6 +12,7 @@ use Rattle.path_tree.specs.Rows.{Key, key_rows}
 use Rattle.path_tree.proofs.lemmas.keys.RowLemmas.{Own, all_own}
 use Rattle.path_tree.proofs.lemmas.rows.WalkLemmas.{all_rest}
 
+-- the rows of two lists of entries, one after the other
 pub key_rows-append : {V : Type 0} (es fs : List (Key × V))
     → key_rows (es ++ fs) ≡ key_rows es ++ key_rows fs
 key_rows-append [] fs = refl
@@ -25,11 +26,13 @@ pub record PutsLast {V : Type 0} (all : List (Key × V)) (old : List (List Value
   pub rows : new ≡ rows_with old (key_rows done)
 
 module _ {V : Type 0} (all : List (Key × V)) (old : List (List Value × V)) where
+  -- at first none was put
   pub puts_none : PutsLast all old all old
   puts_none = record { done = []; split = sym (append-nil all); rows = refl }
 
   module _ (left : List (Key × V)) (new : List (List Value × V)) (h : PutsLast all old left new)
       (others : List (Key × V)) (k : Key) (x : V) (is : left ≡ others ++ (k, x) ∷ []) where
+    -- then one more
     pub puts_one : (more : List (List Value × V))
         → more ≡ insert_entry values_cmp new (key_values k.items) x → PutsLast all old others more
     puts_one more put = record {
@@ -38,6 +41,7 @@ module _ {V : Type 0} (all : List (Key × V)) (old : List (List Value × V)) whe
       rows = put ∙ ap (λ l. insert_entry values_cmp l (key_values k.items) x) h.rows;
     }
 
+    -- whose key is the key of a path
     pub one_own : Own (λ (k : Key). k.items) all → is_own k.items ≡ true
     one_own own = (all_rest (λ (k : Key). is_own k.items ≡ true) others ((k, x) ∷ h.done)
         (subst (λ l. AllByRecursion (λ (k : Key). is_own k.items ≡ true) (keys_of l))
@@ -53,6 +57,7 @@ module _ {V : Type 0} (all : List (Key × V)) (old : List (List Value × V)) whe
     (key_rows h.done, ap key_rows h.split ∙ key_rows-append left h.done, h.rows),
   )
 
+  -- at the end all were put
   pub puts_all : (new : List (List Value × V)) → PutsLast all old [] new
       → new ≡ rows_with old (key_rows all)
   puts_all new h = h.rows ∙ ap (λ l. rows_with old (key_rows l)) (sym h.split)

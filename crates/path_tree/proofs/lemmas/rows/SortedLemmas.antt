@@ -1,4 +1,4 @@
--- Lists that rise: one element more, and two maps that find the same.
+-- Sorted lists: one element more, and two maps that find the same.
 use Rattle.std.proofs.Common.{◌≡◌, ◌∙◌, ◌⊎◌, ℕ, cond, List, [], ◌∷◌, ◌++◌, Option, Some, None, ap}
 use Rattle.std.proofs.Common.{ap₂, arith, length, length-append, map, refl, sym, inl, inr, ◌-◌}
 use Rattle.std.proofs.Common.{Ordering, Less, Equal, Greater}
@@ -18,7 +18,7 @@ use Rattle.path_tree.specs.Rows.{Key, key_rows}
 use Rattle.path_tree.specs.Sorted.{rows_in}
 use Rattle.path_tree.proofs.lemmas.keys.RowLemmas.{AllOwn, keys_cmp, rows_by}
 
--- what stands last in a list, if anything
+-- the last element of a list, if there is one
 pub last_of : {A : Type 0} (xs : List A) → (xs ≡ [])
     ⊎ ((front : List A) × ((last : A) × (xs ≡ front ++ last ∷ [])))
 last_of [] = inl refl
@@ -30,6 +30,7 @@ last_of (x ∷ xs) = inr (behind (last_of xs))
     behind (inr some) = (x ∷ some.0, (some.1.0, ap (λ l. x ∷ l) some.1.1))
 
 module _ {K V : Type 0} (cmp : K → K → Ordering) (total : IsTotalOrder cmp) (k : K) (x : V) where
+  -- what is less than all keys, and than one more, is less than all of these
   all_more : (j : K) → cmp j k ≡ Less → (es : List (K × V))
       → AllByRecursion (λ l. cmp j l ≡ Less) (keys_of es)
       → AllByRecursion (λ l. cmp j l ≡ Less) (keys_of (es ++ (k, x) ∷ []))
@@ -49,7 +50,7 @@ module _ {K V : Type 0} (cmp : K → K → Ordering) (total : IsTotalOrder cmp) 
       (last_less f es sorted.0
       (λ front last is. greater (e ∷ front) last (ap (λ l. e ∷ l) is)) sorted.1)
 
-  -- sorted entries and one behind them are sorted
+  -- sorted entries and a greater one after them are sorted
   pub sorted-more : (es : List (K × V)) → IsStrictlySortedBy cmp (keys_of es)
       → ((front : List (K × V)) (last : K × V) → es ≡ front ++ last ∷ [] → cmp last.0 k ≡ Less)
       → IsStrictlySortedBy cmp (keys_of (es ++ (k, x) ∷ []))
@@ -71,6 +72,7 @@ module _ {K : Type 0} (bytes_of : K → List ℕ) where
     less_all q k less ks all.1,
   )
 
+  -- what ties with a key is less than all that are greater than it
   tied_all : (q k : K) → keys_cmp bytes_of q k ≡ Equal → (ks : List K)
       → AllByRecursion (λ l. keys_cmp bytes_of k l ≡ Less) ks
       → AllByRecursion (λ l. keys_cmp bytes_of q l ≡ Less) ks
@@ -84,11 +86,12 @@ module _ {K : Type 0} (bytes_of : K → List ℕ) where
 cons_first : {A : Type 0} (x y : A) (xs ys : List A) → x ∷ xs ≡ y ∷ ys → x ≡ y
 cons_first x y xs ys same = cc
 
+-- and the elements after the first
 cons_others : {A : Type 0} (x y : A) (xs ys : List A) → x ∷ xs ≡ y ∷ ys → xs ≡ ys
 cons_others x y xs ys same = cc
 
 module _ {K V : Type 0} (bytes_of : K → List ℕ) where
-  -- an entry with the bytes of its key alone
+  -- an entry with only the bytes of its key
   abbrev pub bare : K × V → List ℕ × V
   bare e = (bytes_of e.0, e.1)
 
@@ -103,6 +106,7 @@ module _ {K V : Type 0} (bytes_of : K → List ℕ) where
   none_greater q (e ∷ es) all =
       ap (λ o. cond (is_eq o) (Some e.1) (finds_at q es)) all.0 ∙ none_greater q es all.1
 
+  -- the first entry is found at its key
   itself : (e : K × V) (es : List (K × V)) → finds_at e.0 (e ∷ es) ≡ Some e.1
   itself e es = ap (λ o. cond (is_eq o) (Some e.1) (finds_at e.0 es))
       (tied_itself nat_list_cmp_total (bytes_of e.0))
@@ -118,6 +122,7 @@ module _ {K V : Type 0} (bytes_of : K → List ℕ) where
       let some = itself e es in
       let e = sym some ∙ same ∙ none in cc
 
+  -- if sorted entries with the same first key find the same, so do the entries after the first
   tails_by : (e f : K × V) (es fs : List (K × V)) (q : K) → bytes_of e.0 ≡ bytes_of f.0
       → AllByRecursion (λ l. keys_cmp bytes_of e.0 l ≡ Less) (keys_of es)
       → AllByRecursion (λ l. keys_cmp bytes_of f.0 l ≡ Less) (keys_of fs)
@@ -136,6 +141,7 @@ module _ {K V : Type 0} (bytes_of : K → List ℕ) where
       ap (bytes_cmp (bytes_of q)) (sym alike) ∙ is in
       let both = rw (is, there) at same in both
 
+  -- `same_entries`, by the order of the first keys
   same_by : (e f : K × V) (es fs : List (K × V))
       → AllByRecursion (λ l. keys_cmp bytes_of e.0 l ≡ Less) (keys_of es)
       → AllByRecursion (λ l. keys_cmp bytes_of f.0 l ≡ Less) (keys_of fs)
@@ -183,6 +189,7 @@ module _ {K V : Type 0} (bytes_of : K → List ℕ) where
       told [] = refl
       told (e ∷ es) = ap (λ l. (key_values (bytes_of e.0), e.1) ∷ l) (told es)
 
+  -- if entries have the same bytes and values, the keys of both are keys of paths
   pub own-bare : (es fs : List (K × V)) → map bare es ≡ map bare fs → AllOwn bytes_of fs
       → AllOwn bytes_of es
   own-bare [] fs same own = tt
@@ -206,6 +213,7 @@ last_row (e ∷ front) last (item ∷ items) same =
     let rest = last_row front last items (cons_others _ _ _ _ same) in
     (item ∷ rest.0, (rest.1.0, (ap (λ l. item ∷ l) rest.1.1.0, rest.1.1.1)))
 
+-- the last element is at the index of as many as are before it
 slice_get-at : {A : Type 0} (front : List A) (last : A) (n : ℕ) → n ≡ length front
     → slice_get (front ++ last ∷ []) n ≡ Some last
 slice_get-at [] last n is = ap (λ k. slice_get (last ∷ []) k) is
@@ -213,6 +221,7 @@ slice_get-at (x ∷ front) last n is =
     ap (λ k. slice_get (x ∷ (front ++ last ∷ [])) k) is
     ∙ slice_get-at front last (length front) refl
 
+-- the last element is at the index of the length less one
 pub slice_get-last : {A : Type 0} (front : List A) (last : A)
     → slice_get (front ++ last ∷ []) (length (front ++ last ∷ []) - 1) ≡ Some last
 slice_get-last front last =

@@ -23,6 +23,7 @@ use Rattle.path_tree.proofs.lemmas.rows.SortedLemmas.{bare, last_of, last_row, o
 use Rattle.path_tree.proofs.lemmas.rows.SortedLemmas.{same_entries, sorted-more}
 use Rattle.path_tree.proofs.lemmas.keys.UnderLemmas.{sorted-rows_by}
 
+-- the bytes of a key
 abbrev items_of : Key → List ℕ
 items_of k = k.items
 
@@ -32,18 +33,22 @@ pub record Listed {V : Type 0} (entries : List (Key × V)) (items : List (Path �
   pub sorted : IsStrictlySortedBy (keys_cmp items_of) (keys_of entries)
   pub rows : key_rows entries ≡ rows_in items
 
+-- at first nothing is listed
 pub listed_none : {V : Type 0} → Listed {V = V} [] []
 unfolding IsStrictlySortedBy
 listed_none = record { own = tt; sorted = tt; rows = refl }
 
+-- what the test shows
 less_is : (o : Ordering) → is_lt o ≡ true → o ≡ Less
 less_is Less is = refl
 less_is Equal is = absurd (let e = is in cc)
 less_is Greater is = absurd (let e = is in cc)
 
+-- the keys are those of paths, as a tree knows it
 own_all : {V : Type 0} (es : List (Key × V)) → AllOwn items_of es → Own items_of es
 own_all es own = All-from_recursion (λ k. is_own k.items ≡ true) (keys_of es) own
 
+-- also with one more key that is a path's
 own_more : {V : Type 0} (k : Key) (x : V) → is_own k.items ≡ true → (es : List (Key × V))
     → AllOwn items_of es → AllOwn items_of (es ++ (k, x) ∷ [])
 own_more k x own [] all = (own, tt)
@@ -55,11 +60,13 @@ pub own_put : {V : Type 0} (k : Key) (x : V) → is_own k.items ≡ true → (es
 own_put k x own es all =
     own_all (es ++ (k, x) ∷ []) (own_more k x own es (all_own items_of es all))
 
+-- the rows of the entries and one more
 pub rows_more : {V : Type 0} (k : Key) (x : V) (es : List (Key × V))
     → key_rows (es ++ (k, x) ∷ []) ≡ key_rows es ++ (key_values k.items, x) ∷ []
 rows_more k x [] = refl
 rows_more k x (e ∷ es) = ap (λ l. (key_values e.0.items, e.1) ∷ l) (rows_more k x es)
 
+-- the rows of the items and one more
 items_more : {V : Type 0} (path : Path) (x : V) (items : List (Path × V))
     → rows_in (items ++ (path, x) ∷ []) ≡ rows_in items ++ (values path.bytes.now, x) ∷ []
 items_more path x [] = refl
@@ -132,6 +139,7 @@ module _ {V : Type 0} (entries : List (Key × V)) (items : List (Path × V))
 
   -- the map that is made of the entries has these
   module _ (made : BTreeMap Key V) (is : IsFromIterResult (keys_cmp items_of) entries made) where
+    -- the map has the entries, by the bytes of their keys
     same : map (bare items_of) made.entries ≡ map (bare items_of) entries
     same =
         let cmp = keys_cmp items_of in
@@ -140,8 +148,10 @@ module _ {V : Type 0} (entries : List (Key × V)) (items : List (Path × V))
         is.0 q ∙ update_all_none laws (eq_by_cmp cmp) (λ x y. refl) entries q
         (IsDistinct-from_sorted cmp (keys_of entries) h.sorted))
 
+    -- so its keys are keys of paths
     pub made_own : Own items_of made.entries
     made_own = own_all made.entries (own-bare items_of made.entries entries same h.own)
 
+    -- and its rows are those of the items
     pub made_rows : key_rows made.entries ≡ rows_in items
     made_rows = rows-bare items_of made.entries entries same ∙ h.rows

@@ -1,4 +1,4 @@
--- What stands in sorted entries from a place on: the rest of them.
+-- The rest of sorted entries, and those that a filter keeps.
 use Rattle.std.proofs.Common.{◌≡◌, Bool, true, false, List, [], ◌∷◌, ◌++◌, ap, refl, sym}
 use Rattle.std.proofs.Common.{Ordering, Less, length, ◌≤◌, arith}
 use Rattle.std.specs.List.{AllByRecursion, filter}
@@ -14,7 +14,7 @@ module _ {K V : Type 0} (P : K → Type 0) where
   all_rest (e ∷ before) rest all = all_rest before rest all.1
 
 module _ {K V : Type 0} (p q : K → Bool) (same : (k : K) → p k ≡ q k) where
-  -- two tests that answer alike keep the same entries
+  -- two tests with the same results keep the same entries
   pub filter_alike : (es : List (K × V))
       → filter (λ e. p e.0) es ≡ filter (λ e. q e.0) es
   filter_alike [] = refl
@@ -29,6 +29,7 @@ module _ {K V : Type 0} (p : K → Bool) where
   filter_all [] all = refl
   filter_all (e ∷ es) all = rw all.0 (ap (λ l. e ∷ l) (filter_all es all.1))
 
+  -- a filter keeps no more entries than there are
   pub length-filter_le : (es : List (K × V)) → length (filter (λ e. p e.0) es) ≤ length es
   length-filter_le [] = omega arith
   length-filter_le (e ∷ es) = by_test (p e.0)
@@ -60,21 +61,42 @@ module _ {K V : Type 0} (cmp : K → K → Ordering) where
   sorted_rest [] rest sorted = sorted
   sorted_rest (e ∷ before) rest sorted = sorted_rest before rest sorted.1
 
-  -- the keys behind the first one are greater
+  -- the keys after the first one are greater
   pub sorted_first : (e : K × V) (es : List (K × V))
       → IsStrictlySortedBy cmp (keys_of (e ∷ es))
       → AllByRecursion (λ l. cmp e.0 l ≡ Less) (keys_of es)
   unfolding IsStrictlySortedBy
   sorted_first e es sorted = sorted.0
 
+  -- the entries after the first are sorted
   pub sorted_others : (e : K × V) (es : List (K × V))
       → IsStrictlySortedBy cmp (keys_of (e ∷ es)) → IsStrictlySortedBy cmp (keys_of es)
   unfolding IsStrictlySortedBy
   sorted_others e es sorted = sorted.1
 
+module _ {K V : Type 0} (keep : K × V → Bool) where
+  -- what holds of all keys holds of those that a filter keeps
+  all_filter : (P : K → Type 0) → (es : List (K × V)) → AllByRecursion P (keys_of es)
+      → AllByRecursion P (keys_of (filter keep es))
+  all_filter P [] all = tt
+  all_filter P (e ∷ es) all = by_test (keep e)
+      (λ is. rw is (all.0, all_filter P es all.1))
+      (λ fails. rw fails (all_filter P es all.1))
+
+  -- the entries that a filter keeps are sorted
+  pub sorted-filter : (cmp : K → K → Ordering) (es : List (K × V))
+      → IsStrictlySortedBy cmp (keys_of es) → IsStrictlySortedBy cmp (keys_of (filter keep es))
+  unfolding IsStrictlySortedBy
+  sorted-filter cmp [] sorted = tt
+  sorted-filter cmp (e ∷ es) sorted = by_test (keep e)
+      (λ is. rw is
+      (all_filter (λ l. cmp e.0 l ≡ Less) es sorted.0, sorted-filter cmp es sorted.1))
+      (λ fails. rw fails (sorted-filter cmp es sorted.1))
+
 -- a test that holds from some place on in the order
 module _ {K : Type 0} (cmp : K → K → Ordering) (p : K → Bool)
     (goes_on : (k l : K) → p k ≡ true → cmp k l ≡ Less → p l ≡ true) where
+  -- if it holds of a key, it holds of all that are greater
   all_behind : (k : K) (ls : List K) → p k ≡ true → AllByRecursion (λ l. cmp k l ≡ Less) ls
       → AllByRecursion (λ l. p l ≡ true) ls
   all_behind k [] is less = tt

@@ -1,4 +1,4 @@
--- A root, and names after it, written from the last byte to the first.
+-- A root and then names, written from the last byte to the first.
 use Rattle.std.proofs.Common.{◌≡◌, ℕ, ◌+◌, ◌<◌, ◌≤◌, List, [], ◌∷◌, ◌++◌, length, drop, take, refl}
 use Rattle.std.proofs.Common.{sym, ap, ◌∙◌, arith, append_assoc, append-nil, length-append}
 use Rattle.std.specs.Int.{from_bool}
@@ -8,43 +8,46 @@ use Rattle.path_runs.specs.Buffer.{buffer_after}
 use Rattle.path_runs.proofs.lemmas.lists.OverlayLemmas.{buffer_after-fits}
 use Rattle.std.proofs.Math.Seq.{drop-length}
 use Rattle.unix_bytes.proofs.lemmas.lists.ListLemmas.{by_test, drop-suc_cons}
-use Rattle.unix_path.specs.Joins.{is_open}
+use Rattle.unix_path.specs.Joins.{needs_no_separator}
 use Rattle.unix_path.specs.Parts.{Value, slash}
 use Rattle.path_runs.specs.Spelling.{slash_each, slashed_bytes}
-use Rattle.path_runs.proofs.lemmas.gaps.StretchLemmas.{slashed_bytes-cons}
+use Rattle.path_runs.proofs.lemmas.gaps.GapSpellingLemmas.{slashed_bytes-cons}
 use Rattle.path_runs.proofs.lemmas.joins.AssociativeLemmas.{separator}
 use Rattle.path_runs.proofs.lemmas.spelling.UnslashedLemmas.{IsUnslashedValue}
 use Rattle.path_within.specs.Backward.{Puts}
 use Rattle.path_within.specs.Below.{below_of}
-use Rattle.path_within.specs.Written.{opened, slashed_len}
+use Rattle.path_within.specs.WrittenBytes.{root_prefix, slashed_len}
 use Rattle.path_within.proofs.lemmas.below.BelowLemmas.{below_of-nil, below_of-some}
 use Rattle.path_within.proofs.lemmas.below.BoundLemmas.{length-slashed_bytes, slashed_len-cons}
 
--- a join has the root's bytes, and those of the names with a slash for each, unless the root is
--- open
+-- the length of a join: the root and the names, with a slash for each name, except for the first if
+-- the root needs no separator
 pub length-joined : (root : List ℕ) (vs : List Value) → AllByRecursion IsUnslashedValue vs
     → 0 < slashed_len vs
-    → length (below_of root vs) + from_bool (is_open root) ≡ length root + slashed_len vs
+    → length (below_of root vs) + from_bool (needs_no_separator root) ≡ length root + slashed_len vs
 length-joined root [] h some = absurd (omega (arith, some))
 length-joined root (v ∷ vs) h some = omega (
   arith,
   ap length (below_of-some root (v ∷ vs) h (omega arith)),
-  length-append (opened root) (slashed_bytes (v ∷ vs)),
+  length-append (root_prefix root) (slashed_bytes (v ∷ vs)),
   length-append root (separator root),
   length-slashed_bytes (v ∷ vs),
   slashed_len-cons v vs,
-  by_test (is_open root)
-      (λ e. let n : length (separator root) + from_bool (is_open root) ≡ 1 = rw e refl in n)
-      (λ e. let n : length (separator root) + from_bool (is_open root) ≡ 1 = rw e refl in n),
+  by_test (needs_no_separator root)
+      (λ e. let n : length (separator root) + from_bool (needs_no_separator root) ≡ 1 = rw e refl
+      in n)
+      (λ e. let n : length (separator root) + from_bool (needs_no_separator root) ≡ 1 = rw e refl
+      in n),
 )
 
--- without names it is the root
+-- without names, the length of a join is the root's length
 pub length-nameless : (root : List ℕ) (vs : List Value) → slashed_len vs ≡ 0
     → length (below_of root vs) ≡ length root
 length-nameless root [] e = ap length (below_of-nil root refl)
 length-nameless root (v ∷ vs) e = absurd (omega (arith, e, slashed_len-cons v vs))
 
--- so it has room for the names, and for the root
+-- a join is at most one byte shorter than its names with a slash for each, and no shorter than the
+-- root
 pub joined_fits : (root : List ℕ) (vs : List Value) → AllByRecursion IsUnslashedValue vs
     → (slashed_len vs ≤ 1 + length (below_of root vs)) × (length root ≤ length (below_of root vs))
 joined_fits root [] h =
@@ -52,12 +55,12 @@ joined_fits root [] h =
 joined_fits root (v ∷ vs) h =
     let some : 0 < slashed_len (v ∷ vs) = omega (arith, slashed_len-cons v vs) in
     let all = length-joined root (v ∷ vs) h some in
-    by_test (is_open root)
+    by_test (needs_no_separator root)
     (λ e. (omega (arith, all, ap from_bool e), omega (arith, all, some, ap from_bool e)))
     (λ e. (omega (arith, all, ap from_bool e), omega (arith, all, ap from_bool e)))
 
--- names that were written to the end of a buffer with just the room, and then the root to its
--- beginning
+-- if names are written to the end of a buffer of the join's length, and then the root to its
+-- beginning, the buffer has the join
 pub joined : {out new : List ℕ} {start : ℕ} (root : List ℕ) (vs : List Value)
     → AllByRecursion IsUnslashedValue vs → Puts vs (1 + length out) out start new
     → length new ≡ length out → length out ≡ length (below_of root vs)
@@ -78,7 +81,7 @@ joined {out} {new} {start} root (v ∷ vs) h puts same size =
     ∙ ap (λ s. slash ∷ s) (sym (slashed_bytes-cons v vs)) in
     let cut : drop (1 + length root) (slash ∷ new) ≡ drop (length root) new =
     drop-suc_cons (length root) slash new in
-    sym (below_of-some root (v ∷ vs) h (omega arith) ∙ by_test (is_open root)
+    sym (below_of-some root (v ∷ vs) h (omega arith) ∙ by_test (needs_no_separator root)
     (λ e.
     let at : start ≡ length root = omega (arith, puts.size, size, all, ap from_bool e) in
     let rest : drop (length root) new ≡ names =
@@ -91,12 +94,13 @@ joined {out} {new} {start} root (v ∷ vs) h puts same size =
     sym cut ∙ ap (λ n. drop n (slash ∷ new)) (sym at) ∙ bytes in
     rw e (append_assoc root (slash ∷ []) names ∙ ap (λ s. root ++ s) (sym rest))))
 
--- bytes that were written over others, where there is room for them, stand in front
+-- if `whole` is written over the beginning of bytes that are at least as long, the result begins
+-- with `whole`, whatever follows the result
 pub written_over : {whole new : List ℕ} {len n : ℕ} (old spare : List ℕ)
     → new ≡ buffer_after whole old → len ≡ length whole → length whole ≤ length old
     → len ≤ n → take len (take n (new ++ spare)) ≡ whole
-written_over {whole} {new} {len} {n} old spare e f room l =
+written_over {whole} {new} {len} {n} old spare e f space l =
     take-take len n (new ++ spare) l
-    ∙ ap (λ s. take len (s ++ spare)) (e ∙ buffer_after-fits whole old room)
+    ∙ ap (λ s. take len (s ++ spare)) (e ∙ buffer_after-fits whole old space)
     ∙ ap (take len) (append_assoc whole (drop (length whole) old) spare)
     ∙ take_at whole (drop (length whole) old ++ spare) len (sym f)

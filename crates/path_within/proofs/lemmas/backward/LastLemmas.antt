@@ -1,82 +1,88 @@
--- The last name that is left of values, taken from behind.
+-- The last name that remains of components, found from the end.
 use Rattle.std.proofs.Common.{◌≡◌, ℕ, suc, zero, ◌+◌, ◌≤◌, List, [], ◌∷◌, ◌++◌, length, refl, sym}
 use Rattle.std.proofs.Common.{ap, ap₂, ◌∙◌, arith, length-append}
 use Rattle.std.proofs.lemmas.Grind.{reverse_onto}
 use Rattle.unix_path.specs.Parts.{Value, RootDir, CurDir, ParentDir, Normal}
-use Rattle.path_within.specs.Backward.{ups_in, ups_left, HasUps, TakesName}
-use Rattle.path_within.specs.Resolved.{keep, kept_of, up_from}
-use Rattle.path_within.specs.Steps.{AreUps}
-use Rattle.path_within.proofs.lemmas.kept.KeepLemmas.{kept_of-append, up_behind}
-use Rattle.path_within.proofs.lemmas.below.NamesBelowLemmas.{names_kept, names_below-kept}
+use Rattle.path_within.specs.Backward.{parent_dir_count, remaining_parent_dirs, HasParentDirs}
+use Rattle.path_within.specs.Backward.{TakesName}
+use Rattle.path_within.specs.Resolved.{push_component, resolve_onto, push_parent_dir}
+use Rattle.path_within.specs.Steps.{AllParentDirs}
+use Rattle.path_within.proofs.lemmas.stack.StackLemmas.{resolve_onto-append, push_parent_dir_grows}
+use Rattle.path_within.proofs.lemmas.below.NamesBelowLemmas.{names_on_stack, names_below-stack}
 
--- what n more `..` leave of what is kept
-abbrev pub ups_on : ℕ → List Value → List Value
-ups_on zero ks = ks
-ups_on (suc n) ks = ups_on n (up_from ks)
+-- the stack after n more `..`
+abbrev pub push_parent_dirs : ℕ → List Value → List Value
+push_parent_dirs zero ks = ks
+push_parent_dirs (suc n) ks = push_parent_dirs n (push_parent_dir ks)
 
--- behind whatever is kept, the values vs, which are at least n fewer, and n more `..` leave what
--- all values leave
+-- vs and then n more `..` leave the same stack as `all`, whatever the stack before them; `all` is
+-- longer than vs by at least n
 pub record Leaves (n : ℕ) (vs all : List Value) : Type 0 where
-  pub kept : (ks : List Value) → ups_on n (kept_of ks vs) ≡ kept_of ks all
-  pub room : n + length vs ≤ length all
+  pub stack : (ks : List Value) → push_parent_dirs n (resolve_onto ks vs) ≡ resolve_onto ks all
+  pub space : n + length vs ≤ length all
 
--- what holds of the values ws that are left once v was taken from behind
+-- what is true of ws if v was taken from the end of `all`, ws remain before v, and n of the `..`
+-- taken before v have not dropped a name yet
 abbrev pub Taken : ℕ → Value → List Value → List Value → Type 0
-Taken n RootDir ws all = HasUps 0 all
+Taken n RootDir ws all = HasParentDirs 0 all
 Taken n CurDir ws all = Leaves n ws all
 Taken n ParentDir ws all = Leaves (suc n) ws all
 Taken zero (Normal name) ws all = TakesName name all ws
 Taken (suc n) (Normal name) ws all = Leaves n ws all
 
--- `..` leave the root as it is
-ups_on-root : (n : ℕ) → ups_on n (RootDir ∷ []) ≡ RootDir ∷ []
-ups_on-root zero = refl
-ups_on-root (suc n) = ups_on-root n
+-- `..` leaves the root unchanged
+push_parent_dirs-root : (n : ℕ) → push_parent_dirs n (RootDir ∷ []) ≡ RootDir ∷ []
+push_parent_dirs-root zero = refl
+push_parent_dirs-root (suc n) = push_parent_dirs-root n
 
--- and they are kept behind others
-ups_in-ups_on : (n : ℕ) (us : List Value) → AreUps us → ups_in (ups_on n us) ≡ n + ups_in us
-ups_in-ups_on zero us h = omega arith
-ups_in-ups_on (suc n) us h =
-    ap (λ us. ups_in (ups_on n us)) (up_behind us h)
-    ∙ (let more = ups_in-ups_on n (ParentDir ∷ us) h in omega arith)
+-- `..` are all put on top of a stack of only `..`
+parent_dir_count-push_parent_dirs : (n : ℕ) (us : List Value) → AllParentDirs us
+    → parent_dir_count (push_parent_dirs n us) ≡ n + parent_dir_count us
+parent_dir_count-push_parent_dirs zero us h = omega arith
+parent_dir_count-push_parent_dirs (suc n) us h =
+    ap (λ us. parent_dir_count (push_parent_dirs n us)) (push_parent_dir_grows us h)
+    ∙ (let more = parent_dir_count-push_parent_dirs n (ParentDir ∷ us) h in omega arith)
 
--- one more value is taken from behind
+-- one more component is taken from the end
 pub taken : {n : ℕ} {vs all : List Value} {v w : Value} (m : ℕ) (ws : List Value) → Leaves n vs all
     → n ≡ m → vs ≡ ws ++ v ∷ [] → v ≡ w → Taken m w ws all
-unfolding ups_left
+unfolding remaining_parent_dirs
 taken {n} {vs} {all} {v} {w} m ws h e f g = by m w
-    (λ ks. ap (λ v. ups_on m (keep (kept_of ks ws) v)) (sym g)
-    ∙ ap (ups_on m) (sym (kept_of-append ks ws (v ∷ [])))
-    ∙ ap₂ (λ m vs. ups_on m (kept_of ks vs)) (sym e) (sym f) ∙ h.kept ks)
-    (omega (arith, h.room, ap length f, length-append ws (v ∷ [])))
+    (λ ks. ap (λ v. push_parent_dirs m (push_component (resolve_onto ks ws) v)) (sym g)
+    ∙ ap (push_parent_dirs m) (sym (resolve_onto-append ks ws (v ∷ [])))
+    ∙ ap₂ (λ m vs. push_parent_dirs m (resolve_onto ks vs)) (sym e) (sym f) ∙ h.stack ks)
+    (omega (arith, h.space, ap length f, length-append ws (v ∷ [])))
   where
     by : (m : ℕ) (w : Value)
-        → ((ks : List Value) → ups_on m (keep (kept_of ks ws) w) ≡ kept_of ks all)
+        → ((ks : List Value) → push_parent_dirs m (push_component (resolve_onto ks ws) w)
+        ≡ resolve_onto ks all)
         → m + (length ws + 1) ≤ length all → Taken m w ws all
-    by m RootDir kept room = record {
-      names = names_below-kept all [] (sym (kept (RootDir ∷ [])) ∙ ups_on-root m);
-      ups = ap ups_in (sym (kept []) ∙ ups_on-root m);
+    by m RootDir stack space = record {
+      names = names_below-stack all [] (sym (stack (RootDir ∷ [])) ∙ push_parent_dirs-root m);
+      parent_dirs = ap parent_dir_count (sym (stack []) ∙ push_parent_dirs-root m);
     }
-    by m CurDir kept room = record { kept = kept; room = omega arith }
-    by m ParentDir kept room = record { kept = kept; room = omega arith }
-    by (suc m) (Normal name) kept room = record { kept = kept; room = omega arith }
-    by zero (Normal name) kept room =
-        let found = names_kept ws in
+    by m CurDir stack space = record { stack = stack; space = omega arith }
+    by m ParentDir stack space = record { stack = stack; space = omega arith }
+    by (suc m) (Normal name) stack space = record { stack = stack; space = omega arith }
+    by zero (Normal name) stack space =
+        let found = names_on_stack ws in
         record {
-          names = names_below-kept all (Normal name ∷ found.0)
-              (sym (kept (RootDir ∷ [])) ∙ ap (λ ks. Normal name ∷ ks) found.2)
+          names = names_below-stack all (Normal name ∷ found.0)
+              (sym (stack (RootDir ∷ [])) ∙ ap (λ ks. Normal name ∷ ks) found.2)
               ∙ reverse_onto found.0 (Normal name) []
-              ∙ ap (λ ns. ns ++ Normal name ∷ []) (sym (names_below-kept ws found.0 found.2));
-          ups = ap ups_in (sym (kept []));
+              ∙ ap (λ ns. ns ++ Normal name ∷ []) (sym (names_below-stack ws found.0 found.2));
+          parent_dirs = ap parent_dir_count (sym (stack []));
           fewer = omega arith;
         }
 
--- if no value is left, there is no name, and each `..` is left
-pub none_left : {n : ℕ} {vs all : List Value} → Leaves n vs all → vs ≡ [] → HasUps n all
-unfolding ups_left
-none_left {n} {vs} {all} h e =
-    let kept = λ (ks : List Value). ap (λ vs. ups_on n (kept_of ks vs)) (sym e) ∙ h.kept ks in
+-- if no component remains, there is no name, and all n `..` remain
+pub none_remain : {n : ℕ} {vs all : List Value} → Leaves n vs all → vs ≡ [] → HasParentDirs n all
+unfolding remaining_parent_dirs
+none_remain {n} {vs} {all} h e =
+    let stack = λ (ks : List Value). ap (λ vs. push_parent_dirs n (resolve_onto ks vs)) (sym e)
+    ∙ h.stack ks in
     record {
-      names = names_below-kept all [] (sym (kept (RootDir ∷ [])) ∙ ups_on-root n);
-      ups = ap ups_in (sym (kept [])) ∙ (let all = ups_in-ups_on n [] tt in omega arith);
+      names = names_below-stack all [] (sym (stack (RootDir ∷ [])) ∙ push_parent_dirs-root n);
+      parent_dirs = ap parent_dir_count (sym (stack []))
+          ∙ (let all = parent_dir_count-push_parent_dirs n [] tt in omega arith);
     }

@@ -1,4 +1,4 @@
--- Layouts of resolved paths: how they are spelled, and how long they are.
+-- Layouts of resolved paths: their bytes and their length.
 use Rattle.std.proofs.Common.{◌≡◌, ℕ, Bool, ◌+◌, ◌-◌, ◌*◌, ◌<◌, ◌≤◌, true, false, cond, List, []}
 use Rattle.std.proofs.Common.{◌∷◌, ◌++◌, length, take, drop, refl, sym, ap, ap₂, ◌∙◌, arith}
 use Rattle.std.proofs.Common.{append-nil, length-append, take-append-drop}
@@ -11,57 +11,59 @@ use Rattle.unix_path.specs.Parts.{Value, RootDir, ParentDir, Normal, is_rooted, 
 use Rattle.unix_path.specs.Parts.{values}
 use Rattle.path_runs.specs.Spelling.{slashed_bytes, spelling_of}
 use Rattle.path_runs.proofs.lemmas.spelling.SpellLemmas.{spelling_of-root}
-use Rattle.path_within.specs.Backward.{last_names, ups_left, Puts}
+use Rattle.path_within.specs.Backward.{last_names, remaining_parent_dirs, Puts}
 use Rattle.path_within.specs.Below.{names_below}
 use Rattle.path_within.specs.Layouts.{layout_names, layout_values, names_in}
 use Rattle.path_within.specs.declared.write.Layout.{Layout}
-use Rattle.path_within.specs.PlainPieces.{is_plain}
-use Rattle.path_within.specs.Resolved.{AreNames, resolved_of}
-use Rattle.path_within.proofs.lemmas.backward.FrontLemmas.{resolved_of-rooted, resolved_of-rootless}
-use Rattle.path_within.proofs.lemmas.plain.NormalLemmas.{resolved_values}
-use Rattle.path_within.specs.Written.{slashed_len, AreSpelled, StandsFor}
-use Rattle.path_within.proofs.lemmas.backward.FrontLemmas.{resolved_bytes_of-rootless, straight}
-use Rattle.path_within.proofs.lemmas.backward.FrontLemmas.{ups_left-rooted}
+use Rattle.path_within.specs.NamePieces.{is_names_only}
+use Rattle.path_within.specs.Resolved.{AllNames, resolved_of}
+use Rattle.path_within.proofs.lemmas.backward.LeadingLemmas.{resolved_of-rooted}
+use Rattle.path_within.proofs.lemmas.backward.LeadingLemmas.{resolved_of-rootless}
+use Rattle.path_within.proofs.lemmas.names_only.NormalLemmas.{resolved_values}
+use Rattle.path_within.specs.WrittenBytes.{slashed_len, AreVerbatim, RepresentsNames}
+use Rattle.path_within.proofs.lemmas.backward.LeadingLemmas.{resolved_bytes_of-rootless, straight}
+use Rattle.path_within.proofs.lemmas.backward.LeadingLemmas.{remaining_parent_dirs-rooted}
 use Rattle.path_within.proofs.lemmas.backward.PutLemmas.{puts_all, puts_then, slashed_len-append}
 use Rattle.path_within.proofs.lemmas.below.BoundLemmas.{length-resolved, length-slashed_bytes}
 use Rattle.path_within.proofs.lemmas.below.BoundLemmas.{slashed_len-cons, slashed_len-names}
-use Rattle.path_within.proofs.lemmas.below.NamesBelowLemmas.{AreNames-names_below}
+use Rattle.path_within.proofs.lemmas.below.NamesBelowLemmas.{AllNames-names_below}
 use Rattle.path_within.proofs.lemmas.below.NamesBelowLemmas.{names_below-names}
-use Rattle.path_within.proofs.lemmas.kept.BetweenLemmas.{names_drop}
-use Rattle.path_within.proofs.lemmas.kept.WayLemmas.{list_all-names, names_all}
-use Rattle.path_within.proofs.lemmas.kept.WayLemmas.{spelling_of-straight}
-use Rattle.path_within.proofs.lemmas.plain.PlainLemmas.{plain_has_names, resolved-plain}
+use Rattle.path_within.proofs.lemmas.stack.BetweenLemmas.{names_drop}
+use Rattle.path_within.proofs.lemmas.stack.RelativePathLemmas.{list_all-names, names_all}
+use Rattle.path_within.proofs.lemmas.stack.RelativePathLemmas.{spelling_of-straight}
+use Rattle.path_within.proofs.lemmas.names_only.NamesOnlyLemmas.{names_only_has_names}
+use Rattle.path_within.proofs.lemmas.names_only.NamesOnlyLemmas.{resolved-names_only}
 
--- `..` have three bytes each, with their slash
-pub slashed_len-ups : (n : ℕ) (vs : List Value)
+-- each `..` has three bytes, with its slash
+pub slashed_len-parent_dir_run : (n : ℕ) (vs : List Value)
     → slashed_len (replicate n ParentDir ++ vs) ≡ 3 * n + slashed_len vs
-slashed_len-ups n vs = omega (
+slashed_len-parent_dir_run n vs = omega (
   arith,
   slashed_len-append (replicate n ParentDir) vs,
   sum_by-replicate (λ v. 1 + length (value_bytes v)) n ParentDir,
 )
 
--- a value has a slash at least
+-- the number of components is at most their length with a slash for each
 pub length-le-slashed_len : (vs : List Value) → length vs ≤ slashed_len vs
 length-le-slashed_len [] = omega arith
 length-le-slashed_len (v ∷ vs) =
     omega (arith, slashed_len-cons v vs, length-le-slashed_len vs)
 
--- the rest of names are names
-pub names_rest : (n : ℕ) (vs : List Value) → AreNames vs → AreNames (drop n vs)
+-- a suffix of names is names
+pub names_rest : (n : ℕ) (vs : List Value) → AllNames vs → AllNames (drop n vs)
 names_rest n vs h = names_all (drop n vs) (names_drop n vs (list_all-names vs h))
 
-pub are_last_names : (n : ℕ) (vs : List Value) → AreNames (last_names n vs)
+pub are_last_names : (n : ℕ) (vs : List Value) → AllNames (last_names n vs)
 are_last_names n vs =
-    names_rest (length (names_below vs) - n) (names_below vs) (AreNames-names_below vs)
+    names_rest (length (names_below vs) - n) (names_below vs) (AllNames-names_below vs)
 
--- and so are names after names
-pub names_append : (vs ws : List Value) → AreNames vs → AreNames ws → AreNames (vs ++ ws)
+-- names after names are names
+pub names_append : (vs ws : List Value) → AllNames vs → AllNames ws → AllNames (vs ++ ws)
 names_append [] ws h k = k
 names_append (Normal name ∷ vs) ws h k = names_append vs ws h k
 names_append (v ∷ vs) ws h k = absurd h
 
--- of one more name, the last ones are those before it and that name
+-- after one more name, the last n names are the last n - 1 names before it, and then that name
 pub last_names-push : (n : ℕ) (vs ws : List Value) (name : List ℕ) → 0 < n
     → names_below vs ≡ names_below ws ++ Normal name ∷ []
     → last_names n vs ≡ last_names (n - 1) ws ++ Normal name ∷ []
@@ -75,17 +77,17 @@ last_names-push n vs ws name some e =
     )) e
     ∙ drop-append-le (length names - (n - 1)) names (Normal name ∷ []) (omega arith)
 
--- names that are spelled have a slash less than with one for each
-pub length-spelled : {s : List ℕ} {vs : List Value} → AreSpelled s vs
+-- names that are verbatim are one byte shorter than with a slash for each
+pub length-verbatim : {s : List ℕ} {vs : List Value} → AreVerbatim s vs
     → 1 + length s ≡ slashed_len vs
-length-spelled {s} {vs} h = by vs h.some h.is
+length-verbatim {s} {vs} h = by vs h.some h.is
   where
     by : (vs : List Value) → 0 < length vs → s ≡ slashed_bytes vs → 1 + length s ≡ slashed_len vs
     by [] some is = absurd (omega (arith, some))
     by (v ∷ vs) some is =
         omega (arith, ap length is, length-slashed_bytes (v ∷ vs), slashed_len-cons v vs)
 
--- as many names as there can be are all names
+-- if n is greater than the length of the path, the last n names are all its names
 pub all_names : (s : List ℕ) (n : ℕ) → 1 + length s ≤ n
     → last_names n (values s) ≡ names_below (values s)
 all_names s n l =
@@ -96,39 +98,44 @@ all_names s n l =
     ) in
     ap (λ k. drop k (names_below (values s))) none
 
--- `..` and then names are spelled with slashes between, and have so many bytes
-pub spelling_of-ups : (n : ℕ) (vs : List Value) → AreNames vs
+-- the canonical form of `..` and then names is their bytes, with slashes between them
+pub spelling_of-parent_dir_run : (n : ℕ) (vs : List Value) → AllNames vs
     → spelling_of (replicate n ParentDir ++ vs) ≡ slashed_bytes (replicate n ParentDir ++ vs)
-spelling_of-ups n vs h = spelling_of-straight (replicate n ParentDir ++ vs) (straight n vs h)
+spelling_of-parent_dir_run n vs h =
+    spelling_of-straight (replicate n ParentDir ++ vs) (straight n vs h)
 
-pub length-ups : (n : ℕ) (vs : List Value)
+-- with slashes between them, n times `..` and then names have 3 * n bytes and the length of the
+-- names with a slash for each, less one byte
+pub length-parent_dir_run : (n : ℕ) (vs : List Value)
     → length (slashed_bytes (replicate n ParentDir ++ vs)) ≡ (3 * n + slashed_len vs) - 1
-length-ups n vs = omega (
+length-parent_dir_run n vs = omega (
   arith,
   length-slashed_bytes (replicate n ParentDir ++ vs),
-  slashed_len-ups n vs,
+  slashed_len-parent_dir_run n vs,
 )
 
--- a path without a root and a slash have room for its names and its `..`
+-- the names and the `..` of a path without a root, with a slash for each, are no longer than the
+-- path and a slash
 pub length-rootless : (s : List ℕ) → is_rooted s ≡ false
-    → slashed_len (names_below (values s)) + 3 * ups_left (values s) ≤ 1 + length s
+    → slashed_len (names_below (values s)) + 3 * remaining_parent_dirs (values s) ≤ 1 + length s
 length-rootless s r = omega (
   arith,
   ap length (resolved_bytes_of-rootless s r),
-  length-ups (ups_left (values s)) (names_below (values s)),
+  length-parent_dir_run (remaining_parent_dirs (values s)) (names_below (values s)),
   length-resolved s,
 )
 
--- names, the names before them, and `..` are written over all of a buffer
+-- a buffer that is filled from its end, first with names, then with the names before them, and then
+-- with `..`, has the `..` and then all the names, with slashes between them
 pub puts_layout : {ws vs : List Value} {mid end : ℕ} {out made more new : List ℕ}
     → Puts ws (1 + length out) out mid made → Puts vs mid made end more
     → ((n : ℕ) → end ≡ 3 * n → Puts (replicate n ParentDir) end more 0 new)
     → length new ≡ length out → (n : ℕ)
     → length out ≡ length (slashed_bytes (replicate n ParentDir ++ (vs ++ ws)))
     → new ≡ slashed_bytes (replicate n ParentDir ++ (vs ++ ws))
-puts_layout {ws} {vs} {mid} {end} {out} {made} {more} {new} g h ups same n e =
+puts_layout {ws} {vs} {mid} {end} {out} {made} {more} {new} g h parent_dirs same n e =
     let size : length out ≡ (3 * n + (slashed_len vs + slashed_len ws)) - 1 =
-    omega (arith, e, length-ups n (vs ++ ws), slashed_len-append vs ws) in
+    omega (arith, e, length-parent_dir_run n (vs ++ ws), slashed_len-append vs ws) in
     by (replicate n ParentDir ++ (vs ++ ws)) refl size
   where
     by : (all : List Value) → replicate n ParentDir ++ (vs ++ ws) ≡ all
@@ -144,12 +151,12 @@ puts_layout {ws} {vs} {mid} {end} {out} {made} {more} {new} g h ups same n e =
           h.size,
           ap slashed_len f,
           slashed_len-cons x xs,
-          slashed_len-ups n (vs ++ ws),
+          slashed_len-parent_dir_run n (vs ++ ws),
           slashed_len-append vs ws,
         ) in
-        puts_all (puts_then (puts_then g h) (ups n at))
+        puts_all (puts_then (puts_then g h) (parent_dirs n at))
 
--- the last names have no more bytes than the path and a slash
+-- the last names, with a slash for each, are no longer than the path and a slash
 pub last_names_fit : (n : ℕ) (s : List ℕ) → slashed_len (last_names n (values s)) ≤ 1 + length s
 last_names_fit n s =
     let names = names_below (values s) in
@@ -163,25 +170,28 @@ last_names_fit n s =
 
 -- ---- layouts
 
-pub are_layout_names : (l : Layout) → AreNames (layout_names l)
+pub are_layout_names : (l : Layout) → AllNames (layout_names l)
 are_layout_names l = names_append (names_in l.names) (names_in l.more)
     (are_last_names l.names.count (values l.names.path.bytes.now))
     (are_last_names l.more.count (values l.more.path.bytes.now))
 
--- with a root, this is a slash, and the names follow with slashes between
+-- with a root, the canonical form of a layout is a slash and then the names, with slashes between
+-- them
 pub layout-rooted : (l : Layout) → l.has_root ≡ true
     → spelling_of (layout_values l) ≡ slash ∷ slashed_bytes (layout_names l)
 layout-rooted l r =
     ap (λ b. spelling_of (cond b (RootDir ∷ layout_names l)
-    (replicate l.ups ParentDir ++ layout_names l))) r ∙ spelling_of-root (layout_names l)
+    (replicate l.parent_dirs ParentDir ++ layout_names l))) r ∙ spelling_of-root (layout_names l)
 
--- without one, `..` and names have slashes between
+-- without a root, the canonical form of a layout is `..` and then the names, with slashes between
+-- them
 pub layout-rootless : (l : Layout) → l.has_root ≡ false
-    → spelling_of (layout_values l) ≡ slashed_bytes (replicate l.ups ParentDir ++ layout_names l)
+    → spelling_of (layout_values l)
+    ≡ slashed_bytes (replicate l.parent_dirs ParentDir ++ layout_names l)
 layout-rootless l r =
     ap (λ b. spelling_of (cond b (RootDir ∷ layout_names l)
-    (replicate l.ups ParentDir ++ layout_names l))) r
-    ∙ spelling_of-ups l.ups (layout_names l) (are_layout_names l)
+    (replicate l.parent_dirs ParentDir ++ layout_names l))) r
+    ∙ spelling_of-parent_dir_run l.parent_dirs (layout_names l) (are_layout_names l)
 
 pub layout_names-len : (l : Layout) → slashed_len (layout_names l) ≡ l.names.len + l.more.len
 layout_names-len l = omega (
@@ -191,7 +201,7 @@ layout_names-len l = omega (
   l.more.len_is,
 )
 
--- so many bytes they have
+-- the length of a layout's canonical form, with a root and, in the next lemma, without one
 pub length-rooted_layout : (l : Layout) → l.has_root ≡ true
     → length (spelling_of (layout_values l)) ≡ 1 + ((l.names.len + l.more.len) - 1)
 length-rooted_layout l r = omega (
@@ -202,48 +212,51 @@ length-rooted_layout l r = omega (
 )
 
 pub length-rootless_layout : (l : Layout) → l.has_root ≡ false
-    → length (spelling_of (layout_values l)) ≡ (3 * l.ups + (l.names.len + l.more.len)) - 1
+    → length (spelling_of (layout_values l)) ≡ (3 * l.parent_dirs + (l.names.len + l.more.len)) - 1
 length-rootless_layout l r = omega (
   arith,
   ap length (layout-rootless l r),
-  length-ups l.ups (layout_names l),
+  length-parent_dir_run l.parent_dirs (layout_names l),
   layout_names-len l,
 )
 
--- the values of a layout
+-- the components of a layout: the root or n times `..`, and then vs
 abbrev pub laid_out : Bool → ℕ → List Value → List Value
 laid_out r n vs = cond r (RootDir ∷ vs) (replicate n ParentDir ++ vs)
 
--- if what stands for a path is plain, no `..` is left of the path
-pub no_ups : {t s : List ℕ} → StandsFor t s
+-- no `..` remains of s if a path t of names only represents the names of s and, where s has no
+-- root, resolves to the same components as s
+pub no_parent_dirs : {t s : List ℕ} → RepresentsNames t s
     → (is_rooted s ≡ false → resolved_of (values t) ≡ resolved_of (values s))
-    → is_plain t ≡ true → 0 ≡ ups_left (values s)
-no_ups {t} {s} stands same h = by_test (is_rooted s)
-    (λ r. sym (ups_left-rooted s r))
-    (λ r. let n = ups_left (values s) in omega (
+    → is_names_only t ≡ true → 0 ≡ remaining_parent_dirs (values s)
+no_parent_dirs {t} {s} represents_names same h = by_test (is_rooted s)
+    (λ r. sym (remaining_parent_dirs-rooted s r))
+    (λ r. let n = remaining_parent_dirs (values s) in omega (
       arith,
       ap length (resolved_of-rootless s r),
       ap length (same r),
-      ap length (resolved_values t (resolved-plain t h)),
-      ap length (names_below-names (values t) (plain_has_names t h stands.rootless).names),
-      ap length stands.names,
+      ap length (resolved_values t (resolved-names_only t h)),
+      ap length (names_below-names (values t)
+          (names_only_has_names t h represents_names.rootless).names),
+      ap length represents_names.names,
       length-append (replicate n ParentDir) (names_below (values s)),
       length-replicate n ParentDir,
     ))
 
--- the layout of a path
+-- a layout with the root, the `..` and the names of a path has the path's resolved components
 pub laid_out-resolved : {r : Bool} {n : ℕ} {vs : List Value} (s : List ℕ) → r ≡ is_rooted s
-    → n ≡ ups_left (values s) → vs ≡ names_below (values s)
+    → n ≡ remaining_parent_dirs (values s) → vs ≡ names_below (values s)
     → laid_out r n vs ≡ resolved_of (values s)
-laid_out-resolved {r} {n} {vs} s root ups names =
+laid_out-resolved {r} {n} {vs} s root parent_dirs names =
     ap (λ r. laid_out r n vs) root ∙ ap (laid_out (is_rooted s) n) names
     ∙ by_test (is_rooted s)
     (λ r. ap (λ b. laid_out b n (names_below (values s))) r ∙ sym (resolved_of-rooted s r))
     (λ r. ap (λ b. laid_out b n (names_below (values s))) r
-    ∙ ap (λ n. replicate n ParentDir ++ names_below (values s)) ups
+    ∙ ap (λ n. replicate n ParentDir ++ names_below (values s)) parent_dirs
     ∙ sym (resolved_of-rootless s r))
 
--- a slash before bytes that were written to all of a buffer but its first byte
+-- writing `new` over all bytes of a buffer after the first, and a slash over the first, makes the
+-- buffer a slash and then `new`
 pub slash_first : (out new : List ℕ) → 0 < length out → length new ≡ length out - 1
     → set (put_mid 1 (length out - 1) out new) 0 slash ≡ slash ∷ new
 slash_first [] new some e = absurd (omega (arith, some))

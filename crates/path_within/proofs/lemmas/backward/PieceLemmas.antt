@@ -14,44 +14,48 @@ use Rattle.unix_path.specs.Parts.{value_of_piece, values}
 use Rattle.unix_path.proofs.lemmas.parts.CutLemmas.{slice_split-append}
 use Rattle.path_runs.proofs.lemmas.joins.LeadLemmas.{drop_dot-values, roots_same}
 use Rattle.path_runs.proofs.lemmas.spelling.PieceValueLemmas.{inner_values-pieces, names_of}
-use Rattle.path_within.specs.Backward.{piece_value, piece_values, ups_in, ups_left}
+use Rattle.path_within.specs.Backward.{piece_value, piece_values, parent_dir_count}
+use Rattle.path_within.specs.Backward.{remaining_parent_dirs}
 use Rattle.path_within.specs.Below.{names_below}
-use Rattle.path_within.specs.Resolved.{keep, kept_of, resolved_of}
-use Rattle.path_within.proofs.lemmas.below.NamesBelowLemmas.{names_below-inner, names_below-kept}
-use Rattle.path_within.proofs.lemmas.below.NamesBelowLemmas.{names_kept}
-use Rattle.path_within.proofs.lemmas.kept.ResolveLemmas.{kept_of-drop_dot}
+use Rattle.path_within.specs.Resolved.{push_component, resolve_onto, resolved_of}
+use Rattle.path_within.proofs.lemmas.below.NamesBelowLemmas.{names_below-inner, names_below-stack}
+use Rattle.path_within.proofs.lemmas.below.NamesBelowLemmas.{names_on_stack}
+use Rattle.path_within.proofs.lemmas.stack.ResolveLemmas.{resolve_onto-drop_dot}
 use Rattle.unix_path.specs.Scan.{is_filler}
-use Rattle.unix_path.proofs.lemmas.filler.FillerLemmas.{values-busy}
-use Rattle.path_within.specs.Written.{StandsFor}
+use Rattle.unix_path.proofs.lemmas.filler.FillerLemmas.{values-not_filler}
+use Rattle.path_within.specs.WrittenBytes.{RepresentsNames}
 
--- where they are kept, filler adds nothing
-kept_of-pieces : (ks : List Value) (ps : List (List ℕ))
-    → kept_of ks (map piece_value ps) ≡ kept_of ks (names_of ps)
-kept_of-pieces ks [] = refl
-kept_of-pieces ks (p ∷ ps) = by_test (counts p)
-    (λ e. rw e (kept_of-pieces (keep ks (value_of_piece p)) ps))
-    (λ e. rw e (kept_of-pieces ks ps))
+-- filler adds nothing to the stack: resolving all pieces leaves the same stack as resolving the
+-- components of these pieces
+resolve_onto-pieces : (ks : List Value) (ps : List (List ℕ))
+    → resolve_onto ks (map piece_value ps) ≡ resolve_onto ks (names_of ps)
+resolve_onto-pieces ks [] = refl
+resolve_onto-pieces ks (p ∷ ps) = by_test (counts p)
+    (λ e. rw e (resolve_onto-pieces (push_component ks (value_of_piece p)) ps))
+    (λ e. rw e (resolve_onto-pieces ks ps))
 
-kept_of-inner : (ks : List Value) (s : List ℕ)
-    → kept_of ks (piece_values s) ≡ kept_of ks (inner_values s)
-kept_of-inner ks s =
-    kept_of-pieces ks (slice_split is_slash s) ∙ ap (kept_of ks) (sym (inner_values-pieces s))
+resolve_onto-inner : (ks : List Value) (s : List ℕ)
+    → resolve_onto ks (piece_values s) ≡ resolve_onto ks (inner_values s)
+resolve_onto-inner ks s =
+    resolve_onto-pieces ks (slice_split is_slash s)
+    ∙ ap (resolve_onto ks) (sym (inner_values-pieces s))
 
 -- the pieces have the path's names
 pub names_below-pieces : (s : List ℕ) → names_below (piece_values s) ≡ names_below (values s)
 names_below-pieces s =
-    let found = names_kept (inner_values s) in
-    names_below-kept (piece_values s) found.0 (kept_of-inner (RootDir ∷ []) s ∙ found.2)
-    ∙ sym (names_below-kept (inner_values s) found.0 found.2) ∙ names_below-inner s
+    let found = names_on_stack (inner_values s) in
+    names_below-stack (piece_values s) found.0 (resolve_onto-inner (RootDir ∷ []) s ∙ found.2)
+    ∙ sym (names_below-stack (inner_values s) found.0 found.2) ∙ names_below-inner s
 
--- and, without a root, its `..`
-pub ups_left-pieces : (s : List ℕ) → is_rooted s ≡ false
-    → ups_left (piece_values s) ≡ ups_left (values s)
-unfolding ups_left
-ups_left-pieces s r = ap ups_in (kept_of-inner [] s ∙ ap (kept_of []) (sym (drop_dot-values s r))
-    ∙ kept_of-drop_dot [] (values s))
+-- if the path has no root, as many `..` remain of the pieces as of the path
+pub remaining_parent_dirs-pieces : (s : List ℕ) → is_rooted s ≡ false
+    → remaining_parent_dirs (piece_values s) ≡ remaining_parent_dirs (values s)
+unfolding remaining_parent_dirs
+remaining_parent_dirs-pieces s r =
+    ap parent_dir_count (resolve_onto-inner [] s ∙ ap (resolve_onto []) (sym (drop_dot-values s r))
+    ∙ resolve_onto-drop_dot [] (values s))
 
--- there is at most one more than bytes
+-- there is at most one piece more than bytes
 pub few_pieces : (s : List ℕ) → length (piece_values s) ≤ length s + 1
 few_pieces s = omega (
   arith,
@@ -71,7 +75,7 @@ one_piece (x ∷ p) e = by_test (is_slash x)
     rw no (omega arith) in
     slice_split-cons_no is_slash x p no ∙ ap (onto_first x) (one_piece p (omega (arith, rest, e))))
 
--- up to its last slash a string has the pieces before the last one
+-- up to its last slash, a string has all pieces except the last
 pub last_piece : {u p : List ℕ} (s : List ℕ) (n : ℕ) → 0 < n → n ≤ length s
     → get_or s (n - 1) 0 ≡ slash
     → u ≡ take (n - 1) s → p ≡ drop n s → position_or_len is_slash p ≡ length p
@@ -89,14 +93,15 @@ last_piece {u} {p} s n some in_range here e f none =
     ∙ map-append piece_value (slice_split is_slash u) (slice_split is_slash p)
     ∙ ap (λ ps. piece_values u ++ map piece_value ps) (one_piece p none)
 
--- and without a slash it is one
+-- a string without a slash is one piece
 pub only_piece : {s p : List ℕ} → p ≡ s → position_or_len is_slash p ≡ length p
     → piece_values s ≡ piece_value p ∷ []
 only_piece {s} {p} e none =
     ap (λ s. map piece_value (slice_split is_slash s)) (sym e)
     ∙ ap (map piece_value) (one_piece p none)
 
--- the last piece v is taken, and the pieces before its slash are left
+-- the pieces of s are the pieces before its last slash, if it has a slash, and then the last piece,
+-- v, which begins at index n
 pub taken_piece : (s : List ℕ) (n : ℕ) {v : Value} → n ≤ length s
     → (0 < n → get_or s (n - 1) 0 ≡ slash)
     → position_or_len is_slash (drop n s) ≡ length (drop n s) → v ≡ piece_value (drop n s)
@@ -108,28 +113,28 @@ taken_piece s n {v} in_range here none e = by_test (eqb n 0)
     rw z (last_piece s n some in_range (here some) refl refl none
     ∙ ap (λ v. piece_values (take (n - 1) s) ++ v ∷ []) (sym e)))
 
--- ---- what stands for a path
+-- ---- paths without leading filler
 
 -- a path that doesn't begin with filler has no root
-busy-rootless : (s : List ℕ) → is_filler s 0 ≡ false → is_rooted s ≡ false
-busy-rootless [] busy = refl
-busy-rootless (x ∷ s) busy = grind (arith, busy)
+not_filler-rootless : (s : List ℕ) → is_filler s 0 ≡ false → is_rooted s ≡ false
+not_filler-rootless [] not_filler = refl
+not_filler-rootless (x ∷ s) not_filler = grind (arith, not_filler)
 
--- what follows the filler in front stands for the path
-pub past_filler-stands : (u t s : List ℕ) → values u ≡ values s
-    → inner_values u ≡ inner_values t → is_filler t 0 ≡ false → StandsFor t s
-past_filler-stands u t s same inner busy = record {
-  rootless = busy-rootless t busy;
-  names = ap names_below (values-busy t busy ∙ sym inner) ∙ names_below-inner u
+-- the path without leading filler represents the path's names
+pub after_filler-represents_names : (u t s : List ℕ) → values u ≡ values s
+    → inner_values u ≡ inner_values t → is_filler t 0 ≡ false → RepresentsNames t s
+after_filler-represents_names u t s same inner not_filler = record {
+  rootless = not_filler-rootless t not_filler;
+  names = ap names_below (values-not_filler t not_filler ∙ sym inner) ∙ names_below-inner u
       ∙ ap names_below same;
 }
 
--- and resolves to the same, if the path has no root
-pub past_filler-resolved : (u t s : List ℕ) → values u ≡ values s
+-- if the path has no root, the path without leading filler resolves to the same components
+pub after_filler-resolved : (u t s : List ℕ) → values u ≡ values s
     → inner_values u ≡ inner_values t → is_filler t 0 ≡ false → is_rooted s ≡ false
     → resolved_of (values t) ≡ resolved_of (values s)
 unfolding resolved_of
-past_filler-resolved u t s same inner busy r =
-    ap resolved_of (values-busy t busy ∙ sym inner)
-    ∙ ap reverse (ap (kept_of []) (sym (drop_dot-values u (roots_same u s same ∙ r)))
-    ∙ kept_of-drop_dot [] (values u)) ∙ ap resolved_of same
+after_filler-resolved u t s same inner not_filler r =
+    ap resolved_of (values-not_filler t not_filler ∙ sym inner)
+    ∙ ap reverse (ap (resolve_onto []) (sym (drop_dot-values u (roots_same u s same ∙ r)))
+    ∙ resolve_onto-drop_dot [] (values u)) ∙ ap resolved_of same

@@ -1,4 +1,4 @@
--- Values that are written from the last to the first.
+-- Components that are written from the last to the first.
 use Rattle.std.proofs.Common.{◌≡◌, ℕ, ◌+◌, ◌<◌, List, [], ◌∷◌, ◌++◌, length, drop, refl, sym, ap}
 use Rattle.std.proofs.Common.{◌∙◌, arith, append_assoc, append-nil}
 use Rattle.std.proofs.Math.Seq.{drop-length}
@@ -6,16 +6,16 @@ use Rattle.std.proofs.lemmas.Grind.{flat_map-append}
 use Rattle.std.proofs.lemmas.List.Sums.{sum_by-append}
 use Rattle.unix_path.specs.Parts.{Value, Normal, slash, value_bytes}
 use Rattle.path_runs.specs.Spelling.{slash_each, slashed_bytes}
-use Rattle.path_runs.proofs.lemmas.gaps.StretchLemmas.{slashed_bytes-cons}
+use Rattle.path_runs.proofs.lemmas.gaps.GapSpellingLemmas.{slashed_bytes-cons}
 use Rattle.path_within.specs.Backward.{Puts}
-use Rattle.path_within.specs.Written.{slashed_len, AreSpelled}
+use Rattle.path_within.specs.WrittenBytes.{slashed_len, AreVerbatim}
 use Rattle.path_within.proofs.lemmas.below.BoundLemmas.{length-slashed_bytes, slashed_len-cons}
 
 pub slashed_len-append : (vs ws : List Value)
     → slashed_len (vs ++ ws) ≡ slashed_len vs + slashed_len ws
 slashed_len-append vs ws = sum_by-append (λ v. 1 + length (value_bytes v)) vs ws
 
--- a name that is last has its bytes and a slash
+-- one more name at the end adds its bytes and a slash to the length
 pub slashed_len-push : (ws : List Value) (name : List ℕ)
     → slashed_len (ws ++ Normal name ∷ []) ≡ slashed_len ws + (1 + length name)
 slashed_len-push ws name = omega (arith, slashed_len-append ws (Normal name ∷ []))
@@ -23,19 +23,19 @@ slashed_len-push ws name = omega (arith, slashed_len-append ws (Normal name ∷ 
 slash_each-append : (vs ws : List Value) → slash_each (vs ++ ws) ≡ slash_each vs ++ slash_each ws
 slash_each-append vs ws = flat_map-append (λ v. slash ∷ value_bytes v) vs ws
 
--- values that have no bytes aren't there
+-- if the length of components, with a slash for each, is 0, there are no components
 pub no_names : (vs : List Value) → slashed_len vs ≡ 0 → vs ≡ []
 no_names [] e = refl
 no_names (v ∷ vs) e = absurd (omega (arith, e, slashed_len-cons v vs))
 
--- before anything is written
+-- writing no components changes nothing
 pub puts_none : {vs : List Value} {end : ℕ} {out : List ℕ} → vs ≡ [] → Puts vs end out end out
 puts_none {vs} {end} {out} e = record {
   size = omega (arith, ap slashed_len e);
   bytes = λ ws h. h ∙ ap (λ vs. slash_each (vs ++ ws)) (sym e);
 }
 
--- first the values ws are written, and then those before them
+-- first the components ws are written, and then those before them
 pub puts_then : {vs ws : List Value} {end mid start : ℕ} {out made new : List ℕ}
     → Puts ws end out mid made → Puts vs mid made start new → Puts (vs ++ ws) end out start new
 puts_then {vs} {ws} g h = record {
@@ -44,12 +44,12 @@ puts_then {vs} {ws} g h = record {
       ∙ ap slash_each (sym (append_assoc vs ws us));
 }
 
--- names that are spelled are written at once
-pub puts_spelled : {end start : ℕ} {out new bytes : List ℕ} {vs : List Value}
-    → AreSpelled bytes vs → start + (1 + length bytes) ≡ end
+-- names that are verbatim are written in one piece
+pub puts_verbatim : {end start : ℕ} {out new bytes : List ℕ} {vs : List Value}
+    → AreVerbatim bytes vs → start + (1 + length bytes) ≡ end
     → drop start (slash ∷ new) ≡ slash ∷ bytes ++ drop end (slash ∷ out)
     → Puts vs end out start new
-puts_spelled {end} {start} {out} {new} {bytes} {vs} h e f = by vs h.some h.is
+puts_verbatim {end} {start} {out} {new} {bytes} {vs} h e f = by vs h.some h.is
   where
     by : (vs : List Value) → 0 < length vs → bytes ≡ slashed_bytes vs → Puts vs end out start new
     by [] some is = absurd (omega (arith, some))
@@ -68,14 +68,14 @@ puts_spelled {end} {start} {out} {new} {bytes} {vs} h e f = by vs h.some h.is
               ∙ ap (λ s. s ++ slash_each ws) each ∙ sym (slash_each-append (v ∷ vs) ws);
         }
 
--- so is one value
+-- a single component and its slash are written
 pub puts_value : {end start : ℕ} {out new : List ℕ} (v : Value)
     → start + (1 + length (value_bytes v)) ≡ end
     → drop start (slash ∷ new) ≡ slash ∷ value_bytes v ++ drop end (slash ∷ out)
     → Puts (v ∷ []) end out start new
-puts_value v e f = puts_spelled (record { some = omega arith; is = refl }) e f
+puts_value v e f = puts_verbatim (record { some = omega arith; is = refl }) e f
 
--- written over all of a buffer, the values have slashes between them
+-- if components fill a buffer, its bytes are the components with slashes between them
 pub puts_all : {vs : List Value} {out new : List ℕ} → Puts vs (1 + length out) out 0 new
     → new ≡ slashed_bytes vs
 puts_all {vs} {out} {new} h = by vs h.size (h.bytes [] none)

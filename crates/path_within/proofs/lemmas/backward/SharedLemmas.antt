@@ -1,4 +1,4 @@
--- The values that two lists begin with, found from the last to the first.
+-- The components that two lists both begin with, found from the last to the first.
 use Rattle.std.proofs.Common.{◌≡◌, ℕ, suc, ◌+◌, ◌-◌, min, Bool, cond, true, false, List, [], ◌∷◌}
 use Rattle.std.proofs.Common.{◌++◌, length, drop, refl, sym, ap, ap₂, ◌∙◌, arith, append_assoc}
 use Rattle.std.proofs.Common.{length-append, eqb, eqb-true, ltb, ltb-true, ltb-false, map, subst}
@@ -11,38 +11,42 @@ use Rattle.std.proofs.lemmas.List.{get_or_default, get_or_past, map-append}
 use Rattle.unix_path.specs.CommonDir.{common_dir_of, inner_values}
 use Rattle.unix_path.specs.Parts.{Part, inner_parts, Value, Normal, value_bytes, values}
 use Rattle.unix_path.specs.Scan.{is_filler}
-use Rattle.unix_path.specs.Steps.{SharesFirst}
-use Rattle.unix_path.proofs.lemmas.filler.FillerLemmas.{is_filler-drop, values-busy}
+use Rattle.unix_path.specs.Steps.{SharesPrefix}
+use Rattle.unix_path.proofs.lemmas.filler.FillerLemmas.{is_filler-drop, values-not_filler}
 use Rattle.unix_path.proofs.lemmas.parts.PlaceLemmas.{values-inner_parts}
-use Rattle.path_within.specs.Backward.{ShareFirst, TakesLast}
-use Rattle.path_within.specs.PlainPieces.{begins_plain}
+use Rattle.path_within.specs.Backward.{SharePrefix, TakesLast}
+use Rattle.path_within.specs.NamePieces.{name_starts_at}
 use Rattle.path_within.specs.Steps.{ReadsAsItself}
-use Rattle.path_within.proofs.lemmas.kept.PathOfLemmas.{ReadsAsItself-values}
+use Rattle.path_within.proofs.lemmas.stack.PathOfLemmas.{ReadsAsItself-values}
 use Rattle.std.proofs.lemmas.List.Sums.{common_prefix_len-le}
 use Rattle.unix_path.specs.Order.{same_value}
-use Rattle.path_within.specs.Written.{slashed_len}
+use Rattle.path_within.specs.WrittenBytes.{slashed_len}
 use Rattle.path_within.proofs.lemmas.below.BoundLemmas.{slashed_len-cons}
-use Rattle.path_within.proofs.lemmas.kept.BetweenLemmas.{shared_count, shared_count-behind}
+use Rattle.path_within.proofs.lemmas.stack.BetweenLemmas.{shared_count, shared_count-behind}
 use Rattle.std.proofs.Math.Seq.{drop-append-add}
 
--- of two lists the first values are left, equally many, and so many values behind them are shared
--- that those in front end the shared ones; `behind` and `len` count the bytes of what was taken
--- from the second, and of what of it isn't shared
-pub record Shares (all_first all_second first second : List Value) (place shared behind len : ℕ)
+-- some components have been taken from the end of each of two lists, so that `remaining_count`
+-- remain of each; if the remaining components of both lists are equal, the lists begin with
+-- `shared` equal components, and `len` is the length of the components that follow these in the
+-- second list; `behind` is the length of the components taken from the second list; both lengths
+-- have a slash for each component
+pub record Shares (all_first all_second first second : List Value)
+    (remaining_count shared behind len : ℕ)
     : Type 0 where
   pub first_taken : List Value
   pub second_taken : List Value
   pub first_is : all_first ≡ first ++ first_taken
   pub second_is : all_second ≡ second ++ second_taken
-  pub first_size : length first ≡ place
-  pub second_size : length second ≡ place
-  pub shared_is : shared ≡ place + shared_count first_taken second_taken
+  pub first_size : length first ≡ remaining_count
+  pub second_size : length second ≡ remaining_count
+  pub shared_is : shared ≡ remaining_count + shared_count first_taken second_taken
   pub behind_is : behind ≡ slashed_len second_taken
   pub len_is : len ≡ slashed_len (drop (shared_count first_taken second_taken) second_taken)
 
--- the last that is left is taken
-pub takes_last : {all left vs : List Value} {count len : ℕ} (v : Value)
-    → TakesLast all left count len → left ≡ vs ++ v ∷ []
+-- after the last remaining component is taken too, one more component is taken, and the length
+-- grows by that component and a slash
+pub takes_last : {all remaining vs : List Value} {count len : ℕ} (v : Value)
+    → TakesLast all remaining count len → remaining ≡ vs ++ v ∷ []
     → TakesLast all vs (count + 1) (len + (1 + length (value_bytes v)))
 takes_last {vs = vs} v h e = record {
   taken = v ∷ h.taken;
@@ -51,7 +55,8 @@ takes_last {vs = vs} v h e = record {
   len_is = omega (arith, h.len_is, slashed_len-cons v h.taken);
 }
 
--- before any is compared, those behind which the other list has none are taken
+-- `Shares` before any components are compared, after the extra last components of the longer list
+-- are taken
 pub shares_first : {first second : List Value} {m n j k rest behind : ℕ} (v w : List Value)
     → m ≡ length v → n ≡ length w → TakesLast v first j rest → TakesLast w second k behind
     → j ≡ m - n → k ≡ n - m → Shares v w first second (min m n) (min m n) behind behind
@@ -75,28 +80,31 @@ shares_first {first} {second} v w e f g h a b =
       len_is = h.len_is ∙ ap (λ k. slashed_len (drop k h.taken)) (sym none);
     }
 
--- the last of both are taken: if they differ, only those before them may be shared
+-- `Shares` after the last remaining component of each list is taken: if these two differ, only
+-- components before them can be shared
 pub shares_taken : {all_first all_second first second vs ws : List Value}
-    {place shared behind len : ℕ} (b : Bool) (v w : Value)
-    → Shares all_first all_second first second place shared behind len
+    {remaining_count shared behind len : ℕ} (b : Bool) (v w : Value)
+    → Shares all_first all_second first second remaining_count shared behind len
     → first ≡ vs ++ v ∷ [] → second ≡ ws ++ w ∷ [] → same_value v w ≡ b
     → (let now = behind + (1 + length (value_bytes w)) in Shares all_first all_second vs ws
-    (place - 1) (cond b shared (place - 1)) now (cond b len now))
-shares_taken {vs = vs} {ws = ws} {place} {shared} {behind} {len} b v w h e f same = record {
-  first_taken = v ∷ h.first_taken;
-  second_taken = w ∷ h.second_taken;
-  first_is = h.first_is ∙ ap (λ s. s ++ h.first_taken) e ∙ append_assoc vs (v ∷ []) h.first_taken;
-  second_is = h.second_is ∙ ap (λ s. s ++ h.second_taken) f
-      ∙ append_assoc ws (w ∷ []) h.second_taken;
-  first_size = omega (arith, h.first_size, ap length e, length-append vs (v ∷ []));
-  second_size = omega (arith, h.second_size, ap length f, length-append ws (w ∷ []));
-  shared_is = shared_now b same;
-  behind_is = omega (arith, h.behind_is, slashed_len-cons w h.second_taken);
-  len_is = len_now b same;
-}
+    (remaining_count - 1) (cond b shared (remaining_count - 1)) now (cond b len now))
+shares_taken {vs = vs} {ws = ws} {remaining_count} {shared} {behind} {len} b v w h e f same =
+    record {
+      first_taken = v ∷ h.first_taken;
+      second_taken = w ∷ h.second_taken;
+      first_is = h.first_is ∙ ap (λ s. s ++ h.first_taken) e
+          ∙ append_assoc vs (v ∷ []) h.first_taken;
+      second_is = h.second_is ∙ ap (λ s. s ++ h.second_taken) f
+          ∙ append_assoc ws (w ∷ []) h.second_taken;
+      first_size = omega (arith, h.first_size, ap length e, length-append vs (v ∷ []));
+      second_size = omega (arith, h.second_size, ap length f, length-append ws (w ∷ []));
+      shared_is = shared_now b same;
+      behind_is = omega (arith, h.behind_is, slashed_len-cons w h.second_taken);
+      len_is = len_now b same;
+    }
   where
-    shared_now : (b : Bool) → same_value v w ≡ b → cond b shared (place - 1)
-        ≡ place - 1 + shared_count (v ∷ h.first_taken) (w ∷ h.second_taken)
+    shared_now : (b : Bool) → same_value v w ≡ b → cond b shared (remaining_count - 1)
+        ≡ remaining_count - 1 + shared_count (v ∷ h.first_taken) (w ∷ h.second_taken)
     shared_now true same =
         rw same (omega (arith, h.shared_is, h.first_size, ap length e, length-append vs (v ∷ [])))
     shared_now false same = rw same (omega arith)
@@ -108,9 +116,10 @@ shares_taken {vs = vs} {ws = ws} {place} {shared} {behind} {len} b v w h e f sam
         (shared_count h.first_taken h.second_taken) w h.second_taken)))
     len_now false same = rw same (omega (arith, h.behind_is, slashed_len-cons w h.second_taken))
 
--- in the end no value is left before those that were taken
-pub shares_last : {v w first second : List Value} {place shared behind len : ℕ}
-    → Shares v w first second place shared behind len → first ≡ []
+-- when no component remains, `shared` is the number of components that both lists begin with, and
+-- `len` is the length of the second list's components after them
+pub shares_last : {v w first second : List Value} {remaining_count shared behind len : ℕ}
+    → Shares v w first second remaining_count shared behind len → first ≡ []
     → (shared ≡ shared_count v w) × (len ≡ slashed_len (drop (shared_count v w) w))
 shares_last {v = v} {w = w} {second = second} {shared = shared} {len = len} h e =
     by second h.second_is
@@ -126,7 +135,7 @@ shares_last {v = v} {w = w} {second = second} {shared = shared} {len = len} h e 
         )
     by (x ∷ ws) f g = absurd (omega (arith, g))
 
--- values that are the same if their bytes are are told apart by their bytes
+-- two components that are equal if their bytes are equal can be compared by their bytes
 by_bytes : (x y : Value) → (value_bytes x ≡ value_bytes y → x ≡ y)
     → same_value x y ≡ bytes_eq (value_bytes x) (value_bytes y)
 by_bytes x y h = by_test (bytes_eq (value_bytes x) (value_bytes y))
@@ -137,42 +146,47 @@ by_bytes x y h = by_test (bytes_eq (value_bytes x) (value_bytes y))
     (ap value_bytes ((same_value-Decides x y).0 f)) in
     let no : true ≡ false = sym yes ∙ e in absurd (cc)) ∙ sym e)
 
--- as names are
+-- names can be compared by their bytes
 pub same_bytes : (a b : List ℕ) → same_value (Normal a) (Normal b) ≡ bytes_eq a b
 same_bytes a b = by_bytes (Normal a) (Normal b) (ap Normal)
 
--- so are the first values of two paths
-pub same_first : (s t : List ℕ) {x y : Value} {left onward : List Value} → values s ≡ x ∷ left
-    → values t ≡ y ∷ onward → same_value x y ≡ bytes_eq (value_bytes x) (value_bytes y)
+-- the first components of two paths can be compared by their bytes
+pub same_first : (s t : List ℕ) {x y : Value} {remaining other_remaining : List Value} → values s
+    ≡ x ∷ remaining
+    → values t ≡ y ∷ other_remaining → same_value x y ≡ bytes_eq (value_bytes x) (value_bytes y)
 same_first s t {x} {y} e f =
     let own = (subst ReadsAsItself e (ReadsAsItself-values s)).0 in
     let other = (subst ReadsAsItself f (ReadsAsItself-values t)).0 in
     by_bytes x y (λ same. let one : x ∷ [] ≡ y ∷ [] = sym own ∙ ap values same ∙ other in cc)
 
--- if two lists begin with the same value, what follows what they share follows what their rests
--- share
-pub drop_shared : {v w left onward : List Value} {x y : Value} → v ≡ x ∷ left → w ≡ y ∷ onward
+-- if two lists begin with the same component, the rests after what they share are the rests after
+-- what their tails share
+pub drop_shared : {v w remaining other_remaining : List Value} {x y : Value} → v ≡ x ∷ remaining → w
+    ≡ y ∷ other_remaining
     → same_value x y ≡ true
-    → (drop (shared_count left onward) left ≡ drop (shared_count v w) v)
-    × (drop (shared_count left onward) onward ≡ drop (shared_count v w) w)
-drop_shared {left = left} {onward = onward} {x = x} {y = y} e f same =
-    let n = shared_count left onward in
-    let more : shared_count (x ∷ left) (y ∷ onward) ≡ suc n = rw same (omega arith) in (
-      sym (ap₂ (λ v w. drop (shared_count v w) v) e f ∙ ap (λ k. drop k (x ∷ left)) more),
-      sym (ap₂ (λ v w. drop (shared_count v w) w) e f ∙ ap (λ k. drop k (y ∷ onward)) more),
+    → (drop (shared_count remaining other_remaining) remaining ≡ drop (shared_count v w) v)
+    × (drop (shared_count remaining other_remaining) other_remaining ≡ drop (shared_count v w) w)
+drop_shared {remaining = remaining} {other_remaining = other_remaining} {x = x} {y = y} e f same =
+    let n = shared_count remaining other_remaining in
+    let more : shared_count (x ∷ remaining) (y ∷ other_remaining) ≡ suc n = rw same (omega arith)
+    in (
+      sym (ap₂ (λ v w. drop (shared_count v w) v) e f ∙ ap (λ k. drop k (x ∷ remaining)) more),
+      sym (ap₂ (λ v w. drop (shared_count v w) w) e f
+          ∙ ap (λ k. drop k (y ∷ other_remaining)) more),
     )
 
--- if they begin with others, they share none
-pub none_shared : {v w left onward : List Value} {x y : Value} → v ≡ x ∷ left → w ≡ y ∷ onward
+-- two lists that begin with different components share none
+pub none_shared : {v w remaining other_remaining : List Value} {x y : Value} → v ≡ x ∷ remaining → w
+    ≡ y ∷ other_remaining
     → same_value x y ≡ false → shared_count v w ≡ 0
 none_shared {v} {w} e f other = ap₂ shared_count e f ∙ rw other refl
 
--- nor if one has no value
-pub none_shared_left : {v : List Value} (w : List Value) → v ≡ [] → shared_count v w ≡ 0
-none_shared_left w e = ap (λ v. shared_count v w) e
+-- an empty list shares no component with another list
+pub none_shared_if_first_empty : {v : List Value} (w : List Value) → v ≡ [] → shared_count v w ≡ 0
+none_shared_if_first_empty w e = ap (λ v. shared_count v w) e
 
-pub none_shared_onward : {w : List Value} (v : List Value) → w ≡ [] → shared_count v w ≡ 0
-none_shared_onward v e = ap (shared_count v) e ∙ by v
+pub none_shared_if_second_empty : {w : List Value} (v : List Value) → w ≡ [] → shared_count v w ≡ 0
+none_shared_if_second_empty v e = ap (shared_count v) e ∙ by v
   where
     by : (v : List Value) → shared_count v [] ≡ 0
     by [] = refl
@@ -180,25 +194,27 @@ none_shared_onward v e = ap (shared_count v) e ∙ by v
 
 -- ---- two paths that begin with the same bytes
 
--- where a plain piece begins there is no filler
-busy_plain : (s : List ℕ) (n : ℕ) → begins_plain s n ≡ true → is_filler (drop n s) 0 ≡ false
-busy_plain s n h = is_filler-drop s n ∙ by_test (ltb n (length s))
+-- where a name starts there is no filler
+not_filler_at_name : (s : List ℕ) (n : ℕ) → name_starts_at s n ≡ true → is_filler (drop n s) 0
+    ≡ false
+not_filler_at_name s n h = is_filler-drop s n ∙ by_test (ltb n (length s))
     (λ t. let here = get_or_default s n 0 47 (ltb-true n (length s) t) in grind (arith, here))
     (λ t. let past = get_or_past s n 47 (ltb-false n (length s) t) in grind (arith, past))
 
--- if names begin there, they have the same values up to their common dir
-pub share_first : (s t : List ℕ) (n : ℕ) → n ≡ common_dir_of s t → begins_plain s n ≡ true
-    → begins_plain t n ≡ true → ShareFirst s t n
+-- two paths have the same components up to the end of their common directory if a name starts there
+-- in both
+pub share_prefix : (s t : List ℕ) (n : ℕ) → n ≡ common_dir_of s t → name_starts_at s n ≡ true
+    → name_starts_at t n ≡ true → SharePrefix s t n
 unfolding values
-share_first s t n e first second = by_test (eqb n 0)
-    (λ z. subst (ShareFirst s t) (sym (eqb-true n 0 z))
+share_prefix s t n e first second = by_test (eqb n 0)
+    (λ z. subst (SharePrefix s t) (sym (eqb-true n 0 z))
     (record { shared = []; first = refl; second = refl }))
     (λ z.
-    let cut = subst (λ k. SharesFirst s t (drop k s) (drop k t)) (sym e)
+    let cut = subst (λ k. SharesPrefix s t (drop k s) (drop k t)) (sym e)
     (shares-common_dir s t (omega (arith, e, eqb-false n 0 z))) in
-    let own : (u : List ℕ) → begins_plain u n ≡ true
+    let own : (u : List ℕ) → name_starts_at u n ≡ true
     → inner_values (drop n u) ≡ values (drop n u) =
-    λ u h. sym (values-busy (drop n u) (busy_plain u n h)) in
+    λ u h. sym (values-not_filler (drop n u) (not_filler_at_name u n h)) in
     record {
       shared = map (λ (p : Part). p.value) cut.shared;
       first = ap (map (λ (p : Part). p.value)) cut.first
@@ -208,14 +224,15 @@ share_first s t n e first second = by_test (eqb n 0)
       second = cut.second ∙ ap (λ vs. map (λ (p : Part). p.value) cut.shared ++ vs) (own t second);
     })
 
--- what follows the values that they share follows what they have from there on
-pub past_place : {u v : List ℕ} (s t : List ℕ) {n : ℕ} → ShareFirst s t n → u ≡ drop n s
+-- if two paths have the same components up to n, dropping the shared components of their bytes from
+-- n on leaves the same as dropping the shared components of the whole paths
+pub after_shared_end : {u v : List ℕ} (s t : List ℕ) {n : ℕ} → SharePrefix s t n → u ≡ drop n s
     → v ≡ drop n t
     → (drop (shared_count (values u) (values v)) (values u)
     ≡ drop (shared_count (values s) (values t)) (values s))
     × (drop (shared_count (values u) (values v)) (values v)
     ≡ drop (shared_count (values s) (values t)) (values t))
-past_place {u} {v} s t h e f =
+after_shared_end {u} {v} s t h e f =
     let first : values s ≡ h.shared ++ values u =
     h.first ∙ ap (λ s. h.shared ++ values s) (sym e) in
     let second : values t ≡ h.shared ++ values v =

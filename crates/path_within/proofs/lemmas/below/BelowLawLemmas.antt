@@ -14,29 +14,29 @@ use Rattle.path_runs.proofs.lemmas.spelling.JoinAllLemmas.{join_all_of-values}
 use Rattle.path_runs.proofs.lemmas.joins.LeadLemmas.{values-join_of_values_added}
 use Rattle.path_runs.proofs.lemmas.joins.StripLemmas.{values-join_of_stripped}
 use Rattle.path_within.specs.Below.{below_of, names_below, GoesDown}
-use Rattle.path_within.specs.Climbs.{Climbs, has_root_or_up}
-use Rattle.path_within.specs.PlainPieces.{is_plain}
+use Rattle.path_within.specs.Escapes.{Escapes, has_root_or_parent_dir}
+use Rattle.path_within.specs.NamePieces.{is_names_only}
 use Rattle.path_within.specs.Resolved.{resolved_of, resolved_bytes_of}
-use Rattle.path_within.proofs.lemmas.below.BelowLemmas.{below_of-spelled, plain_spelled}
+use Rattle.path_within.proofs.lemmas.below.BelowLemmas.{below_of-verbatim, names_only_verbatim}
 use Rattle.path_within.proofs.lemmas.below.BelowLemmas.{values-below}
 use Rattle.path_within.proofs.lemmas.below.NamesBelowLemmas.{names_below-drop_dot}
 use Rattle.path_within.proofs.lemmas.below.NamesBelowLemmas.{names_below-names}
 use Rattle.path_within.proofs.lemmas.below.NamesBelowLemmas.{names_below-resolved}
-use Rattle.path_within.proofs.lemmas.plain.RequestLemmas.{plain_stays, request_names}
-use Rattle.path_within.proofs.lemmas.plain.RequestLemmas.{request_rootless}
-use Rattle.path_within.proofs.lemmas.plain.PlainLemmas.{resolved-plain}
-use Rattle.path_within.proofs.lemmas.kept.ResolveLemmas.{values-resolved}
+use Rattle.path_within.proofs.lemmas.names_only.RequestLemmas.{names_only_stays, request_has_names}
+use Rattle.path_within.proofs.lemmas.names_only.RequestLemmas.{request_rootless}
+use Rattle.path_within.proofs.lemmas.names_only.NamesOnlyLemmas.{resolved-names_only}
+use Rattle.path_within.proofs.lemmas.stack.ResolveLemmas.{values-resolved}
 use Rattle.path_within.proofs.lemmas.below.WithinLemmas.{resolved_of-within}
 
--- resolved values, each joined to those before it, are spelled
+-- the resolved components of a path, joined one after the other, make its resolved bytes
 join_all_of-resolved : (s : List ℕ)
     → join_all_of [] (map value_bytes (resolved_of (values s))) ≡ resolved_bytes_of s
 join_all_of-resolved s =
     ap (λ vs. join_all_of [] (map value_bytes vs)) (sym (values-resolved s))
     ∙ join_all_of-values (resolved_bytes_of s) ∙ ap spelling_of (values-resolved s)
 
--- a join with a resolved root, of a request that doesn't climb, is the resolved join
-pub below_of-within : (a b : List ℕ) → (Climbs (values b) → ⊥)
+-- the join of a resolved root and a request that does not escape is the resolved join
+pub below_of-within : (a b : List ℕ) → (Escapes (values b) → ⊥)
     → below_of (resolved_bytes_of a) (names_below (values b)) ≡ resolved_bytes_of (join_of a b)
 unfolding below_of
 below_of-within a b h =
@@ -50,36 +50,37 @@ below_of-within a b h =
     ∙ ap (λ ws. join_all_of (resolved_bytes_of a) (map value_bytes ws))
     (sym (names_below-resolved b h)))
 
--- the root, and what is left of a path without it, but for a leading dot
-values-down : (root left : List ℕ) → has_root_or_up (values left) ≡ false
-    → values (below_of root (names_below (values left))) ≡ values root ++ drop_dot (values left)
-values-down root left h =
-    values-below root left ∙ ap (λ vs. values root ++ vs)
-    (sym (names_below-drop_dot (values left))
-    ∙ names_below-names (drop_dot (values left)) (request_names left h))
+-- a join with the rest of a path has the components of the root and then the components of the
+-- rest, except a leading `.`
+values-down : (root rest : List ℕ) → has_root_or_parent_dir (values rest) ≡ false
+    → values (below_of root (names_below (values rest))) ≡ values root ++ drop_dot (values rest)
+values-down root rest h =
+    values-below root rest ∙ ap (λ vs. values root ++ vs)
+    (sym (names_below-drop_dot (values rest))
+    ∙ names_below-names (drop_dot (values rest)) (request_has_names rest h))
 
--- a path that goes down from a root, which isn't empty, is equal to a join
+-- a path that goes down from a root that is not empty is equal to a join
 pub down_joined : (root path : List ℕ) → GoesDown root path → root ≢ []
     → values (below_of root (names_below (values (stripped_of path root)))) ≡ values path
 down_joined [] path h some = absurd (some refl)
 down_joined (x ∷ root) path h some =
-    let left = stripped_of path (x ∷ root) in
-    values-down (x ∷ root) left h.names
-    ∙ sym (values-join_of_values_added (x ∷ root) left (request_rootless left h.names))
+    let rest = stripped_of path (x ∷ root) in
+    values-down (x ∷ root) rest h.names
+    ∙ sym (values-join_of_values_added (x ∷ root) rest (request_rootless rest h.names))
     ∙ values-join_of_stripped path (x ∷ root) h.begins
 
--- a path that goes down from the empty root is equal to a join, but for a leading dot
+-- a path that goes down from the empty root is equal to a join, except for a leading `.`
 pub down_joined_here : (path : List ℕ) → GoesDown [] path
     → values (below_of [] (names_below (values (stripped_of path [])))) ≡ drop_dot (values path)
 down_joined_here path h =
-    let left = stripped_of path [] in
-    values-down [] left h.names ∙ ap (λ vs. vs ++ drop_dot (values left)) values-nil
-    ∙ ap drop_dot (ap values (sym (join_of-nil left)) ∙ values-join_of_stripped path [] h.begins)
+    let rest = stripped_of path [] in
+    values-down [] rest h.names ∙ ap (λ vs. vs ++ drop_dot (values rest)) values-nil
+    ∙ ap drop_dot (ap values (sym (join_of-nil rest)) ∙ values-join_of_stripped path [] h.begins)
 
--- the join of two plain paths is resolved as it is spelled
-pub resolved-plain_join : (a b : List ℕ) → is_plain a ≡ true → is_plain b ≡ true
+-- the join of two paths of names only, the second without a root, is resolved already
+pub resolved-names_only_join : (a b : List ℕ) → is_names_only a ≡ true → is_names_only b ≡ true
     → is_rooted b ≡ false → join_of a b ≡ resolved_bytes_of (join_of a b)
-resolved-plain_join a b h k r =
-    join_of-separator a b r ∙ below_of-spelled a b (plain_spelled b k r)
-    ∙ ap (λ s. below_of s (names_below (values b))) (sym (resolved-plain a h))
-    ∙ below_of-within a b (plain_stays b k r)
+resolved-names_only_join a b h k r =
+    join_of-separator a b r ∙ below_of-verbatim a b (names_only_verbatim b k r)
+    ∙ ap (λ s. below_of s (names_below (values b))) (sym (resolved-names_only a h))
+    ∙ below_of-within a b (names_only_stays b k r)

@@ -1,11 +1,11 @@
--- A root and the names of a path, joined.
+-- The join of a root and the names of a path.
 use Rattle.std.proofs.Common.{◌≡◌, ℕ, ◌+◌, ◌≤◌, ◌<◌, true, false, List, [], ◌∷◌, ◌++◌, length, map}
 use Rattle.std.proofs.Common.{refl, sym, ap, subst, ◌∙◌, arith, append_assoc, append-nil}
 use Rattle.std.proofs.Common.{◌-◌, drop, take, length-append, take-append-drop}
 use Rattle.std.specs.List.{AllByRecursion, list_any}
 use Rattle.unix_path.specs.Joins.{join_of, join_all_of}
 use Rattle.unix_path.specs.Parts.{Value, RootDir, Normal, is_rooted, slash, value_bytes, values}
-use Rattle.unix_path.specs.Prefixes.{Begins, stripped_of}
+use Rattle.unix_path.specs.Prefixes.{IsPrefixOf, stripped_of}
 use Rattle.path_runs.specs.Spelling.{slashed_bytes}
 use Rattle.path_runs.proofs.lemmas.joins.AssociativeLemmas.{separator}
 use Rattle.path_runs.proofs.lemmas.spelling.JoinAllLemmas.{join_all_of-some, unslashed_bytes}
@@ -16,35 +16,35 @@ use Rattle.path_runs.proofs.lemmas.joins.StripLemmas.{values-stripped_of}
 use Rattle.path_runs.proofs.lemmas.lists.AllLemmas.{AllByRecursion-end}
 use Rattle.path_within.specs.Backward.{last_names}
 use Rattle.path_within.specs.Below.{below_of, has_nul, names_below, IsBelow}
-use Rattle.path_within.specs.Climbs.{has_root_or_up}
-use Rattle.path_within.specs.PlainPieces.{is_plain}
-use Rattle.path_within.specs.Resolved.{AreNames, resolved_bytes_of}
+use Rattle.path_within.specs.Escapes.{has_root_or_parent_dir}
+use Rattle.path_within.specs.NamePieces.{is_names_only}
+use Rattle.path_within.specs.Resolved.{AllNames, resolved_bytes_of}
 use Rattle.path_within.specs.Steps.{ReadsAsItself}
-use Rattle.path_within.specs.Written.{opened, AreSpelled}
+use Rattle.path_within.specs.WrittenBytes.{root_prefix, AreVerbatim}
 use Rattle.path_within.proofs.lemmas.below.BoundLemmas.{slashed_bytes-names}
-use Rattle.path_within.proofs.lemmas.below.NamesBelowLemmas.{AreNames-names_below}
+use Rattle.path_within.proofs.lemmas.below.NamesBelowLemmas.{AllNames-names_below}
 use Rattle.path_within.proofs.lemmas.below.NamesBelowLemmas.{names_below-names, resolved_of-slash}
 use Rattle.path_within.proofs.lemmas.below.NulLemmas.{has_nul-values, no_nul-below, nul_in}
-use Rattle.path_within.proofs.lemmas.kept.KeepLemmas.{names_straight}
-use Rattle.path_within.proofs.lemmas.kept.PathOfLemmas.{ReadsAsItself-values}
-use Rattle.path_within.proofs.lemmas.kept.WayLemmas.{spelling_of-straight}
-use Rattle.path_within.proofs.lemmas.plain.PlainLemmas.{plain_has_names}
-use Rattle.path_within.proofs.lemmas.kept.ResolveLemmas.{values-resolved}
-use Rattle.path_within.proofs.lemmas.plain.RequestLemmas.{names_down}
+use Rattle.path_within.proofs.lemmas.stack.StackLemmas.{names_straight}
+use Rattle.path_within.proofs.lemmas.stack.PathOfLemmas.{ReadsAsItself-values}
+use Rattle.path_within.proofs.lemmas.stack.RelativePathLemmas.{spelling_of-straight}
+use Rattle.path_within.proofs.lemmas.names_only.NamesOnlyLemmas.{names_only_has_names}
+use Rattle.path_within.proofs.lemmas.stack.ResolveLemmas.{values-resolved}
+use Rattle.path_within.proofs.lemmas.names_only.RequestLemmas.{names_down}
 
--- with a slash in front, a path is resolved to bytes that have the root and the names
+-- the bytes of the path b, resolved after a slash: they have the root and the names of b
 abbrev rooted : List ℕ → List ℕ
 rooted b = resolved_bytes_of (slash ∷ b)
 
 values-rooted : (b : List ℕ) → values (rooted b) ≡ RootDir ∷ names_below (values b)
 values-rooted b = values-resolved (slash ∷ b) ∙ resolved_of-slash b
 
--- the names are each spelled as a path of that name alone
+-- each name's bytes are a path of only that name
 ReadsAsItself-names_below : (b : List ℕ) → ReadsAsItself (names_below (values b))
 ReadsAsItself-names_below b
     = (subst ReadsAsItself (values-rooted b) (ReadsAsItself-values (rooted b))).1
 
--- a slash neither begins nor ends one of them
+-- none of a path's names begins or ends with a slash
 unslashed_names : (b : List ℕ) → AllByRecursion IsUnslashedValue (names_below (values b))
 unslashed_names b = by (subst Shape (values-rooted b) (values-shape (rooted b)))
   where
@@ -55,12 +55,12 @@ unslashed_names b = by (subst Shape (values-rooted b) (values-shape (rooted b)))
         ≡ names_below (values b) = cc in subst (AllByRecursion IsUnslashedValue) same h
     by (Rootless h) = absurd (h.0.no_root refl)
 
--- without names the root is left
+-- without names the join is the root
 pub below_of-nil : {vs : List Value} (root : List ℕ) → vs ≡ [] → below_of root vs ≡ root
 unfolding below_of
 below_of-nil root e = ap (λ vs. join_all_of root (map value_bytes vs)) e
 
--- so are the last of them
+-- none of a path's last n names begins or ends with a slash
 pub unslashed_last : (n : ℕ) (b : List ℕ)
     → AllByRecursion IsUnslashedValue (last_names n (values b))
 unslashed_last n b =
@@ -69,24 +69,24 @@ unslashed_last n b =
     AllByRecursion-end IsUnslashedValue (take k names) (drop k names)
     (subst (AllByRecursion IsUnslashedValue) (sym (take-append-drop k names)) (unslashed_names b))
 
--- one name or more follow the opened root, with slashes between them
+-- if there are names, the join is the root prefix and then the names, with slashes between them
 pub below_of-some : (root : List ℕ) (vs : List Value) → AllByRecursion IsUnslashedValue vs
-    → 0 < length vs → below_of root vs ≡ opened root ++ slashed_bytes vs
+    → 0 < length vs → below_of root vs ≡ root_prefix root ++ slashed_bytes vs
 unfolding below_of
 below_of-some root [] h some = absurd (omega arith)
 below_of-some root (v ∷ vs) h some =
     join_all_of-some root (value_bytes v) (map value_bytes vs) (unslashed_bytes (v ∷ vs) h)
 
--- names that are spelled follow the opened root
-pub below_of-spelled : {names : List ℕ} (root b : List ℕ)
-    → AreSpelled names (names_below (values b))
-    → opened root ++ names ≡ below_of root (names_below (values b))
-below_of-spelled root b h = ap (λ s. opened root ++ s) h.is
+-- if bytes are the names, verbatim, the join is the root prefix and then these bytes
+pub below_of-verbatim : {names : List ℕ} (root b : List ℕ)
+    → AreVerbatim names (names_below (values b))
+    → root_prefix root ++ names ≡ below_of root (names_below (values b))
+below_of-verbatim root b h = ap (λ s. root_prefix root ++ s) h.is
     ∙ sym (below_of-some root (names_below (values b)) (unslashed_names b) h.some)
 
--- ---- values
+-- ---- components
 
-values-names : (root : List ℕ) (vs : List Value) → AreNames vs → ReadsAsItself vs
+values-names : (root : List ℕ) (vs : List Value) → AllNames vs → ReadsAsItself vs
     → values (below_of root vs) ≡ values root ++ vs
 unfolding below_of
 values-names root [] h k = sym (append-nil (values root))
@@ -96,45 +96,46 @@ values-names root (Normal name ∷ vs) h k =
     ∙ append_assoc (values root) (Normal name ∷ []) vs
 values-names root (v ∷ vs) h k = absurd h
 
--- the root's values, and then the names
+-- the components of a join are the root's own components and then the names
 pub values-below : (root b : List ℕ)
     → values (below_of root (names_below (values b))) ≡ values root ++ names_below (values b)
 values-below root b = values-names root (names_below (values b))
-    (AreNames-names_below (values b)) (ReadsAsItself-names_below b)
+    (AllNames-names_below (values b)) (ReadsAsItself-names_below b)
 
--- without the root the names are left
+-- a join without its root has the names as its components
 pub values-stripped_below : (root b : List ℕ)
     → values (stripped_of (below_of root (names_below (values b))) root) ≡ names_below (values b)
 values-stripped_below root b = values-stripped_of (below_of root (names_below (values b))) root
     (names_below (values b)) (sym (values-below root b))
 
--- a join with the names of a path without a NUL is below its root
+-- the join with the names of a path without a NUL is below its root
 pub is_below : {s : List ℕ} (root b : List ℕ) → has_nul b ≡ false
     → s ≡ below_of root (names_below (values b)) → IsBelow root s
 is_below {s} root b h e =
     let vs = names_below (values b) in
-    let left = values-stripped_below root b in
+    let rest = values-stripped_below root b in
     subst (IsBelow root) (sym e) (record {
       down = record {
         begins = (vs, sym (values-below root b));
-        names = ap has_root_or_up left ∙ names_down vs (AreNames-names_below (values b));
+        names = ap has_root_or_parent_dir rest ∙ names_down vs (AllNames-names_below (values b));
       };
-      no_nul = has_nul-values (stripped_of (below_of root vs) root) ∙ ap (list_any nul_in) left
+      no_nul = has_nul-values (stripped_of (below_of root vs) root) ∙ ap (list_any nul_in) rest
           ∙ no_nul-below (values b) (sym (has_nul-values b) ∙ h);
     })
 
 -- ---- bytes
 
--- behind the root's bytes stand the names and their slashes, which are no longer than b and a slash
-record Behind (root b : List ℕ) : Type 0 where
+-- a join begins with the root's bytes; with the bytes `more` after them, it is no longer than the
+-- root prefix and b
+record AfterRoot (root b : List ℕ) : Type 0 where
   more : List ℕ
   is : root ++ more ≡ below_of root (names_below (values b))
-  fits : length root + length more ≤ length (opened root) + length b
+  fits : length root + length more ≤ length (root_prefix root) + length b
 
-behind : (root b : List ℕ) → Behind root b
-behind root b = by (names_below (values b)) refl
+after_root : (root b : List ℕ) → AfterRoot root b
+after_root root b = by (names_below (values b)) refl
   where
-    by : (vs : List Value) → names_below (values b) ≡ vs → Behind root b
+    by : (vs : List Value) → names_below (values b) ≡ vs → AfterRoot root b
     by [] e = record {
       more = [];
       is = append-nil root ∙ sym (below_of-nil root e);
@@ -154,34 +155,34 @@ behind root b = by (names_below (values b)) refl
       );
     }
 
--- the root stands in front of a join with the names of a path
+-- the bytes of a join with the names of a path begin with the root's bytes
 pub begins : {s : List ℕ} (root b : List ℕ) → s ≡ below_of root (names_below (values b))
-    → Begins root s
-begins root b e = let h = behind root b in (h.more, h.is ∙ sym e)
+    → IsPrefixOf root s
+begins root b e = let h = after_root root b in (h.more, h.is ∙ sym e)
 
--- the join is no longer than the opened root and the path
-pub length-below : {s : List ℕ} (root b : List ℕ) → s ≡ opened root ++ b
+-- the join is no longer than the root prefix and the path
+pub length-below : {s : List ℕ} (root b : List ℕ) → s ≡ root_prefix root ++ b
     → length (below_of root (names_below (values b))) ≤ length s
-length-below root b e = let h = behind root b in omega (
+length-below root b e = let h = after_root root b in omega (
   arith,
   ap length h.is,
   length-append root h.more,
   ap length e,
-  length-append (opened root) b,
+  length-append (root_prefix root) b,
 )
 
--- ---- a path that is its names as it is spelled
+-- ---- a path whose bytes are its names joined by slashes
 
--- a plain path without a root is its names as they are spelled, and has some
-pub plain_spelled : (b : List ℕ) → is_plain b ≡ true → is_rooted b ≡ false
-    → AreSpelled b (names_below (values b))
-plain_spelled b plain r = record { some = by (names_below (values b)) same; is = same }
+-- the bytes of a rootless path of names only are its names, verbatim
+pub names_only_verbatim : (b : List ℕ) → is_names_only b ≡ true → is_rooted b ≡ false
+    → AreVerbatim b (names_below (values b))
+names_only_verbatim b names_only r = record { some = by (names_below (values b)) same; is = same }
   where
     same : b ≡ slashed_bytes (names_below (values b))
-    same = let h = plain_has_names b plain r in
+    same = let h = names_only_has_names b names_only r in
         sym h.own ∙ spelling_of-straight (values b) (names_straight (values b) h.names)
         ∙ ap slashed_bytes (sym (names_below-names (values b) h.names))
 
     by : (vs : List Value) → b ≡ slashed_bytes vs → 0 < length vs
-    by [] e = absurd ((plain_has_names b plain r).some e)
+    by [] e = absurd ((names_only_has_names b names_only r).some e)
     by (v ∷ vs) e = omega arith

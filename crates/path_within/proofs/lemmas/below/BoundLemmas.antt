@@ -1,4 +1,4 @@
--- A resolved path has no more bytes than the path.
+-- A resolved path is no longer than the path.
 use Rattle.std.proofs.Common.{◌≡◌, ℕ, ◌+◌, ◌-◌, ◌≤◌, false, List, [], ◌∷◌, length, reverse, refl}
 use Rattle.std.proofs.Common.{sym, ap, subst, ◌∙◌, arith, length-append}
 use Rattle.std.specs.List.{sum_by}
@@ -15,53 +15,55 @@ use Rattle.path_runs.proofs.lemmas.spelling.LeanLemmas.{slashed_bytes-lean}
 use Rattle.path_runs.proofs.lemmas.spelling.PieceValueLemmas.{is_rooted-slash}
 use Rattle.path_runs.proofs.lemmas.spelling.SpellLemmas.{spelling_of-root}
 use Rattle.path_within.specs.Below.{names_below}
-use Rattle.path_within.specs.Resolved.{keep, kept_of, resolved_of, resolved_bytes_of}
-use Rattle.path_within.specs.Written.{slashed_len}
-use Rattle.path_within.proofs.lemmas.kept.ResolveLemmas.{kept_of-drop_dot}
-use Rattle.path_within.proofs.lemmas.below.NamesBelowLemmas.{names_kept, names_below-inner}
-use Rattle.path_within.proofs.lemmas.below.NamesBelowLemmas.{names_below-kept, resolved_of-slash}
+use Rattle.path_within.specs.Resolved.{push_component, resolve_onto, resolved_of, resolved_bytes_of}
+use Rattle.path_within.specs.WrittenBytes.{slashed_len}
+use Rattle.path_within.proofs.lemmas.stack.ResolveLemmas.{resolve_onto-drop_dot}
+use Rattle.path_within.proofs.lemmas.below.NamesBelowLemmas.{names_on_stack, names_below-inner}
+use Rattle.path_within.proofs.lemmas.below.NamesBelowLemmas.{names_below-stack, resolved_of-slash}
 
--- one more value adds no more than it has
-sum_by-keep : (f : Value → ℕ) (ks : List Value) (v : Value)
-    → sum_by f (keep ks v) ≤ sum_by f ks + f v
-sum_by-keep f [] v = grind (arith, sum_by-cons f v [])
-sum_by-keep f (k ∷ ks) v =
+-- one more component adds at most its own measure f to the sum of a stack's measures
+sum_by-push_component : (f : Value → ℕ) (ks : List Value) (v : Value)
+    → sum_by f (push_component ks v) ≤ sum_by f ks + f v
+sum_by-push_component f [] v = grind (arith, sum_by-cons f v [])
+sum_by-push_component f (k ∷ ks) v =
     grind (arith, sum_by-cons f v [], sum_by-cons f v (k ∷ ks), sum_by-cons f k ks)
 
--- what is kept of values adds up to no more than they do
-sum_by-kept_of : (f : Value → ℕ) (ks vs : List Value)
-    → sum_by f (kept_of ks vs) ≤ sum_by f ks + sum_by f vs
-sum_by-kept_of f ks [] = omega arith
-sum_by-kept_of f ks (v ∷ vs) = omega (
+-- more components add at most the sum of their measures to the sum of a stack's measures
+sum_by-resolve_onto : (f : Value → ℕ) (ks vs : List Value)
+    → sum_by f (resolve_onto ks vs) ≤ sum_by f ks + sum_by f vs
+sum_by-resolve_onto f ks [] = omega arith
+sum_by-resolve_onto f ks (v ∷ vs) = omega (
   arith,
-  sum_by-kept_of f (keep ks v) vs,
-  sum_by-keep f ks v,
+  sum_by-resolve_onto f (push_component ks v) vs,
+  sum_by-push_component f ks v,
   sum_by-cons f v vs,
 )
 
 sum_by-reverse : (f : Value → ℕ) (vs : List Value) → sum_by f (reverse vs) ≡ sum_by f vs
 sum_by-reverse f vs = sum_by-IsPermutation f vs (reverse vs) (IsPermutation-reverse vs)
 
--- nor do the names that are left
+-- the sum of the measures of the names that remain is at most the sum over all components
 pub sum_by-names_below : (f : Value → ℕ) (vs : List Value)
     → sum_by f (names_below vs) ≤ sum_by f vs
 sum_by-names_below f vs =
-    let found = names_kept vs in
+    let found = names_on_stack vs in
     omega (
       arith,
-      ap (sum_by f) (names_below-kept vs found.0 found.2),
+      ap (sum_by f) (names_below-stack vs found.0 found.2),
       sum_by-reverse f found.0,
       ap (sum_by f) found.2,
       sum_by-append f found.0 (RootDir ∷ []),
-      sum_by-kept_of f (RootDir ∷ []) vs,
+      sum_by-resolve_onto f (RootDir ∷ []) vs,
     )
 
--- the values and their slashes, counted from the first on
+-- the length of components with a slash for each is the first component's length, one more for its
+-- slash, and the length of the components after it
 pub slashed_len-cons : (v : Value) (vs : List Value)
     → slashed_len (v ∷ vs) ≡ (1 + length (value_bytes v)) + slashed_len vs
 slashed_len-cons v vs = sum_by-cons (λ v. 1 + length (value_bytes v)) v vs
 
--- values have a byte less, if there are some, with slashes only between them
+-- with slashes only between them, components are one byte shorter than with a slash for each; if
+-- there are none, both lengths are 0
 pub length-slashed_bytes : (vs : List Value) → length (slashed_bytes vs) ≡ slashed_len vs - 1
 length-slashed_bytes [] = refl
 length-slashed_bytes (v ∷ []) = omega (arith, slashed_len-cons v [])
@@ -73,12 +75,13 @@ length-slashed_bytes (v ∷ w ∷ vs) = omega (
   length-append (value_bytes v) (slash ∷ slashed_bytes (w ∷ vs)),
 )
 
--- a path and a slash have room for its inner values and a slash for each
+-- the components of a path except its root, with a slash for each, are no longer than the path and
+-- a slash
 slashed_len-inner : (s : List ℕ) → slashed_len (inner_values s) ≤ 1 + length s
 slashed_len-inner s =
     omega (arith, length-slashed_bytes (inner_values s), slashed_bytes-lean s)
 
--- and so they have for its names
+-- the names of a path, with a slash for each, are no longer than the path and a slash
 pub slashed_len-names : (s : List ℕ) → slashed_len (names_below (values s)) ≤ 1 + length s
 slashed_len-names s = omega (
   arith,
@@ -87,35 +90,39 @@ slashed_len-names s = omega (
   slashed_len-inner s,
 )
 
--- and without a slash in front it has room for its names with slashes between them
+-- the names of a path, with slashes only between them, are no longer than the path
 pub slashed_bytes-names : (s : List ℕ) → length (slashed_bytes (names_below (values s))) ≤ length s
 slashed_bytes-names s =
     omega (arith, length-slashed_bytes (names_below (values s)), slashed_len-names s)
 
--- values, spelled, have one byte less than with a slash for each
+-- components that have at most n + 1 bytes with a slash for each have at most n bytes in canonical
+-- form
 spelling_of-fit : (vs : List Value) (n : ℕ) → slashed_len vs ≤ 1 + n → length (spelling_of vs) ≤ n
 unfolding spelling_of
 spelling_of-fit [] n l = omega arith
 spelling_of-fit (v ∷ vs) n l =
     grind (arith, slashed_len-cons v vs, length-slashed_bytes (v ∷ vs), length-slashed_bytes vs)
 
--- so they have no more bytes than with a slash for each
+-- in canonical form, components are at least one byte shorter than with a slash for each, if there
+-- are any
 pub length-spelling : (vs : List Value) → length (spelling_of vs) ≤ slashed_len vs - 1
 length-spelling vs = spelling_of-fit vs (slashed_len vs - 1) (omega arith)
 
--- a path without a root and a slash have room for its resolved values and a slash for each
+-- the resolved components of a path without a root, with a slash for each, are no longer than the
+-- path and a slash
 pub slashed_len-rootless : (s : List ℕ) → is_rooted s ≡ false
     → slashed_len (resolved_of (values s)) ≤ 1 + length s
 unfolding resolved_of
 slashed_len-rootless s r = omega (
   arith,
-  sum_by-reverse (λ v. 1 + length (value_bytes v)) (kept_of [] (values s)),
-  ap slashed_len (ap (kept_of []) (sym (drop_dot-values s r)) ∙ kept_of-drop_dot [] (values s)),
-  sum_by-kept_of (λ v. 1 + length (value_bytes v)) [] (inner_values s),
+  sum_by-reverse (λ v. 1 + length (value_bytes v)) (resolve_onto [] (values s)),
+  ap slashed_len (ap (resolve_onto []) (sym (drop_dot-values s r))
+      ∙ resolve_onto-drop_dot [] (values s)),
+  sum_by-resolve_onto (λ v. 1 + length (value_bytes v)) [] (inner_values s),
   slashed_len-inner s,
 )
 
--- a resolved path has no more bytes than the path
+-- a resolved path is no longer than the path
 pub length-resolved : (s : List ℕ) → length (resolved_bytes_of s) ≤ length s
 unfolding resolved_of
 length-resolved s = by_test (is_rooted s)
@@ -134,11 +141,11 @@ length-resolved s = by_test (is_rooted s)
       slashed_bytes-names t,
     )
 
--- a join has one byte more than both at most
+-- a join is at most one byte longer than both paths
 pub length-join_of : (a b : List ℕ) → length (join_of a b) ≤ length a + 1 + length b
 length-join_of a b = grind (arith, push_cases)
 
--- a join, resolved, has one byte more than both at most
+-- a resolved join is at most one byte longer than both paths
 pub length-resolved_join : (a b : List ℕ)
     → length (resolved_bytes_of (join_of a b)) ≤ length a + 1 + length b
 length-resolved_join a b = omega (arith, length-resolved (join_of a b), length-join_of a b)

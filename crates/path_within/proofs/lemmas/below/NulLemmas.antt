@@ -1,4 +1,4 @@
--- A NUL stands in a path exactly if one stands in a name of the path.
+-- A path has a NUL if and only if one of its names has one.
 use Rattle.std.proofs.Common.{◌≡◌, ℕ, Bool, false, cond, eqb, ltb, ◌||◌, List, [], ◌∷◌, refl, sym}
 use Rattle.std.proofs.Common.{ap, ◌∙◌, arith}
 use Rattle.std.specs.List.{count_by, join_with_byte, list_any, slice_split}
@@ -9,18 +9,18 @@ use Rattle.std.proofs.lemmas.Slice.Eq.{bytes_eq-Decides}
 use Rattle.unix_path.specs.Parts.{Value, RootDir, is_slash, cur_dir, counts, slash, value_bytes}
 use Rattle.unix_path.specs.Parts.{values}
 use Rattle.unix_path.proofs.lemmas.parts.ValueLemmas.{value_bytes-piece}
-use Rattle.path_runs.specs.JoinLaws.{drop_lead}
-use Rattle.path_runs.proofs.lemmas.joins.LeadLemmas.{drop_lead-values}
+use Rattle.path_runs.specs.JoinLaws.{drop_leading}
+use Rattle.path_runs.proofs.lemmas.joins.LeadLemmas.{drop_leading-values}
 use Rattle.path_runs.proofs.lemmas.spelling.LeanLemmas.{join_with_byte-pieces}
 use Rattle.path_runs.proofs.lemmas.spelling.PieceValueLemmas.{inner_values-pieces, names_of}
 use Rattle.path_within.specs.Below.{has_nul, names_below}
 use Rattle.path_within.proofs.lemmas.below.BoundLemmas.{sum_by-names_below}
 
--- a value's bytes have a NUL
+-- the bytes of a component have a NUL
 abbrev pub nul_in : Value → Bool
 nul_in v = has_nul (value_bytes v)
 
--- a NUL stands in a piece
+-- pieces with slashes between them have a NUL if and only if one of the pieces has one
 nul_pieces : (ps : List (List ℕ)) → has_nul (join_with_byte slash ps) ≡ list_any has_nul ps
 nul_pieces [] = refl
 nul_pieces (p ∷ []) = grind arith
@@ -28,29 +28,29 @@ nul_pieces (p ∷ q ∷ ps) =
     list_any-append (λ b. eqb b 0) p (slash ∷ join_with_byte slash (q ∷ ps))
     ∙ ap (λ b. has_nul p || b) (nul_pieces (q ∷ ps))
 
--- a piece that doesn't count has no NUL
+-- a piece that does not count, which is empty or `.`, has no NUL
 no_nul_filler : (p : List ℕ) → counts p ≡ false → has_nul p ≡ false
 no_nul_filler p h = grind (arith, bytes_eq-Decides p [], bytes_eq-Decides p cur_dir)
 
--- a NUL stands in the value of a piece that counts
+-- pieces have a NUL if and only if one of their components has one
 nul_names : (ps : List (List ℕ)) → list_any has_nul ps ≡ list_any nul_in (names_of ps)
 nul_names [] = refl
 nul_names (p ∷ ps) = grind (arith, no_nul_filler p, value_bytes-piece p, nul_names ps)
 
--- neither the root nor a dot has a NUL
-nul_lead : (vs : List Value) → list_any nul_in (drop_lead vs) ≡ list_any nul_in vs
+-- dropping a leading root or `.` does not change whether a component has a NUL
+nul_lead : (vs : List Value) → list_any nul_in (drop_leading vs) ≡ list_any nul_in vs
 nul_lead (RootDir ∷ vs) = refl
 nul_lead vs = refl
 
--- a NUL stands in one of a path's values
+-- a path has a NUL if and only if one of its components has one
 pub has_nul-values : (s : List ℕ) → has_nul s ≡ list_any nul_in (values s)
 has_nul-values s =
     let ps = slice_split is_slash s in
     ap has_nul (sym (join_with_byte-pieces s)) ∙ nul_pieces ps ∙ nul_names ps
-    ∙ ap (list_any nul_in) (sym (drop_lead-values s ∙ inner_values-pieces s))
+    ∙ ap (list_any nul_in) (sym (drop_leading-values s ∙ inner_values-pieces s))
     ∙ nul_lead (values s)
 
--- some value passes exactly if more than none do
+-- some component passes p if and only if the number of components that pass is not 0
 list_any-count : (p : Value → Bool) (vs : List Value) → list_any p vs ≡ ltb 0 (count_by p vs)
 list_any-count p [] = refl
 list_any-count p (v ∷ vs) = grind (
@@ -60,7 +60,7 @@ list_any-count p (v ∷ vs) = grind (
   list_any-count p vs,
 )
 
--- without a NUL in values there is none in the names that are left of them
+-- if no component has a NUL, no name that remains of them has one
 pub no_nul-below : (vs : List Value) → list_any nul_in vs ≡ false
     → list_any nul_in (names_below vs) ≡ false
 no_nul-below vs h =

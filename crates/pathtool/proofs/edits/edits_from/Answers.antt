@@ -9,7 +9,7 @@ use Rattle.pathtool.proofs.lemmas.lines.LoopLemmas.{IsStep, step_of}
 use Rattle.pathtool.proofs.edits.edits_from.Goals as goal
 use Rattle.pathtool.proofs.edits.edits_from.Goals.{After-next}
 
--- the loop goes over the fields
+-- each step of the loop takes the next field, and the loop ends after the last field
 field_step : (c : After-next)
     → IsStep (λ x. x.now) (fields_of c.args.fields.now) c.loop-field.yielded c.next.result
 field_step c =

@@ -5,7 +5,8 @@ use Rattle.pathtool.specs.Steps.{edits_of_fields}
 use Rattle.pathtool.proofs.lemmas.answers.FieldLemmas.{edits_then}
 use Rattle.pathtool.proofs.edits.edits_from.Given as goal
 
--- the edits so far, and then those that the fields left name, are the edits of all fields
+-- the edits so far, followed by the edits that the remaining fields name, are the edits of all
+-- fields
 abbrev pub invariant-loop-field : goal.invariant-loop-field
 invariant-loop-field l =
     let fields = fields_of l.fields in

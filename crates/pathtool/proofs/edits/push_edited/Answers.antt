@@ -2,7 +2,7 @@ use Rattle.std.proofs.Common.{map, ◌++◌, ap, ap₂, sym, ◌∙◌}
 use Rattle.path_runs.specs.EditViews.{edit_value}
 use Rattle.path_runs.specs.EditLists.{edits_of}
 use Rattle.pathtool.specs.Steps.{words_of}
-use Rattle.pathtool.proofs.lemmas.answers.AddLemmas.{adds_behind}
+use Rattle.pathtool.proofs.lemmas.answers.AddLemmas.{adds_after}
 use Rattle.pathtool.proofs.lemmas.answers.WordLemmas.{tabs-words}
 use Rattle.pathtool.proofs.edits.push_edited.Goals as goal
 
@@ -14,7 +14,7 @@ returns c =
     let bytes = c.as_bytes.ensures.bytes ∙ c.as_unix_str.ensures.bytes ∙ c.as_path.ensures
     ∙ c.in-Ok.ensures.ok in
     let answers = c.as_slice.ensures.value ∙ c.in-Ok.ensures.value in
-    adds_behind c.push_words.result _ _ _ c.as_bytes.result.now (words_of c.as_slice.result.now)
+    adds_after c.push_words.result _ _ _ c.as_bytes.result.now (words_of c.as_slice.result.now)
     c.in_ok-extend_from_slice.ensures.items
     (ap₂ (λ front answers. front ++ words_of answers) bytes answers
     ∙ ap (λ path. (edits_of path edits).0 ++ words_of (edits_of path edits).1)

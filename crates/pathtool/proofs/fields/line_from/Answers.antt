@@ -5,5 +5,5 @@ use Rattle.pathtool.proofs.fields.line_from.Goals as goal
 
 pub returns-in_default : goal.returns-in_default
 returns-in_default c =
-    let one = rw c.in_default.is at c.cut.ensures.value in
+    let one = rw c.in_default.is at c.split_at_byte.ensures.value in
     one ∙ ap (λ field. field ∷ []) (sym (slice_split-one tab _ _ one))

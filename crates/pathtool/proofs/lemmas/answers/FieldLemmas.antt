@@ -12,35 +12,37 @@ use Rattle.path_runs.specs.EditViews.{edit_value}
 use Rattle.path_runs.specs.declared.edits.Edit.{Edit}
 use Rattle.pathtool.proofs.lemmas.lines.LoopLemmas.{IsStep}
 use Rattle.pathtool.specs.EditFields.{edit_of_field, edit_answer}
-use Rattle.pathtool.specs.Steps.{edit_before, edits_of_fields, edited_answer}
+use Rattle.pathtool.specs.Steps.{prepend_edit, edits_of_fields, edited_answer}
 
--- some edits, and then those that these fields name
+-- some edits, followed by the edits that these fields name
 abbrev pub edits_then : List EditValue → List (List ℕ) → Option (List EditValue)
 edits_then done fields = option_map (λ edits. done ++ edits) (edits_of_fields fields)
 
 map_before : (done : List EditValue) (edit : EditValue) (o : Option (List EditValue))
-    → option_map (λ edits. done ++ edits) (edit_before (Some edit) o)
+    → option_map (λ edits. done ++ edits) (prepend_edit (Some edit) o)
     ≡ option_map (λ edits. (done ++ edit ∷ []) ++ edits) o
 map_before done edit None = refl
 map_before done edit (Some edits) = ap Some (sym (append_assoc done (edit ∷ []) edits))
 
--- one field more: the edit that it names, if any, before those that the fields behind it name
+-- one more field: the edit that it names, if any, comes before the edits that the fields after it
+-- name
 edits_then-next : (done : List EditValue) (fields : List (List ℕ)) (n : ℕ) (field : List ℕ)
     (said : Option EditValue) → (n < length fields) × (field ≡ get_or fields n field)
     → said ≡ edit_of_field field → edits_then done (drop n fields)
     ≡ option_map (λ edits. done ++ edits)
-    (edit_before said (edits_of_fields (drop (n + 1) fields)))
+    (prepend_edit said (edits_of_fields (drop (n + 1) fields)))
 edits_then-next done fields n field said h e =
     at_drop_more (edits_then done) fields n field h.0
     ∙ ap (λ said. option_map (λ edits. done ++ edits)
-    (edit_before said (edits_of_fields (drop (n + 1) fields))))
+    (prepend_edit said (edits_of_fields (drop (n + 1) fields))))
     (ap edit_of_field (sym h.1) ∙ sym e)
 
--- the edits so far, and then those that the fields left name, are the edits of all fields
+-- the edits so far, followed by the edits that the remaining fields name, are the edits of all
+-- fields
 module _ {A : Type 0} (shown : A → List ℕ) (fields : List (List ℕ)) (taken : List A)
     (edits : List Edit) (so_far : edits_then (map edit_value edits) (drop (length taken) fields)
     ≡ edits_of_fields fields) where
-  -- the next field names an edit
+  -- if the next field names an edit, the same holds with this edit added
   pub edits_then-more : (field : A) (edit : Edit) (found : Option Edit) (more : List Edit)
       → IsStep shown fields taken (Some field) → found ≡ Some edit
       → option_map edit_value found ≡ edit_of_field (shown field) → more ≡ edits ++ edit ∷ []
@@ -57,7 +59,7 @@ module _ {A : Type 0} (shown : A → List ℕ) (fields : List (List ℕ)) (taken
       ∙ map_before done (edit_value edit) (edits_of_fields left))
       ∙ so_far
 
-  -- the next field names none
+  -- if the next field names no edit, the fields as a whole name no edits
   pub edits_then-bad : (field : A) (found : Option Edit) → IsStep shown fields taken (Some field)
       → found ≡ None → option_map edit_value found ≡ edit_of_field (shown field)
       → None ≡ edits_of_fields fields
@@ -65,7 +67,7 @@ module _ {A : Type 0} (shown : A → List ℕ) (fields : List (List ℕ)) (taken
       sym (edits_then-next (map edit_value edits) fields (length taken) (shown field) None h
       (sym (ap (option_map edit_value) is) ∙ e)) ∙ so_far
 
-  -- no field is left
+  -- if no field remains, the edits so far are the edits of all fields
   pub edits_then-all : IsStep shown fields taken None
       → Some (map edit_value edits) ≡ edits_of_fields fields
   edits_then-all h =
@@ -77,22 +79,22 @@ module _ {A : Type 0} (shown : A → List ℕ) (fields : List (List ℕ)) (taken
 abbrev are_edits : List (List ℕ) → Bool
 are_edits fields = list_all (λ field. is_some (edit_of_field field)) fields
 
--- the edit of one field before those of others, if all of these are known
-edit_before-known : (edit : Option EditValue) (known : Bool) (edits : List EditValue)
-    → edit_before edit (if known then Some edits else None)
+-- this edit, followed by these edits, or `None` unless there is an edit and `known` is true
+prepend_edit-known : (edit : Option EditValue) (known : Bool) (edits : List EditValue)
+    → prepend_edit edit (if known then Some edits else None)
     ≡ (if is_some edit && known then Some (cons_option edit edits) else None)
-edit_before-known None known edits = refl
-edit_before-known (Some edit) true edits = refl
-edit_before-known (Some edit) false edits = refl
+prepend_edit-known None known edits = refl
+prepend_edit-known (Some edit) true edits = refl
+prepend_edit-known (Some edit) false edits = refl
 
 edits_of_fields-known : (fields : List (List ℕ)) → edits_of_fields fields
     ≡ (if are_edits fields then Some (filter_map edit_of_field fields) else None)
 edits_of_fields-known [] = refl
 edits_of_fields-known (field ∷ fields) =
-    ap (edit_before (edit_of_field field)) (edits_of_fields-known fields)
-    ∙ edit_before-known (edit_of_field field) (are_edits fields) (filter_map edit_of_field fields)
+    ap (prepend_edit (edit_of_field field)) (edits_of_fields-known fields)
+    ∙ prepend_edit-known (edit_of_field field) (are_edits fields) (filter_map edit_of_field fields)
 
--- the answer to the edits that these fields name
+-- the answer to the edits that these fields name is the answer of the command `edit`
 pub edited_answer-fields : (path : List ℕ) (fields : List (List ℕ))
     → edited_answer path (edits_of_fields fields) ≡ edit_answer path fields
 edited_answer-fields path fields =

@@ -13,12 +13,12 @@ use Rattle.unix_bytes.specs.declared.bytes.UnixStr.{UnixStr}
 use Rattle.pathtool.specs.Fields.{tabs}
 use Rattle.pathtool.specs.Steps.{tab, names_bytes}
 
--- whether a list has no item
+-- the list has no items
 abbrev pub has_none : List (List ℕ) → Bool
 has_none [] = true
 has_none (item ∷ items) = false
 
--- a list with an item behind its others: a tab stands before the item unless it is alone
+-- a list with one more item at its end: a tab comes before the item unless it is the only one
 tabs-push : (items : List (List ℕ)) (item : List ℕ)
     → tabs (items ++ item ∷ []) ≡ tabs items ++ (if has_none items then item else tab ∷ item)
 tabs-push [] item = refl
@@ -31,7 +31,8 @@ is_not_first : (items : List (List ℕ)) (item : List ℕ) → false ≡ has_non
 is_not_first [] item = refl
 is_not_first (x ∷ items) item = refl
 
--- if a list was added, and then an item, the list with that item was added, and it isn't empty
+-- if a list was appended, and then an item, the list with that item was appended, and it isn't
+-- empty
 pub adds_item : (items : List (List ℕ)) (item : List ℕ) {more : List (List ℕ)} (is_first : Bool)
     (old said new : List ℕ) → more ≡ items ++ item ∷ [] → is_first ≡ has_none items
     → said ≡ old ++ tabs items → new ≡ said ++ (if is_first then item else tab ∷ item)
@@ -43,7 +44,8 @@ adds_item items item is_first old said new all first so_far is = (
       ∙ ap (λ said. old ++ said) (sym (tabs-push items item) ∙ ap tabs (sym all)),
 )
 
--- if the names that an iterator gave up to its end were added, the list that it yields was added
+-- if the names that an iterator returned up to its end were appended, the list that it yields was
+-- appended
 pub adds_list : {T E S : Type 0} (r : Result T E) (new old : List ℕ) {all : List (List ℕ)} {s : S}
     {steps : S → Option UnixStr → S → Type 0} → YieldsList steps (λ name. name.bytes.now) s all
     → OnOk r ((names : List UnixStr) × Drains steps s names

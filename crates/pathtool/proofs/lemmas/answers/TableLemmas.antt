@@ -1,4 +1,4 @@
--- What a table of some paths holds, and what it answers of a base.
+-- The entries of a table of some paths, and what it finds under a base.
 use Rattle.std.proofs.Common.{◌≡◌, ℕ, ◌+◌, List, [], ◌∷◌, ◌++◌, map, drop, length, Some, None}
 use Rattle.std.proofs.Common.{sym, ap, ap₂, ◌∙◌, arith}
 use Rattle.std.specs.BTreeMap.{insert_entry}
@@ -9,17 +9,17 @@ use Rattle.unix_path.specs.Order.{values_cmp}
 use Rattle.unix_path.specs.Parts.{Value, values}
 use Rattle.unix_path.specs.declared.path.Path.{Path}
 use Rattle.path_runs.specs.Spelling.{spelling_of}
-use Rattle.path_table.specs.Table.{answer_row, entries_under}
+use Rattle.path_table.specs.Table.{item_row, entries_under}
 use Rattle.pathtool.specs.Fields.{tabs}
 use Rattle.pathtool.specs.Tables.{entries_with, under_answer}
 use Rattle.pathtool.specs.Steps.{row_spelling}
 use Rattle.pathtool.proofs.lemmas.lines.LoopLemmas.{IsStep}
 
--- these entries, with the paths that are left put in, are all entries
+-- these entries, with the remaining paths inserted, are all entries
 module _ {A : Type 0} (shown : A → List ℕ) (paths : List (List ℕ)) (yielded : List A)
     (entries all : List (List Value × Unit {0}))
     (so_far : entries_with entries (drop (length yielded) paths) ≡ all) where
-  -- the next path was put in
+  -- if the next path is inserted, the same holds for the paths after it
   pub entries_with-more : (path : A) (more : List (List Value × Unit {0}))
       → IsStep shown paths yielded (Some path)
       → more ≡ insert_entry values_cmp entries (values (shown path)) tt
@@ -32,19 +32,20 @@ module _ {A : Type 0} (shown : A → List ℕ) (paths : List (List ℕ)) (yielde
       (drop (n + 1) paths)) (sym h.1))
       ∙ so_far
 
-  -- no path is left
+  -- if no path remains, the entries are all entries
   pub entries_with-all : IsStep shown paths yielded None → entries ≡ all
   entries_with-all h =
       sym (at_drop_all (entries_with entries) paths (length yielded) (omega (arith, h))) ∙ so_far
 
--- what a table answers of a base is the answer to the line
+-- what a table of the paths finds under a base, in canonical form, is the answer of the command
+-- `under`
 pub under_answer-found : (base : List ℕ) (paths : List (List ℕ))
     (found : List (Path × Bor (Unit {0}))) (key : List ℕ) (table : List (List Value × Unit {0}))
     → key ≡ base → table ≡ entries_with [] paths
-    → map answer_row found ≡ entries_under (values key) table
+    → map item_row found ≡ entries_under (values key) table
     → tabs (map row_spelling found) ≡ under_answer base paths
 under_answer-found base paths found key table same holds is =
     let spell = λ (row : List Value × Unit {0}). spelling_of row.0 in
-    ap tabs (sym (map-map spell answer_row found)
+    ap tabs (sym (map-map spell item_row found)
     ∙ ap (map spell)
     (is ∙ ap₂ (λ key table. entries_under (values key) table) same holds))

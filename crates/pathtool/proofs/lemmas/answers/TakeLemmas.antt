@@ -1,4 +1,4 @@
--- What a walk took, as it is answered.
+-- What a walk took, as an answer.
 use Rattle.std.proofs.Common.{◌≡◌, ℕ, false, true, ◌≤◌, List, [], ◌∷◌, ◌++◌, map, length}
 use Rattle.std.proofs.Common.{refl, sym, ap, ap₂, ◌∙◌, append_assoc, take, reverse}
 use Rattle.std.proofs.Common.{arith, is_some}
@@ -21,13 +21,15 @@ use Rattle.pathtool.specs.Fields.{tabs, bad_command}
 use Rattle.pathtool.specs.Steps.{tab, components_bytes, walked_items}
 use Rattle.pathtool.specs.Walks.{part_bytes, turn_of, walk_items, walk_answer}
 
--- a list of two or more items is the first, a tab, and the list of the others
+-- a list of two or more items, joined by tabs, is the first item, a tab, and the other items joined
+-- by tabs
 tabs-cons : (item : List ℕ) (xs : List (List ℕ)) (y : List ℕ) (ys : List (List ℕ))
     → tabs (item ∷ (xs ++ y ∷ ys)) ≡ item ++ tab ∷ tabs (xs ++ y ∷ ys)
 tabs-cons item [] y ys = refl
 tabs-cons item (x ∷ xs) y ys = refl
 
--- two counts with a tab behind each, and the list of the other items, are one list
+-- two counts, each followed by a tab, and then the other items joined by tabs, are all these items
+-- joined by tabs
 pub tabs-counted : (k m : List ℕ) (front : List (List ℕ)) (rest : List ℕ)
     (behind : List (List ℕ))
     → (((k ++ tab ∷ []) ++ m) ++ tab ∷ []) ++ tabs ((front ++ rest ∷ []) ++ behind)
@@ -40,7 +42,7 @@ tabs-counted k m front rest behind =
     ∙ append_assoc (k ++ tab ∷ []) m (tab ∷ more) ∙ append_assoc k (tab ∷ []) (m ++ tab ∷ more)
     ∙ ap (λ more. k ++ tab ∷ more) (sym (tabs-cons m front rest behind))
 
--- no more parts are taken than there are
+-- no more components are taken than there are
 pub front_turns-le : (n : ℕ) (turns : List Turn) → front_turns n turns ≤ n
 front_turns-le n turns =
     omega (arith, count_by-le-length is_front (take n turns), length-take n turns)

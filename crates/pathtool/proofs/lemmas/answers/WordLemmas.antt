@@ -1,4 +1,4 @@
--- The words of answers, behind the bytes of a path.
+-- The words for answers, after the bytes of a path.
 use Rattle.std.proofs.Common.{◌≡◌, ℕ, ◌+◌, ◌<◌, List, [], ◌∷◌, ◌++◌, map, length, get_or, drop}
 use Rattle.std.proofs.Common.{sym, ap, ◌∙◌, append-nil, append_assoc}
 use Rattle.std.proofs.lemmas.List.{at_drop_more}
@@ -7,14 +7,14 @@ use Rattle.pathtool.specs.Fields.{tabs}
 use Rattle.pathtool.specs.EditFields.{answer_word}
 use Rattle.pathtool.specs.Steps.{tab, words_of}
 
--- a list of some bytes and of answers' words is the bytes, and each word behind a tab
+-- a list of some bytes and the words for answers is the bytes, followed by each word after a tab
 pub tabs-words : (bytes : List ℕ) (answers : List Answer)
     → tabs (bytes ∷ map answer_word answers) ≡ bytes ++ words_of answers
 tabs-words bytes [] = sym (append-nil bytes)
 tabs-words bytes (answer ∷ answers) =
     ap (λ more. bytes ++ tab ∷ more) (tabs-words (answer_word answer) answers)
 
--- bytes, a tab, the next word, and then the words that follow are the bytes and all words left
+-- bytes, a tab, the next word, and then the words that follow are the bytes and all remaining words
 pub words-push : (bytes : List ℕ) (answers : List Answer) (n : ℕ) (d : Answer) → n < length answers
     → ((bytes ++ tab ∷ []) ++ answer_word (get_or answers n d)) ++ words_of (drop (n + 1) answers)
     ≡ bytes ++ words_of (drop n answers)

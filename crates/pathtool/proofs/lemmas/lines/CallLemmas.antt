@@ -1,15 +1,15 @@
--- Calls behind calls.
+-- Calls in a row, followed by more calls.
 use Rattle.std.proofs.Common.{ℕ, suc, ◌+◌, add-one, List, Result}
 use Rattle.std.specs.declared.io.Error.{Error}
-use Rattle.pathtool.specs.Calls.{Calls, Many, WritesSome, WritesOn}
+use Rattle.pathtool.specs.Calls.{Calls, Many, WritesSome, WritesUntilNone}
 use Rattle.pathtool.specs.Calls.Calls.{none, more}
 
--- one more call behind some
+-- any number of calls and one more call are again a number of calls
 pub Many-more : {S : Type 0} {call : S → S → Type 0} {s u t : S} → Many call s u → call u t
     → Many call s t
 Many-more (n, before) last = (suc n, more before last)
 
--- no call
+-- no call at all is also a number of calls
 pub Many-none : {S : Type 0} {call : S → S → Type 0} (s : S) → Many call s s
 Many-none s = (0, none)
 
@@ -18,17 +18,18 @@ Calls-then : {S : Type 0} {call : S → S → Type 0} {s u t : S} {n : ℕ} → 
 Calls-then before none = before
 Calls-then before (more calls last) = Many-more (Calls-then before calls) last
 
--- some calls behind some
+-- any number of calls, followed by any number of calls, are again a number of calls
 pub Many-then : {S : Type 0} {call : S → S → Type 0} {s u t : S} → Many call s u → Many call u t
     → Many call s t
 Many-then before (n, calls) = Calls-then before calls
 
--- writes behind writes that took some bytes
-pub WritesOn-then : {S : Type 0} (gives : S → List ℕ → Result ℕ Error → S → Type 0) {s u t : S}
-    → Many (WritesSome gives) s u → WritesOn gives u t → WritesOn gives s t
-WritesOn-then gives before (v, calls, last) = (v, Many-then before calls, last)
+-- writes that wrote some bytes, followed by `WritesUntilNone`, are `WritesUntilNone`
+pub WritesUntilNone-then : {S : Type 0} (gives : S → List ℕ → Result ℕ Error → S → Type 0)
+    {s u t : S}
+    → Many (WritesSome gives) s u → WritesUntilNone gives u t → WritesUntilNone gives s t
+WritesUntilNone-then gives before (v, calls, last) = (v, Many-then before calls, last)
 
--- one more call behind n
+-- n calls and one more call are n + 1 calls
 pub Calls-more : {S : Type 0} {call : S → S → Type 0} {s u t : S} {n : ℕ} → Calls call s n u
     → call u t → Calls call s (n + 1) t
 Calls-more before last = rw add-one (more before last)

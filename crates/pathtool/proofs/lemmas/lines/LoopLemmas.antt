@@ -1,15 +1,17 @@
--- Steps of a loop over an iterator that yields a list, which is known after the steps so far.
+-- Steps of a loop over an iterator that yields a list. After each step, the position in the list is
+-- known.
 use Rattle.std.proofs.Common.{◌≡◌, ◌<◌, List, length, get_or, Option, Some, None, refl}
 use Rattle.std.specs.Iterator.{Yields}
 use Rattle.std.proofs.lemmas.Iterator.{YieldsList}
 use Rattle.std.proofs.lemmas.Iterator.Consumers.{YieldsList-turn, YieldsList-end}
 
--- an item is the next of the list, and if none comes the list is at its end
+-- after the items xs, x is the next item of the list, and `None` means that the list is at its end
 abbrev pub IsStep : {A B : Type 0} → (A → B) → List B → List A → Option A → Type 0
 IsStep v all xs (Some x) = (length xs < length all) × (v x ≡ get_or all (length xs) (v x))
 IsStep v all xs None = length xs ≡ length all
 
--- each step of a loop over such an iterator is one of the list that the iterator yields
+-- each step of a loop over such an iterator takes the next item of the list that the iterator
+-- yields
 pub step_of : {S A B : Type 0} {steps : S → Option A → S → Type 0} {v : A → B} {s : S}
     {all : List B} (xs : List A) (t : S) → Yields steps s xs t → (r : Option A) (u : S)
     → steps t r u → YieldsList steps v s all → IsStep v all xs r

@@ -2,7 +2,7 @@ use Rattle.std.proofs.Common.{ap, map-id, rules, tests}
 use Rattle.std.proofs.lemmas.Iterator.{YieldsList-from_map_by}
 use Rattle.std.proofs.lemmas.Iterator.Consumers.{YieldsList-at, YieldsList-from_first}
 use Rattle.unix_path.specs.Cursor.{name_bytes}
-use Rattle.unix_path.specs.Ancestors.{ancestors_left}
+use Rattle.unix_path.specs.Ancestors.{remaining_ancestors}
 use Rattle.unix_path.specs.Parents.{ancestors_of}
 use Rattle.pathtool.proofs.lemmas.answers.AddLemmas.{adds}
 use Rattle.pathtool.proofs.lemmas.answers.TabbedLemmas.{adds_list}
@@ -17,6 +17,7 @@ returns c =
     (adds_list c.push_list.result _ _
     (YieldsList-from_map_by _ name_bytes (λ bytes. bytes)
     (YieldsList-at c.map.ensures.source
-    (YieldsList-from_first (λ path. path.bytes.now) ancestors_left all c.ancestors.ensures.left))
+    (YieldsList-from_first (λ path. path.bytes.now) remaining_ancestors all
+    c.ancestors.ensures.pending))
     c.map.ensures.closure (λ x r q k. search (rules, tests)))
     c.push_list.ensures)

@@ -5,15 +5,15 @@ use Rattle.pathtool.specs.Calls.{Many, WritesSome}
 use Rattle.pathtool.specs.Watched.{has_failed, watched_inner}
 use Rattle.pathtool.proofs.run.write_answers.Given as goal
 
-abbrev pub invariant-loop-left : goal.invariant-loop-left
-invariant-loop-left g l =
+abbrev pub invariant-loop-unanswered : goal.invariant-loop-unanswered
+invariant-loop-unanswered g l =
     (has_failed l.writer ≡ false)
     × ((done : List ℕ)
     × Appends (g.W.Sink.contents (watched_inner l.initial.writer))
     (g.W.Sink.contents (watched_inner l.writer)) done
-    × (done ++ output_of l.left ≡ output_of l.input))
+    × (done ++ output_of l.unanswered ≡ output_of l.input))
     × Many (WritesSome g.W.Sink.write_gives) (watched_inner l.initial.writer)
     (watched_inner l.writer)
 
-abbrev pub decreases-loop-left : goal.decreases-loop-left
-decreases-loop-left g l = length l.left
+abbrev pub decreases-loop-unanswered : goal.decreases-loop-unanswered
+decreases-loop-unanswered g l = length l.unanswered

@@ -8,7 +8,7 @@ use Rattle.pathtool.proofs.lemmas.answers.TableLemmas.{entries_with-more, entrie
 use Rattle.pathtool.proofs.tables.insert_paths.Goals as goal
 use Rattle.pathtool.proofs.tables.insert_paths.Goals.{After-next}
 
--- the loop goes over the fields
+-- each step of the loop takes the next field, and the loop ends after the last field
 field_step : (c : After-next)
     → IsStep (λ x. x.now) (fields_of c.args.fields.now) c.loop-bytes.yielded c.next.result
 field_step c =

@@ -10,7 +10,7 @@ loop-path-preserved c =
     let (first, so_far) = c.loop-path.invariant in
     adds_item _ _ _ _ _ _
     (map_more row_spelling c.args.paths.now c.loop-path.path-index _ c.loop-path-test.true)
-    first so_far c.in_ok-push_spelled.ensures
+    first so_far c.in_ok-push_canon_item.ensures
 
 pub returns : goal.returns
 returns c =

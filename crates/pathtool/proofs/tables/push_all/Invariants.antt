@@ -4,7 +4,7 @@ use Rattle.pathtool.specs.Steps.{row_spelling}
 use Rattle.pathtool.proofs.lemmas.answers.TabbedLemmas.{has_none}
 use Rattle.pathtool.proofs.tables.push_all.Given as goal
 
--- the paths so far were added
+-- the canonical forms of the paths so far have been appended, with tabs between them
 abbrev pub invariant-loop-path : goal.invariant-loop-path
 invariant-loop-path l =
     let spelled = map row_spelling (take l.path-index l.paths) in

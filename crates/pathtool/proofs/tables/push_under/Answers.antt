@@ -1,6 +1,6 @@
 use Rattle.std.proofs.Common.{ap, ◌∙◌, map}
 use Rattle.pathtool.specs.Fields.{tabs}
-use Rattle.pathtool.specs.Others.{other_fields}
+use Rattle.pathtool.specs.ExtraFields.{extra_fields}
 use Rattle.pathtool.specs.Steps.{row_spelling}
 use Rattle.pathtool.proofs.lemmas.answers.AddLemmas.{adds}
 use Rattle.pathtool.proofs.lemmas.answers.TableLemmas.{under_answer-found}
@@ -10,6 +10,6 @@ pub returns : goal.returns
 returns c =
     adds c.push_all.result _ _
     (ap (λ paths. tabs (map row_spelling paths)) c.as_slice.ensures.value
-    ∙ under_answer-found c.args.base.bytes.now (other_fields c.args.others) _ _ _
+    ∙ under_answer-found c.args.base.bytes.now (extra_fields c.args.extra) _ _ _
     c.in_ok-base.ensures.bytes c.in_ok-table.ensures c.in_ok-found.ensures.rows)
     c.push_all.ensures

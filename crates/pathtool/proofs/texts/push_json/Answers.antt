@@ -5,6 +5,6 @@ use Rattle.pathtool.proofs.texts.push_json.Goals as goal
 
 pub returns-in-Err-NotUtf8 : goal.returns-in-Err-NotUtf8
 returns-in-Err-NotUtf8 c =
-    adds c.push_refusal.result _ _
-    (sym (json_of-other c.args.path.bytes.now (c.in-Err-NotUtf8.ensures.refused.0 (search rules))))
-    c.push_refusal.ensures
+    adds c.push_not_utf8.result _ _
+    (sym (json_of-other c.args.path.bytes.now (c.in-Err-NotUtf8.ensures.not_utf8.0 (search rules))))
+    c.push_not_utf8.ensures

@@ -4,7 +4,7 @@ use Rattle.std.proofs.lemmas.Iterator.Consumers.{YieldsList-at, YieldsList-from_
 use Rattle.unix_path.specs.Parts.{value_bytes}
 use Rattle.unix_path.specs.Views.{value_of}
 use Rattle.unix_path.specs.Cursor.{name_bytes}
-use Rattle.pathtool.proofs.lemmas.answers.AddLemmas.{adds_behind}
+use Rattle.pathtool.proofs.lemmas.answers.AddLemmas.{adds_after}
 use Rattle.pathtool.proofs.lemmas.answers.TabbedLemmas.{adds_list, once_yields}
 use Rattle.pathtool.proofs.lemmas.answers.TakeLemmas.{tabs-counted}
 use Rattle.pathtool.proofs.walks.push_walked.Goals as goal
@@ -12,7 +12,7 @@ use Rattle.pathtool.proofs.walks.push_walked.Goals as goal
 pub returns : goal.returns
 returns c =
     let walked = c.args.walked.now in
-    adds_behind c.push_list.result _ _ _ _ _ c.in_ok-push_counts.ensures
+    adds_after c.push_list.result _ _ _ _ _ c.in_ok-push_counts.ensures
     (tabs-counted _ _ _ walked.rest.bytes.now _)
     (adds_list c.push_list.result _ _
     (YieldsList-from_chain (YieldsList-at c.chain-2.ensures.first

@@ -3,12 +3,13 @@ use Rattle.std.specs.Str.{IsUtf8}
 use Rattle.std.proofs.lemmas.List.{take_rest}
 use Rattle.unix_bytes.specs.Lossy.{lossy_of}
 use Rattle.unix_bytes.specs.Chunks.{replacement_for}
-use Rattle.unix_bytes.proofs.lemmas.stretches.PushLemmas.{lossy_is_utf8}
-use Rattle.unix_bytes.proofs.lemmas.stretches.PrinterLemmas.{pushes_buffer}
+use Rattle.unix_bytes.proofs.lemmas.prefixes.PushLemmas.{lossy_is_utf8}
+use Rattle.unix_bytes.proofs.lemmas.prefixes.PrinterLemmas.{pushes_buffer}
 use Rattle.unix_bytes.proofs.bytes.lossy_string.Goals as goal
 use Rattle.unix_bytes.proofs.bytes.lossy_string.Goals.{In_ok-push_lossy}
 
--- the bytes are the text, then U+FFFD if bytes are broken, then the lossy text of the rest
+-- the bytes are the valid prefix, then U+FFFD if there are invalid bytes, then the lossy form of
+-- the rest
 whole_bytes : (c : In_ok-push_lossy) → c.push_lossy.new.bytes.items
     ≡ (c.args.text.now ++ replacement_for c.args.broken.now) ++ lossy_of c.args.rest.now
 whole_bytes c =

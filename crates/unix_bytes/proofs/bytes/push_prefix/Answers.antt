@@ -1,5 +1,5 @@
 use Rattle.std.proofs.Common.{arith}
-use Rattle.unix_bytes.proofs.lemmas.stretches.PushLemmas.{first_of_sixteen}
+use Rattle.unix_bytes.proofs.lemmas.prefixes.PushLemmas.{first_of_sixteen}
 use Rattle.unix_bytes.proofs.bytes.push_prefix.Goals as goal
 
 pub returns : goal.returns

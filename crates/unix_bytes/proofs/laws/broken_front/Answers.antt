@@ -8,5 +8,5 @@ returns-clause-begins c = fronts_begin
 pub returns-clause-longest : goal.returns-clause-longest
 returns-clause-longest c = front_is_longest
 
-pub returns-clause-short : goal.returns-clause-short
-returns-clause-short c = broken_is_short
+pub returns-clause-len_bound : goal.returns-clause-len_bound
+returns-clause-len_bound c = broken_is_short

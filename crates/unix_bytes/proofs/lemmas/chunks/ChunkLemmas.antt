@@ -1,4 +1,5 @@
--- Chunks: the longest prefix that is text, the broken front behind it, and then further chunks.
+-- The first chunk, which is the longest valid prefix and the front after it, and the chunks of the
+-- rest.
 use Rattle.std.proofs.Common.{◌≡◌, ℕ, zero, suc, ◌+◌, ◌<◌, ◌≤◌, List, [], ◌∷◌, ◌++◌, length, take}
 use Rattle.std.proofs.Common.{drop, false, eqb, if◌then◌else◌, ⊎_elim, inr, refl, sym, ap, ◌∙◌}
 use Rattle.std.proofs.Common.{subst, arith, le_refl, length-drop, length-take-le, take-append-drop}
@@ -26,7 +27,7 @@ use Rattle.unix_bytes.proofs.lemmas.lossy.LossyLemmas.{length-drop-some}
 use Rattle.unix_bytes.proofs.lemmas.lossy.LossyLemmas.{fronts_of-text, is_sequence-longest_front_of}
 use Rattle.unix_bytes.proofs.lemmas.lossy.LossyLemmas.{lossy_of-nil, lossy_of-append, lossy_of-none}
 
--- the longest prefix of text that is text is the whole
+-- valid UTF-8 is its own longest valid prefix
 pub whole_text : (s : List ℕ) → IsUtf8 s → longest_len is_text s ≡ length s
 whole_text s u =
     longest_len-is is_text s (length s) (le_refl (length s))
@@ -34,19 +35,19 @@ whole_text s u =
     ∙ is_text-from_IsText s (IsText-from_IsUtf8 s u)))
     (λ k p q. absurd (omega arith))
 
--- the longest prefix that is text is text
+-- the longest prefix that passes `is_text` is valid UTF-8
 pub text_prefix : (s : List ℕ) → IsText (take (longest_len is_text s) s)
 text_prefix s =
     let n = longest_len is_text s in
     ⊎_elim (λ z. subst (λ j. IsText (take j s)) (sym z) IsText-nil)
     (λ p. IsText-from_is_text (take n s) p) (longest_len-longest is_text s).passes
 
--- the first part of the first chunk is text
+-- the `valid` part of the first chunk is valid UTF-8
 pub first_chunk_of-text : (s : List ℕ) → IsText (first_chunk_of s).valid
 unfolding first_chunk_of
 first_chunk_of-text s = text_prefix s
 
--- behind the longest prefix that is text no sequence stands
+-- of the bytes after the longest valid prefix, no prefix is a sequence
 pub none_after_text : (s : List ℕ)
     → longest_len is_sequence (drop (longest_len is_text s) s) ≡ 0
 none_after_text s =
@@ -68,7 +69,7 @@ none_after_text s =
     omega arith)
     seq.passes
 
--- the first chunk takes a byte or more
+-- the first chunk of a nonempty byte string has at least one byte
 pub chunk_some : (b : ℕ) (bs : List ℕ) → 1 ≤ chunk_len (first_chunk_of (b ∷ bs))
 unfolding first_chunk_of
 chunk_some b bs =
@@ -88,12 +89,12 @@ pub chunks_of-nil : chunks_of [] ≡ []
 unfolding chunks_of
 chunks_of-nil = ap (chunks_from []) fronts_of-nil
 
--- bytes of length 0 have no chunks
+-- a byte string of length 0 has no chunks
 pub chunks_of-empty : (s : List ℕ) → length s ≡ 0 → chunks_of s ≡ []
 chunks_of-empty [] e = chunks_of-nil
 chunks_of-empty (b ∷ bs) e = absurd (omega arith)
 
--- sequences are added to the text of a chunk
+-- sequences are appended to the `valid` part of a chunk
 chunks_from-sequences : (us : List (List ℕ)) (text : List ℕ) (rest : List (List ℕ))
     → list_all is_sequence us ≡ true
     → chunks_from text (us ++ rest) ≡ chunks_from (text ++ concat us) rest
@@ -104,7 +105,7 @@ chunks_from-sequences (u ∷ us) text rest h =
     cond-true _ _ _ k.0 ∙ chunks_from-sequences us (text ++ u) rest k.1
     ∙ ap (λ t. chunks_from t rest) (append_assoc text u (concat us))
 
--- a broken front, or the end, ends a chunk
+-- an invalid front, or the end, ends a chunk
 chunks_from-rest : (text t : List ℕ) → longest_len is_sequence t ≡ 0 → 0 < length (text ++ t)
     → chunks_from text (fronts_of t) ≡ record { valid = text; broken = longest_front_of t }
     ∷ chunks_from [] (fronts_of (drop (length (longest_front_of t)) t))
@@ -117,7 +118,8 @@ chunks_from-rest text (b ∷ bs) z some =
     ap (chunks_from text) (fronts_of-some b bs)
     ∙ cond-false _ _ _ (is_sequence-longest_front_of (b ∷ bs) z)
 
--- if no sequence stands behind some text, the first chunk is that text and the front behind it
+-- if v is valid UTF-8 and no prefix of t is a sequence, v and the first front of t are the first
+-- chunk
 chunks_of-append : (v t : List ℕ) → IsText v → longest_len is_sequence t ≡ 0
     → 0 < length (v ++ t)
     → chunks_of (v ++ t) ≡ record { valid = v; broken = longest_front_of t }
@@ -128,7 +130,7 @@ chunks_of-append v t h z some =
     ap (chunks_from []) cut ∙ chunks_from-sequences us [] (fronts_of t) all
     ∙ ap (λ x. chunks_from x (fronts_of t)) e ∙ chunks_from-rest v t z some
 
--- the chunks of some bytes are the first, and those of what follows it
+-- the chunks of a nonempty byte string are the first chunk and the chunks of the rest
 pub chunks_of-some : (b : ℕ) (bs : List ℕ) → chunks_of (b ∷ bs) ≡ first_chunk_of (b ∷ bs)
     ∷ chunks_of (drop (chunk_len (first_chunk_of (b ∷ bs))) (b ∷ bs))
 unfolding first_chunk_of
@@ -145,7 +147,7 @@ chunks_of-some b bs =
     ∙ ap (λ x. first_chunk_of s ∷ chunks_of x)
     (drop-drop k n s ∙ ap (λ j. drop (j + k) s) (sym e))
 
--- if no sequence stands at the beginning, U+FFFD is shown for the front, or nothing if it is empty
+-- if no prefix is a sequence, U+FFFD is shown for the first front, or nothing if there are no bytes
 lossy_of-rest : (t : List ℕ) → longest_len is_sequence t ≡ 0
     → lossy_of t ≡ replacement_for (longest_front_of t)
     ++ lossy_of (drop (length (longest_front_of t)) t)
@@ -158,7 +160,7 @@ lossy_of-rest (b ∷ bs) z =
     lossy_of-none b bs z
     ∙ ap (λ c. (if c then [] else replacement) ++ lossy_of (drop k s)) (sym e)
 
--- lossy text is the first chunk as it is shown, and the lossy text of what follows
+-- the lossy form is the first chunk as it is shown, and the lossy form of the rest
 lossy_of-chunk : (s : List ℕ) → lossy_of s
     ≡ shown_chunk (first_chunk_of s) ++ lossy_of (drop (chunk_len (first_chunk_of s)) s)
 unfolding first_chunk_of
@@ -175,7 +177,7 @@ lossy_of-chunk s =
     ∙ ap (λ x. (v ++ mark) ++ lossy_of x)
     (drop-drop (length b) n s ∙ ap (λ j. drop (j + length b) s) (sym e))
 
--- the chunks of at most n bytes, as they are shown, are the lossy text
+-- the chunks of at most n bytes, as they are shown, are the lossy form
 shows_lossy_within : (n : ℕ) (s : List ℕ) → length s ≤ n
     → flat_map shown_chunk (chunks_of s) ≡ lossy_of s
 shows_lossy_within n [] le = ap (flat_map shown_chunk) chunks_of-nil ∙ sym lossy_of-nil
@@ -189,6 +191,6 @@ shows_lossy_within (suc n) (b ∷ bs) le =
     (shows_lossy_within n (drop k s) (length-drop-some n k b bs (chunk_some b bs) le))
     ∙ sym (lossy_of-chunk s)
 
--- the chunks as they are shown are the lossy text
+-- the chunks as they are shown are the lossy form
 pub flat_map-shown_chunk : (s : List ℕ) → flat_map shown_chunk (chunks_of s) ≡ lossy_of s
 flat_map-shown_chunk s = shows_lossy_within (length s) s (le_refl (length s))

@@ -1,4 +1,4 @@
--- The first of the chunks, and whether it is the only one.
+-- The first chunk, and whether it is the only chunk.
 use Rattle.std.proofs.Common.{◌≡◌, ℕ, List, [], ◌∷◌, ◌++◌, sym, ap, ◌∙◌}
 use Rattle.std.proofs.Common.{subst, arith, append-nil}
 use Rattle.std.specs.List.{flat_map}
@@ -13,13 +13,13 @@ use Rattle.unix_bytes.proofs.lemmas.chunks.ChunkLemmas.{whole_text, chunks_of-ni
 use Rattle.unix_bytes.proofs.lemmas.chunks.ChunkLemmas.{first_chunk_of-text, flat_map-shown_chunk}
 use Rattle.unix_bytes.proofs.lemmas.chunks.PartitionLemmas.{chunks_partition, whole_chunk_is_last}
 
--- the chunk that stands first is `first_chunk_of`
+-- the first chunk is `first_chunk_of`
 pub first_chunk_is : (s : List ℕ) (c : Chunk) (cs : List Chunk) → chunks_of s ≡ c ∷ cs
     → first_chunk_of s ≡ c
 first_chunk_is [] c cs e = let h = chunks_of-nil in cc
 first_chunk_is (b ∷ bs) c cs e = let h = chunks_of-some b bs in cc
 
--- if the first chunk has no broken bytes, its text is all of the bytes
+-- if the first chunk has no invalid bytes, its `valid` part is the whole byte string
 pub only_chunk : (s : List ℕ) (c : Chunk) (cs : List Chunk) → chunks_of s ≡ c ∷ cs
     → c.broken ≡ [] → c.valid ≡ s
 only_chunk s c cs e z =
@@ -28,19 +28,19 @@ only_chunk s c cs e z =
     sym (append-nil c.valid) ∙ ap (λ b. c.valid ++ b) (sym z) ∙ sym (append-nil (bytes c))
     ∙ ap (flat_map bytes) (ap (λ t. c ∷ t) (sym none) ∙ sym e) ∙ chunks_partition s
 
--- if the first chunk has no broken bytes, all of the bytes are text
+-- if the first chunk has no invalid bytes, the whole byte string is valid UTF-8
 pub only_text : (s : List ℕ) (c : Chunk) (cs : List Chunk) → chunks_of s ≡ c ∷ cs
     → c.broken ≡ [] → IsText s
 only_text s c cs e z =
     subst IsText (ap (λ (x : Chunk). x.valid) (first_chunk_is s c cs e) ∙ only_chunk s c cs e z)
     (first_chunk_of-text s)
 
--- the first chunk and those behind it, as they are shown, are the lossy text
+-- the first chunk and the chunks after it, as they are shown, are the lossy form
 pub lossy_of-first_chunk : (s : List ℕ) (c : Chunk) (cs : List Chunk) → chunks_of s ≡ c ∷ cs
     → shown_chunk c ++ flat_map shown_chunk cs ≡ lossy_of s
 lossy_of-first_chunk s c cs e = ap (flat_map shown_chunk) (sym e) ∙ flat_map-shown_chunk s
 
--- the first chunk of text has no broken bytes
+-- the first chunk of valid UTF-8 has no invalid bytes
 pub text_has_none_broken : (s : List ℕ) (c : Chunk) (cs : List Chunk) → chunks_of s ≡ c ∷ cs
     → IsText s → c.broken ≡ []
 unfolding first_chunk_of

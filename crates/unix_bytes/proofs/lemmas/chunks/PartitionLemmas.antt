@@ -1,4 +1,4 @@
--- Chunks partition the bytes: how many there are, what each has, and which is the last.
+-- Chunks partition the bytes: their number, their contents, and which chunk is the last.
 use Rattle.std.proofs.Common.{◌≡◌, ℕ, zero, suc, ◌+◌, ◌≤◌, List, [], ◌∷◌, ◌++◌, length, take, drop}
 use Rattle.std.proofs.Common.{refl, sym, ap, ◌∙◌, subst, arith, le_refl, append_assoc}
 use Rattle.std.proofs.Common.{length-append, length-drop, length-take-le, take-append-drop}
@@ -22,7 +22,7 @@ use Rattle.unix_bytes.proofs.lemmas.chunks.ChunkLemmas.{chunks_of-nil}
 use Rattle.unix_bytes.proofs.lemmas.chunks.ChunkLemmas.{chunks_of-some}
 use Rattle.unix_bytes.proofs.lemmas.lossy.LawLemmas.{longest_front_is_short}
 
--- the first chunk, and the chunks of what follows it, are as the law of chunks says
+-- the first chunk and the chunks of the rest fit `FollowFirst`
 follow_first : (s : List ℕ)
     → FollowFirst s (first_chunk_of s) (chunks_of (drop (chunk_len (first_chunk_of s)) s))
 unfolding first_chunk_of
@@ -62,11 +62,11 @@ length_within (suc n) (b ∷ bs) le =
     let left = length_within n (drop k (b ∷ bs)) (length-drop-some n k b bs some le) in
     omega (arith, some, left, length-drop k (b ∷ bs), ap length (chunks_of-some b bs))
 
--- bytes have no more chunks than bytes
+-- there are no more chunks than bytes
 pub length-chunks_of : (s : List ℕ) → length (chunks_of s) ≤ length s
 length-chunks_of s = length_within (length s) s (le_refl (length s))
 
--- a prefix, a prefix of what follows, and the rest are the bytes
+-- a prefix, a prefix of the rest, and what remains after both are together the bytes
 two_prefixes : (s : List ℕ) (n k : ℕ) → n ≤ length s
     → (take n s ++ take k (drop n s)) ++ drop (length (take n s) + length (take k (drop n s))) s ≡ s
 two_prefixes s n k w =
@@ -80,7 +80,7 @@ two_prefixes s n k w =
     append_assoc v b _ ∙ ap (λ x. v ++ (b ++ x)) back
     ∙ ap (λ x. v ++ x) (sym e) ∙ take-append-drop n s
 
--- the two parts of the first chunk, and what follows them, are the bytes
+-- the two parts of the first chunk, and the rest, are together the bytes
 first_chunk_of-drop : (s : List ℕ) → (first_chunk_of s).valid ++ (first_chunk_of s).broken
     ++ drop (chunk_len (first_chunk_of s)) s ≡ s
 unfolding first_chunk_of longest_front_of
@@ -106,16 +106,16 @@ partition_within (suc n) (b ∷ bs) l =
 pub chunks_partition : ChunksPartition
 chunks_partition s = partition_within (length s) s (le_refl (length s))
 
--- at most three bytes of the first chunk are broken
+-- at most three bytes of the first chunk are invalid
 first_is_short : (s : List ℕ) → length (first_chunk_of s).broken ≤ 3
 unfolding first_chunk_of
 first_is_short s = longest_front_is_short (drop (longest_len is_text s) s) (none_after_text s)
 
--- at most three bytes of the chunk are broken
+-- at most three bytes of the chunk are invalid
 abbrev IsShort : Chunk → Type 0
 IsShort c = length c.broken ≤ 3
 
--- at most three bytes of each chunk of at most n bytes are broken
+-- at most three bytes of each chunk of at most n bytes are invalid
 short_within : (n : ℕ) (s : List ℕ) → length s ≤ n → All IsShort (chunks_of s)
 short_within n [] l = subst (All IsShort) (sym chunks_of-nil) (All-nil IsShort)
 short_within zero (b ∷ bs) l = absurd (omega arith)
@@ -129,7 +129,7 @@ short_within (suc n) (b ∷ bs) l =
 pub chunks_are_short : ChunksAreShort
 chunks_are_short s = short_within (length s) s (le_refl (length s))
 
--- only the empty byte string has an empty longest front
+-- only the empty byte string has an empty first front
 longest_front_of-empty : (s : List ℕ) → longest_front_of s ≡ [] → s ≡ []
 longest_front_of-empty [] e = refl
 longest_front_of-empty (b ∷ bs) e =
@@ -137,7 +137,7 @@ longest_front_of-empty (b ∷ bs) e =
     let none : length (longest_front_of (b ∷ bs)) ≡ 0 = ap length e in
     absurd (omega arith)
 
--- if the first chunk has no broken bytes, nothing follows it
+-- if the first chunk has no invalid bytes, nothing follows it
 nothing_follows : (s : List ℕ) → (first_chunk_of s).broken ≡ []
     → drop (chunk_len (first_chunk_of s)) s ≡ []
 unfolding first_chunk_of
@@ -148,7 +148,7 @@ nothing_follows s e =
     omega (arith, v, ap length e) in
     ap (λ j. drop j s) k ∙ longest_front_of-empty (drop n s) e
 
--- of at most n bytes, a chunk with no broken bytes is the last
+-- among the chunks of at most n bytes, a chunk without invalid bytes is the last
 last_within : (n : ℕ) (s : List ℕ) (before after : List Chunk) (c : Chunk) → length s ≤ n
     → chunks_of s ≡ before ++ c ∷ after → c.broken ≡ [] → after ≡ []
 last_within n [] [] after c l e z = let h = chunks_of-nil in cc

@@ -5,11 +5,11 @@ use Rattle.std.proofs.lemmas.List.{drop-drop, drop_at}
 use Rattle.unix_bytes.specs.Lossy.{is_text}
 use Rattle.unix_bytes.specs.Chunks.{Chunk, chunks_of}
 use Rattle.unix_bytes.specs.Steps.{longest_len, longest_front_of, broken_len, first_chunk_of}
-use Rattle.unix_bytes.specs.Steps.{chunk_len, behind_text, Splits}
+use Rattle.unix_bytes.specs.Steps.{chunk_len, rest_after_text, Splits}
 use Rattle.unix_bytes.proofs.lemmas.lossy.BrokenLemmas.{longest_front_of-none}
 use Rattle.unix_bytes.proofs.lemmas.chunks.ChunkLemmas.{none_after_text, chunks_of-some}
 
--- the chunks of bytes of which the first chunk and what follows it are known
+-- the chunks of bytes whose first chunk and rest are known
 chunks_of-parts : (s valid broken rest : List ℕ) → 0 < length s → s ≡ valid ++ (broken ++ rest)
     → first_chunk_of s ≡ record { valid = valid; broken = broken }
     → chunks_of s ≡ record { valid = valid; broken = broken } ∷ chunks_of rest
@@ -24,19 +24,20 @@ chunks_of-parts (b ∷ bs) valid broken rest some e f =
     ∙ ap (drop (length broken)) (drop_at valid (broken ++ rest) (length valid) refl)
     ∙ drop_at broken rest (length broken) refl)
 
--- the chunk that is split off is the first
+-- if `Splits` holds, the valid prefix and the invalid front are the first chunk
 pub splits_first_chunk : {s valid broken rest : List ℕ} → 0 < length s → Splits s valid broken rest
     → chunks_of s ≡ record { valid = valid; broken = broken } ∷ chunks_of rest
 unfolding first_chunk_of
 splits_first_chunk {s} {valid} {broken} {rest} some p =
     let n = longest_len is_text s in
-    let k = broken_len (behind_text s) in
-    let e : longest_front_of (behind_text s) ≡ broken =
-    longest_front_of-none (behind_text s) (none_after_text s) ∙ sym p.front in
+    let k = broken_len (rest_after_text s) in
+    let e : longest_front_of (rest_after_text s) ≡ broken =
+    longest_front_of-none (rest_after_text s) (none_after_text s) ∙ sym p.front in
     let f : first_chunk_of s ≡ record { valid = valid; broken = broken } =
     ap₂ (λ x y. let c : Chunk = record { valid = x; broken = y } in c) (sym p.text) e in
-    let rest_is : behind_text s ≡ broken ++ rest =
-    sym (take-append-drop k (behind_text s)) ∙ ap₂ (λ x y. x ++ y) (sym p.front) (sym p.behind) in
+    let rest_is : rest_after_text s ≡ broken ++ rest =
+    sym (take-append-drop k (rest_after_text s))
+    ∙ ap₂ (λ x y. x ++ y) (sym p.front) (sym p.after) in
     let whole : s ≡ valid ++ (broken ++ rest) =
     sym (take-append-drop n s) ∙ ap₂ (λ x y. x ++ y) (sym p.text) rest_is in
     chunks_of-parts s valid broken rest some whole f

@@ -1,4 +1,4 @@
--- A test's two cases, and the first and the last elements of a list.
+-- The two cases of a test, and the first and last elements of a list.
 use Rattle.std.proofs.Common.{◌≡◌, ℕ, zero, suc, ◌+◌, ◌-◌, ◌≤◌, Bool, true, false, List, [], ◌∷◌}
 use Rattle.std.proofs.Common.{◌++◌, length, take, drop, Option, Some, refl, sym, ap, ◌∙◌, arith}
 use Rattle.std.proofs.Common.{length-drop}
@@ -6,7 +6,7 @@ use Rattle.std.specs.List.{last_or}
 use Rattle.std.specs.Prelude.{slice_range}
 use Rattle.std.proofs.lemmas.List.{length-take, take-take}
 
--- what holds if b is true, and holds if b is false, holds
+-- a goal that holds if b is true, and if b is false, holds
 pub by_test : {G : Type 0} (b : Bool) → (b ≡ true → G) → (b ≡ false → G) → G
 by_test true holds fails = holds refl
 by_test false holds fails = fails refl
@@ -18,27 +18,27 @@ take-suc_cons n x xs = ap (λ k. take k (x ∷ xs)) {x = 1 + n} {y = suc n} (ome
 pub drop-suc_cons : {A : Type 0} (n : ℕ) (x : A) (xs : List A) → drop (1 + n) (x ∷ xs) ≡ drop n xs
 drop-suc_cons n x xs = ap (λ k. drop k (x ∷ xs)) {x = 1 + n} {y = suc n} (omega arith)
 
--- the first n bytes of a beginning of s are the first n of s
+-- the first n bytes of a prefix of s are the first n of s
 pub take-beginning : (s u : List ℕ) (n : ℕ) → take (length u) s ≡ u → n ≤ length u
     → take n u ≡ take n s
 take-beginning s u n e l = ap (take n) (sym e) ∙ take-take n (length u) s l
 
--- a beginning of s is the first bytes of s, as many as it has
+-- the first k bytes of s are `take n s` if k is the length of `take n s`
 pub take-take_front : (n : ℕ) (s : List ℕ) → take (length (take n s)) s ≡ take n s
 take-take_front zero s = refl
 take-take_front (suc n) [] = refl
 take-take_front (suc n) (b ∷ s) = ap (λ t. b ∷ t) (take-take_front n s)
 
--- what stands from a to b has b - a bytes
+-- the range from a to b has b - a bytes
 pub length-range : (s : List ℕ) (a b : ℕ) → b ≤ length s → length (slice_range s a b) ≡ b - a
 length-range s a b l = omega (arith, length-take (b - a) (drop a s), length-drop a s)
 
--- a list is empty, or some elements and one behind them
+-- a list is empty, or is some list with one element appended
 pub data Snoc {X : Type 0} (xs : List X) : Type 0 where
   Empty : xs ≡ [] → Snoc xs
   Push : (ys : List X) (y : X) → xs ≡ ys ++ y ∷ [] → Snoc xs
 
--- with one more element in front, a list is still some elements and the same last one
+-- if a list is empty or has a last element, so does the list with one more element before it
 snoc-cons : {X : Type 0} (x : X) (xs : List X) → Snoc xs → Snoc (x ∷ xs)
 snoc-cons x xs (Empty e) = Push [] x (ap (λ ys. x ∷ ys) e)
 snoc-cons x xs (Push ys y e) = Push (x ∷ ys) y (ap (λ ys. x ∷ ys) e)
@@ -48,7 +48,7 @@ pub snoc : {X : Type 0} (xs : List X) → Snoc xs
 snoc [] = Empty refl
 snoc (x ∷ xs) = snoc-cons x xs (snoc xs)
 
--- the last element of a list with one more behind it is that one
+-- the last element of a list with an element appended is that element
 pub last_or-push : {X : Type 0} (o : Option X) (xs : List X) (y : X)
     → last_or o (xs ++ y ∷ []) ≡ Some y
 last_or-push o [] y = refl

@@ -1,4 +1,4 @@
--- How many bytes are broken at the beginning.
+-- The length of an invalid front at the beginning.
 use Rattle.std.proofs.Common.{◌≡◌, ℕ, ◌<◌, ◌≤◌, List, [], ◌∷◌, length, take, drop, slice_index}
 use Rattle.std.proofs.Common.{⊎_elim, sym, ap, ◌∙◌, arith, take-append-drop, length-drop}
 use Rattle.std.proofs.lemmas.Bool.{cases_Bool, cond-true, cond-false}
@@ -17,25 +17,25 @@ use Rattle.unix_bytes.proofs.lemmas.sequences.StepLemmas.{two_byte_sequence, thr
 use Rattle.unix_bytes.proofs.lemmas.sequences.StepLemmas.{four_byte_sequence}
 use Rattle.unix_bytes.proofs.lemmas.lossy.LossyLemmas.{is_sequence-longest_front_of}
 
--- the empty byte string has no broken bytes
+-- the empty byte string has no invalid front
 pub broken_len-empty : (s : List ℕ) → length s ≡ 0 → broken_len s ≡ 0
 broken_len-empty [] e =
     cond-false _ _ _ (ap is_sequence longest_front_of-nil ∙ is_sequence-nil)
     ∙ ap length longest_front_of-nil
 broken_len-empty (b ∷ bs) e = absurd (omega arith)
 
--- if no sequence stands at the beginning, the longest front is broken
+-- if no prefix is a sequence, the first front is invalid
 pub broken_len-none : (s : List ℕ) → longest_len is_sequence s ≡ 0
     → broken_len s ≡ length (longest_front_of s)
 broken_len-none s z = cond-false _ _ _ (is_sequence-longest_front_of s z)
 
--- if no sequence stands at the beginning, the longest front is the broken bytes
+-- if no prefix is a sequence, the first front is the first `broken_len s` bytes
 pub longest_front_of-none : (s : List ℕ) → longest_len is_sequence s ≡ 0
     → longest_front_of s ≡ take (broken_len s) s
 longest_front_of-none s z =
     longest_front_of-take s ∙ ap (λ k. take k s) (sym (broken_len-none s z))
 
--- if bytes are broken at the beginning, no sequence stands there
+-- if the first front is invalid, no prefix is a sequence
 pub no_sequence_first : (s : List ℕ) → 0 < broken_len s → longest_len is_sequence s ≡ 0
 no_sequence_first s some =
     let k = longest_len is_sequence s in
@@ -47,12 +47,12 @@ no_sequence_first s some =
     let z : broken_len s ≡ 0 = cond-true _ _ _ (ap is_sequence e ∙ h) in
     absurd (omega arith)) (longest_len-longest is_sequence s).passes
 
--- the longest front is no longer than the bytes
+-- the first front is no longer than the bytes
 longest_front_within : (s : List ℕ) → length (longest_front_of s) ≤ length s
 longest_front_within [] = let e = ap length longest_front_of-nil in omega arith
 longest_front_within (b ∷ bs) = (front_within b bs).1
 
--- no more bytes are broken than there are
+-- the invalid front is no longer than the bytes
 pub broken_len_within : (s : List ℕ) → broken_len s ≤ length s
 broken_len_within s =
     ⊎_elim (λ t. let e : broken_len s ≡ 0 = cond-true _ _ _ t in omega arith)
@@ -60,46 +60,50 @@ broken_len_within s =
     let e : broken_len s ≡ length (longest_front_of s) = cond-false _ _ _ f in
     omega (arith, longest_front_within s)) (cases_Bool (is_sequence (longest_front_of s)))
 
--- one byte is broken if the first two begin no sequence
+-- the invalid front is one byte if that byte is not ASCII, and either no byte follows it or the
+-- first two bytes begin no sequence
 pub one_byte_broken : (s : List ℕ) → 0 < length s → (HasBegun s 2 → ⊥) → 0x80 ≤ slice_index s 0
     → broken_len s ≡ 1
-one_byte_broken s some end wide =
-    broken_len-none s (none_of_two s end wide) ∙ one_byte_front s some end
+one_byte_broken s some end non_ascii =
+    broken_len-none s (none_of_two s end non_ascii) ∙ one_byte_front s some end
 
--- two bytes are broken if they begin a sequence and the first three do not
+-- the invalid front is two bytes if these begin a sequence, the first three bytes begin none, and
+-- the first is at least E0
 pub two_byte_broken : (s : List ℕ) → HasBegun s 2 → (HasBegun s 3 → ⊥) → 0xE0 ≤ slice_index s 0
     → broken_len s ≡ 2
-two_byte_broken s h end wide =
-    broken_len-none s (none_of_three s end wide) ∙ two_byte_front s h end
+two_byte_broken s h end non_ascii =
+    broken_len-none s (none_of_three s end non_ascii) ∙ two_byte_front s h end
 
--- one byte is broken at place i if it is not ASCII, and no two bytes there begin a sequence
+-- the invalid front at index i is one byte if that byte is not ASCII, and either it is the last
+-- byte or the two bytes at i and i + 1 begin no sequence
 pub one_broken_at : (s r : List ℕ) (i : ℕ) → r ≡ drop i s → i < length s → 0x80 ≤ slice_index s i
     → (HasBegun r 2 → ⊥) → 1 ≡ broken_len r
-one_broken_at s r i rest some wide end =
+one_broken_at s r i rest some non_ascii end =
     let first : slice_index r 0 ≡ slice_index s i =
     ap (λ t. slice_index t 0) rest ∙ first_of_drop i s in
     sym (one_byte_broken r (omega (arith, ap length rest, length-drop i s)) end (omega arith))
 
--- three bytes are broken if they begin a sequence and the first four do not
+-- the invalid front is three bytes if these begin a sequence, the first four bytes begin none, and
+-- the first is at least F0
 pub three_byte_broken : (s : List ℕ) → HasBegun s 3 → (HasBegun s 4 → ⊥) → 0xF0 ≤ slice_index s 0
     → broken_len s ≡ 3
-three_byte_broken s h end wide =
-    broken_len-none s (none_of_four s end wide) ∙ three_byte_front s h end
+three_byte_broken s h end non_ascii =
+    broken_len-none s (none_of_four s end non_ascii) ∙ three_byte_front s h end
 
--- a byte that begins no sequence is broken alone
+-- a first byte that begins no sequence is an invalid front by itself
 pub lone_byte_broken : (s : List ℕ) → 0 < length s → 0x80 ≤ slice_index s 0
     → ((0xC2 ≤ slice_index s 0) × (slice_index s 0 ≤ 0xDF) → ⊥)
     → ((0xE0 ≤ slice_index s 0) × (slice_index s 0 ≤ 0xEF) → ⊥)
     → ((0xF0 ≤ slice_index s 0) × (slice_index s 0 ≤ 0xF4) → ⊥) → broken_len s ≡ 1
-lone_byte_broken s some wide two three four =
-    one_byte_broken s some (λ h. let lead = pair_bounds s h in grind arith) wide
+lone_byte_broken s some non_ascii two three four =
+    one_byte_broken s some (λ h. let lead = pair_bounds s h in grind arith) non_ascii
 
--- the length of a front whose first byte leads two or leads none
+-- the length of a front whose first byte begins sequences of two bytes, or no sequence
 pub ruleset two_byte_fronts = (two_byte_sequence, one_byte_broken, lone_byte_broken)
 
--- the length of a front whose first byte leads three
+-- the length of a front whose first byte begins sequences of three bytes
 pub ruleset three_byte_fronts = (three_byte_sequence, one_byte_broken, two_byte_broken)
 
--- the length of a front whose first byte leads four
+-- the length of a front whose first byte begins sequences of four bytes
 pub ruleset four_byte_fronts =
     (four_byte_sequence, one_byte_broken, two_byte_broken, three_byte_broken)

@@ -1,4 +1,4 @@
--- Laws of fronts and of the lossy text.
+-- Laws of fronts and of lossy forms.
 use Rattle.std.proofs.Common.{◌≡◌, ℕ, ◌<◌, ◌≤◌, List, [], ◌∷◌, ◌++◌, length, take, drop, true}
 use Rattle.std.proofs.Common.{⊎_elim, inl, inr, refl, sym, ap, ◌∙◌, subst, arith, length-take-le}
 use Rattle.std.proofs.Common.{length-append, take-append-drop, append-nil, map, zero, suc, ◌⊎◌}
@@ -14,7 +14,7 @@ use Rattle.std.proofs.lemmas.List.Sums.{AllPass-from_list_all}
 use Rattle.unix_bytes.specs.Utf8.{is_sequence, IsSequence, BeginsSequence, begins_sequence}
 use Rattle.unix_bytes.specs.Lossy.{fronts_of, replacement, lossy_of}
 use Rattle.unix_bytes.specs.Steps.{longest_len, longest_front_of}
-use Rattle.unix_bytes.specs.Begins.{IsLongest}
+use Rattle.unix_bytes.specs.IsPrefixOf.{IsLongest}
 use Rattle.unix_bytes.specs.Laws.{FrontsBegin, FrontsOneByOne, FrontIsLongest, BeginsWithNoSequence}
 use Rattle.unix_bytes.specs.Laws.{BrokenIsShort, LossyOfBroken, LossyIsText}
 use Rattle.unix_bytes.proofs.lemmas.sequences.BeginLemmas.{begins_sequence-from}
@@ -28,7 +28,7 @@ use Rattle.unix_bytes.proofs.lemmas.sequences.GrowLemmas.{front_of-longest}
 use Rattle.unix_bytes.proofs.lemmas.lossy.LossyLemmas.{no_sequence, lossy_of-none, shown_front}
 use Rattle.unix_bytes.proofs.lemmas.lossy.LossyLemmas.{length-drop-some}
 
--- the longest front begins a sequence, or is one byte
+-- the first front begins a sequence, or is one byte
 longest_front_begins : (b : ℕ) (bs : List ℕ)
     → BeginsSequence (longest_front_of (b ∷ bs)) ⊎ (length (longest_front_of (b ∷ bs)) ≡ 1)
 unfolding longest_front_of
@@ -70,7 +70,7 @@ fronts_one_by_one (b ∷ bs) =
     ap (drop 1) (fronts_of-some b bs)
     ∙ ap (λ u. fronts_of (drop (length u) (b ∷ bs))) (sym (front_of-longest (b ∷ bs)))
 
--- no prefix that begins a sequence is longer than the longest front
+-- no prefix that begins a sequence is longer than the first front
 longest_front_is_longest : (s : List ℕ) → IsLongest BeginsSequence (longest_front_of s) s
 unfolding longest_front_of
 longest_front_is_longest s =
@@ -89,7 +89,7 @@ front_is_longest s =
     subst (λ u. IsLongest BeginsSequence u s) (sym (front_of-longest s))
     (longest_front_is_longest s)
 
--- if the bytes begin with no sequence, the longest sequence at the beginning has length 0
+-- if `BeginsWithNoSequence` holds, `longest_len` finds no prefix that is a sequence
 longest_len-BeginsWithNoSequence : (s : List ℕ) → BeginsWithNoSequence s
     → longest_len is_sequence s ≡ 0
 longest_len-BeginsWithNoSequence s none =
@@ -116,7 +116,7 @@ shown_front_is_sequence u =
     (λ f. ap is_sequence (cond-false _ _ _ f) ∙ replacement_is_sequence)
     (cases_Bool (is_sequence u))
 
--- if no sequence stands at the beginning, what begins one has three bytes at most
+-- if no prefix is a sequence, a prefix that begins a sequence has at most three bytes
 beginning_is_short : (s : List ℕ) → longest_len is_sequence s ≡ 0
     → max 1 (longest_len begins_sequence s) ≤ 3
 beginning_is_short s z =
@@ -137,7 +137,7 @@ beginning_is_short s z =
         let four = (sequence_len (take n s ++ x ∷ u) is).1 in
         omega (arith, length-append (take n s) (x ∷ u))
 
--- if no sequence stands at the beginning, the longest front has three bytes at most
+-- if no prefix is a sequence, the first front has at most three bytes
 pub longest_front_is_short : (s : List ℕ) → longest_len is_sequence s ≡ 0
     → length (longest_front_of s) ≤ 3
 unfolding longest_front_of
@@ -152,7 +152,7 @@ broken_is_short s none =
     subst (λ u. length u ≤ 3) (sym (front_of-longest s))
     (longest_front_is_short s (longest_len-BeginsWithNoSequence s none))
 
--- what is shown for fronts are sequences
+-- for each front a sequence is shown
 shown_fronts_are_sequences : (us : List (List ℕ))
     → list_all is_sequence (map shown_front us) ≡ true
 shown_fronts_are_sequences [] = refl

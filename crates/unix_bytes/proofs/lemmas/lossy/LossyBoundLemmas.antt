@@ -1,4 +1,4 @@
--- The lossy text has at most three times as many bytes as what it shows.
+-- The lossy form is at most three times as long as the bytes.
 use Rattle.std.proofs.Common.{◌≡◌, ℕ, zero, suc, ◌*◌, ◌≤◌, List, [], ◌∷◌, ◌++◌, length, drop}
 use Rattle.std.proofs.Common.{⊎_elim, ap, arith, le_refl, length-append, length-drop}
 use Rattle.std.specs.List.{flat_map}
@@ -10,7 +10,7 @@ use Rattle.unix_bytes.proofs.lemmas.sequences.FrontLemmas.{front_within}
 use Rattle.unix_bytes.proofs.lemmas.sequences.GrowLemmas.{fronts_of-some}
 use Rattle.unix_bytes.proofs.lemmas.lossy.LossyLemmas.{length-drop-some, lossy_of-nil, shown_front}
 
--- what is shown for a front of a byte or more has at most three times its bytes
+-- what is shown for a front of at least one byte is at most three times as long
 length-shown_front : (u : List ℕ) → 1 ≤ length u → length (shown_front u) ≤ 3 * length u
 length-shown_front u some =
     ⊎_elim
@@ -18,7 +18,7 @@ length-shown_front u some =
     (λ f. let e : shown_front u ≡ replacement = cond-false _ _ _ f in omega (arith, ap length e))
     (cases_Bool (is_sequence u))
 
--- the lossy text of at most n bytes
+-- the lossy form of at most n bytes is at most three times as long as the bytes
 length-lossy_within : (n : ℕ) (s : List ℕ) → length s ≤ n → length (lossy_of s) ≤ 3 * length s
 unfolding lossy_of
 length-lossy_within n [] le = omega (arith, ap length lossy_of-nil)
@@ -40,6 +40,6 @@ length-lossy_within (suc n) (b ∷ bs) le =
       within.1,
     )
 
--- the lossy text of any bytes
+-- the lossy form of any bytes is at most three times as long as the bytes
 pub length-lossy_of : (s : List ℕ) → length (lossy_of s) ≤ 3 * length s
 length-lossy_of s = length-lossy_within (length s) s (le_refl (length s))

@@ -1,4 +1,4 @@
--- Bytes cut into fronts, the test of text, and the lossy text.
+-- Bytes cut into fronts, the test `is_text`, and lossy forms.
 use Rattle.std.proofs.Common.{◌≡◌, ℕ, zero, suc, ◌≤◌, ◌<◌, List, [], ◌∷◌, ◌++◌, length, take, drop}
 use Rattle.std.proofs.Common.{true, false, refl, sym, ap, ap₂, ◌∙◌, arith, le_refl, append_assoc}
 use Rattle.std.proofs.Common.{length-drop, length-take-le, take-append-drop, append-nil}
@@ -19,11 +19,11 @@ use Rattle.unix_bytes.proofs.lemmas.sequences.FrontLemmas.{longest_front_of-take
 use Rattle.unix_bytes.proofs.lemmas.sequences.FrontLemmas.{front_within}
 use Rattle.unix_bytes.proofs.lemmas.sequences.GrowLemmas.{fronts_of-nil, fronts_of-some}
 
--- a sequence as it is, and U+FFFD for a broken front
+-- what is shown for a front: a sequence unchanged, and U+FFFD for an invalid front
 abbrev pub shown_front : List ℕ → List ℕ
 shown_front u = if is_sequence u then u else replacement
 
--- the first front of bytes that begin with a sequence is that sequence
+-- if the bytes start with the sequence u, u is the first front
 fronts_of-sequence : (u s : List ℕ) → IsSequence u → fronts_of (u ++ s) ≡ u ∷ fronts_of s
 fronts_of-sequence [] s h = let k = is_sequence-nil in cc
 fronts_of-sequence (b ∷ u) s h =
@@ -41,7 +41,7 @@ fronts_of-concat (u ∷ us) s h =
     ap fronts_of (append_assoc u (concat us) s) ∙ fronts_of-sequence u (concat us ++ s) k.0
     ∙ ap (λ fs. u ∷ fs) (fronts_of-concat us s k.1)
 
--- if at least one of at most n + 1 bytes is dropped, at most n are left
+-- if at least one of at most n + 1 bytes is dropped, at most n remain
 pub length-drop-some : (n k b : ℕ) (bs : List ℕ) → 1 ≤ k → length (b ∷ bs) ≤ suc n
     → length (drop k (b ∷ bs)) ≤ n
 length-drop-some n k b bs some le = omega (arith, length-drop k (b ∷ bs))
@@ -62,20 +62,20 @@ concat-fronts_within (suc n) (b ∷ bs) le =
 pub concat-fronts_of : (s : List ℕ) → concat (fronts_of s) ≡ s
 concat-fronts_of s = concat-fronts_within (length s) s (le_refl (length s))
 
--- what passes the test is text
+-- bytes that pass the test `is_text` are valid UTF-8
 pub IsText-from_is_text : (s : List ℕ) → is_text s ≡ true → IsText s
 unfolding is_text
 IsText-from_is_text s h =
     (fronts_of s, AllPass-from_list_all is_sequence (fronts_of s) h, concat-fronts_of s)
 
--- text at the beginning is cut into its sequences
+-- valid UTF-8 at the beginning is cut into its sequences
 pub fronts_of-text : (t s : List ℕ) → IsText t → (us : List (List ℕ))
     × (list_all is_sequence us ≡ true) × (concat us ≡ t) × (fronts_of (t ++ s) ≡ us ++ fronts_of s)
 fronts_of-text t s (us, h, e) =
     let all = list_all-from_AllPass is_sequence us h in
     (us, all, e, ap (λ x. fronts_of (x ++ s)) (sym e) ∙ fronts_of-concat us s all)
 
--- text passes the test
+-- valid UTF-8 passes the test `is_text`
 pub is_text-from_IsText : (s : List ℕ) → IsText s → is_text s ≡ true
 unfolding is_text
 is_text-from_IsText s t =
@@ -84,7 +84,7 @@ is_text-from_IsText s t =
     ap fronts_of (sym (append-nil s)) ∙ cut ∙ ap (λ fs. us ++ fs) fronts_of-nil ∙ append-nil us in
     ap (list_all is_sequence) same ∙ all
 
--- what follows text in text is text
+-- if t is valid UTF-8, and t followed by s too, so is s
 pub text_rest : (t s : List ℕ) → IsText t → IsText (t ++ s) → IsText s
 unfolding is_text
 text_rest t s h k =
@@ -94,7 +94,7 @@ text_rest t s h k =
     IsText-from_is_text s
     (and_parts _ _ (sym (list_all-append is_sequence us (fronts_of s)) ∙ both)).1
 
--- sequences are shown as they are
+-- sequences are shown unchanged
 flat_map-shown_front : (us : List (List ℕ)) → list_all is_sequence us ≡ true
     → flat_map shown_front us ≡ concat us
 flat_map-shown_front [] h = refl
@@ -102,12 +102,12 @@ flat_map-shown_front (u ∷ us) h =
     let k : IsSequence u × (list_all is_sequence us ≡ true) = and_parts _ _ h in
     ap₂ (λ f t. f ++ t) (cond-true _ _ _ k.0) (flat_map-shown_front us k.1)
 
--- the lossy text of no bytes is empty
+-- the lossy form of no bytes is empty
 pub lossy_of-nil : lossy_of [] ≡ []
 unfolding lossy_of
 lossy_of-nil = ap (flat_map shown_front) fronts_of-nil
 
--- text at the beginning is shown as it is
+-- valid UTF-8 at the beginning is shown unchanged
 pub lossy_of-append : (t s : List ℕ) → IsText t → lossy_of (t ++ s) ≡ t ++ lossy_of s
 unfolding lossy_of
 lossy_of-append t s h =
@@ -115,20 +115,20 @@ lossy_of-append t s h =
     ap (flat_map shown_front) cut ∙ flat_map-append shown_front us (fronts_of s)
     ∙ ap (λ x. x ++ flat_map shown_front (fronts_of s)) (flat_map-shown_front us all ∙ e)
 
--- text is its own lossy text
+-- valid UTF-8 is its own lossy form
 pub lossy_of-text : (s : List ℕ) → IsText s → lossy_of s ≡ s
 lossy_of-text s t =
     ap lossy_of (sym (append-nil s)) ∙ lossy_of-append s [] t
     ∙ ap (λ x. s ++ x) lossy_of-nil ∙ append-nil s
 
--- if no sequence stands at the beginning, no prefix is one
+-- if `longest_len` finds no prefix that is a sequence, there is none
 pub no_sequence : (s u v : List ℕ) → longest_len is_sequence s ≡ 0 → s ≡ u ++ v → IsSequence u → ⊥
 no_sequence s u v z e h =
     let some = sequence_len u h in
     let few = longest_len-prefix is_sequence s u v h e in
     absurd (omega arith)
 
--- if no sequence stands at the beginning, the longest front is no sequence
+-- if no prefix is a sequence, neither is the first front
 pub is_sequence-longest_front_of : (s : List ℕ) → longest_len is_sequence s ≡ 0
     → is_sequence (longest_front_of s) ≡ false
 is_sequence-longest_front_of s z =
@@ -138,7 +138,7 @@ is_sequence-longest_front_of s z =
     false_from_ne_true (is_sequence (longest_front_of s))
     (no_sequence s (longest_front_of s) (drop k s) z e)
 
--- if no sequence stands at the beginning, U+FFFD is shown for the longest front
+-- if no prefix is a sequence, U+FFFD is shown for the first front
 pub lossy_of-none : (b : ℕ) (bs : List ℕ) → longest_len is_sequence (b ∷ bs) ≡ 0
     → lossy_of (b ∷ bs)
     ≡ replacement ++ lossy_of (drop (length (longest_front_of (b ∷ bs))) (b ∷ bs))
@@ -149,7 +149,7 @@ lossy_of-none b bs z =
     ∙ ap (λ f. f ++ flat_map shown_front (fronts_of (drop (length (longest_front_of s)) s)))
     (cond-false _ _ _ (is_sequence-longest_front_of s z))
 
--- if no sequence stands at the beginning, the only prefix that is text is the empty one
+-- if no prefix is a sequence, only the empty prefix is valid UTF-8
 pub no_text : (s : List ℕ) (k : ℕ) → IsText (take k s) → 0 < k → k ≤ length s
     → longest_len is_sequence s ≡ 0 → ⊥
 no_text s k (us, h, e) some within z =
@@ -163,6 +163,6 @@ no_text s k (us, h, e) some within z =
         ∙ append_assoc v (concat vs) (drop k s) in
         no_sequence s v (concat vs ++ drop k s) z front (and_parts _ _ all).0
 
--- what is not text fails the test
+-- invalid UTF-8 fails the test `is_text`
 pub is_text-not : (s : List ℕ) → (IsText s → ⊥) → is_text s ≡ false
 is_text-not s broken = false_from_ne_true (is_text s) (λ t. broken (IsText-from_is_text s t))

@@ -1,4 +1,4 @@
--- What begins a sequence: its test, and the bytes by their ranges.
+-- Bytes that begin a sequence: the test for them, and the ranges of the bytes.
 use Rattle.std.proofs.Common.{◌≡◌, ℕ, ◌≤◌, List, [], ◌∷◌, ◌++◌, length, take, drop, map, Bool, true}
 use Rattle.std.proofs.Common.{⊎_elim, nat_le, refl, sym, ap, ◌∙◌, subst, arith, append_assoc}
 use Rattle.std.proofs.Common.{take-append-drop}
@@ -10,7 +10,7 @@ use Rattle.std.proofs.lemmas.List.{take-take}
 use Rattle.unix_bytes.specs.Utf8.{table, fits, is_sequence, IsSequence, BeginsSequence}
 use Rattle.unix_bytes.specs.Utf8.{begins_sequence}
 
--- if bytes fit a row, their beginnings fit the row's beginnings
+-- if bytes fit a row, each prefix of them fits the row's prefix of the same length
 fits_prefix : (row : List (ℕ × ℕ)) (t u : List ℕ)
     → fits row (t ++ u) ≡ true → fits (take (length t) row) t ≡ true
 fits_prefix row [] u h = refl
@@ -19,7 +19,7 @@ fits_prefix (r ∷ row) (b ∷ t) u h =
     let k : (fits row (t ++ u) ≡ true) × (is_in_range r.0 r.1 b ≡ true) = and_parts _ _ h in
     rw (fits_prefix row t u k.0, k.1) refl
 
--- if each element that passes p passes q, and some element passes p, some element passes q
+-- if each element that passes p passes q, and some element passes p, then some element passes q
 any_more : {X : Type 0} (p q : X → Bool) (xs : List X)
     → ((x : X) → p x ≡ true → q x ≡ true) → list_any p xs ≡ true → list_any q xs ≡ true
 any_more p q [] f h = h
@@ -27,33 +27,34 @@ any_more p q (x ∷ xs) f h =
     ⊎_elim (λ e. rw (f x e) refl)
     (λ e. or_right (q x) (list_any q xs) (any_more p q xs f e)) (or_cases (p x) (list_any p xs) h)
 
--- what begins a sequence passes the test of it
+-- bytes that begin a sequence pass the test `begins_sequence`
 pub begins_sequence-from : (t : List ℕ) → BeginsSequence t → begins_sequence t ≡ true
 unfolding is_sequence begins_sequence
 begins_sequence-from t (u, h) =
     any_more (λ row. fits row (t ++ u)) (λ row. fits (take (length t) row) t) table
     (λ row e. fits_prefix row t u e) h
 
--- in each range of a row there is a byte
+-- no range of the row is empty
 abbrev has_bytes : List (ℕ × ℕ) → Bool
 has_bytes row = list_all (λ r. nat_le r.0 r.1) row
 
--- the least byte of a range with bytes is in it
-in_least : (lo hi : ℕ) → nat_le lo hi ≡ true → is_in_range lo hi lo ≡ true
-in_least lo hi h = grind (arith, nat_tests)
+-- the least byte of a range that is not empty is in the range
+in_min : (lo hi : ℕ) → nat_le lo hi ≡ true → is_in_range lo hi lo ≡ true
+in_min lo hi h = grind (arith, nat_tests)
 
--- the least bytes of the ranges of a row fit the row
-fits_least : (row : List (ℕ × ℕ)) → has_bytes row ≡ true → fits row (map (λ r. r.0) row) ≡ true
-fits_least [] h = refl
-fits_least (r ∷ row) h =
+-- the least bytes of a row's ranges fit the row if no range is empty
+fits_min : (row : List (ℕ × ℕ)) → has_bytes row ≡ true → fits row (map (λ r. r.0) row) ≡ true
+fits_min [] h = refl
+fits_min (r ∷ row) h =
     let k : (nat_le r.0 r.1 ≡ true) × (has_bytes row ≡ true) = and_parts _ _ h in
-    rw (fits_least row k.1, in_least r.0 r.1 k.0) refl
+    rw (fits_min row k.1, in_min r.0 r.1 k.0) refl
 
--- what fits a row's beginning fits the row once the least bytes of the other ranges follow
+-- bytes that fit a prefix of a row, followed by the least bytes of the remaining ranges, fit the
+-- row
 fits_more : (row : List (ℕ × ℕ)) (t : List ℕ) → has_bytes row ≡ true
     → fits (take (length t) row) t ≡ true
     → fits row (t ++ map (λ r. r.0) (drop (length t) row)) ≡ true
-fits_more row [] b h = fits_least row b
+fits_more row [] b h = fits_min row b
 fits_more [] (x ∷ t) b h = h
 fits_more (r ∷ row) (x ∷ t) b h =
     let k : (nat_le r.0 r.1 ≡ true) × (has_bytes row ≡ true) = and_parts _ _ b in
@@ -61,7 +62,7 @@ fits_more (r ∷ row) (x ∷ t) b h =
     and_parts _ _ h in
     rw (fits_more row t k.1 j.0, j.1) refl
 
--- bytes that fit the beginning of some row can be continued to fit the whole of a row
+-- bytes that fit a prefix of some row can be continued to fit the whole row
 some_row : (rows : List (List (ℕ × ℕ))) (t : List ℕ) → list_all has_bytes rows ≡ true
     → list_any (λ row. fits (take (length t) row) t) rows ≡ true
     → (u : List ℕ) × (list_any (λ row. fits row (t ++ u)) rows ≡ true)
@@ -75,12 +76,12 @@ some_row (row ∷ rows) t b h =
     (or_cases (fits (take (length t) row) t)
     (list_any (λ row. fits (take (length t) row) t) rows) h)
 
--- what passes the test begins a sequence
+-- bytes that pass the test `begins_sequence` begin a sequence
 pub BeginsSequence-from : (t : List ℕ) → begins_sequence t ≡ true → BeginsSequence t
 unfolding is_sequence begins_sequence
 BeginsSequence-from t h = some_row table t refl h
 
--- a shorter prefix of what begins a sequence begins one too
+-- if the first k bytes begin a sequence, so do the first j bytes, where j is at most k
 pub BeginsSequence-take : (j k : ℕ) (t : List ℕ) → j ≤ k
     → BeginsSequence (take k t) → BeginsSequence (take j t)
 BeginsSequence-take j k t le (u, is) =

@@ -1,4 +1,5 @@
--- The longest prefix that begins a sequence: a whole one, or else a broken front.
+-- The first front as the longest prefix that begins a sequence (`longest_front_of`), and its
+-- length.
 use Rattle.std.proofs.Common.{◌≡◌, ℕ, suc, ◌-◌, ◌+◌, ◌<◌, ◌≤◌, List, [], ◌∷◌, ◌++◌, length, take}
 use Rattle.std.proofs.Common.{◌⊎◌, ⊎_elim, inl, inr, refl, sym, ap, ◌∙◌, subst, arith}
 use Rattle.std.proofs.Common.{append_assoc, append-nil, length-append, length-take-le}
@@ -16,11 +17,11 @@ use Rattle.unix_bytes.proofs.lemmas.sequences.BeginLemmas.{BeginsSequence-take}
 use Rattle.unix_bytes.proofs.lemmas.sequences.LongestLemmas.{longest_len-is, longest_len-longest}
 use Rattle.unix_bytes.proofs.lemmas.sequences.LongestLemmas.{longest_len-least}
 
--- a sequence begins a sequence
+-- a whole sequence begins a sequence
 pub BeginsSequence-sequence : (u : List ℕ) → IsSequence u → BeginsSequence u
 BeginsSequence-sequence u h = ([], subst IsSequence (sym (append-nil u)) h)
 
--- no prefix that is longer than a sequence begins one
+-- if the bytes start with the sequence u, no prefix longer than u begins a sequence
 none_longer : (u s : List ℕ) (k : ℕ) → IsSequence u → length u < k → k ≤ length (u ++ s)
     → BeginsSequence (take k (u ++ s)) → ⊥
 none_longer u s k h more within (v, is) =
@@ -34,7 +35,7 @@ none_longer u s k h more within (v, is) =
     let some : j ≤ length s = omega (arith, length-append u s) in
     absurd (omega (arith, ap length none, length-append (take j s) v, length-take-le j s some))
 
--- the longest prefix that is a sequence is the sequence that the bytes begin with
+-- if the bytes start with the sequence u, their longest prefix that is a sequence has u's length
 pub longest_len-sequence : (u s : List ℕ) → IsSequence u
     → longest_len is_sequence (u ++ s) ≡ length u
 longest_len-sequence u s h =
@@ -43,7 +44,8 @@ longest_len-sequence u s h =
     (λ k p q. false_from_ne_true (is_sequence (take k (u ++ s)))
     (λ t. none_longer u s k h p q (BeginsSequence-sequence (take k (u ++ s)) t)))
 
--- the longest prefix that begins a sequence is the sequence that the bytes begin with
+-- if the bytes start with the sequence u, their longest prefix that begins a sequence has u's
+-- length
 longest_len-begins_sequence : (u s : List ℕ) → IsSequence u
     → longest_len begins_sequence (u ++ s) ≡ length u
 longest_len-begins_sequence u s h =
@@ -53,7 +55,7 @@ longest_len-begins_sequence u s h =
     (λ k p q. false_from_ne_true (begins_sequence (take k (u ++ s)))
     (λ t. none_longer u s k h p q (BeginsSequence-from (take k (u ++ s)) t)))
 
--- the longest front is the sequence that the bytes begin with
+-- if the bytes start with the sequence u, the first front is u
 pub longest_front_of-sequence : (u s : List ℕ) → IsSequence u → longest_front_of (u ++ s) ≡ u
 unfolding longest_front_of
 longest_front_of-sequence u s h =
@@ -62,7 +64,8 @@ longest_front_of-sequence u s h =
     omega (arith, longest_len-begins_sequence u s h) in
     ap (λ n. take n (u ++ s)) e ∙ take_at u s (length u) refl
 
--- the longest front has n bytes if n bytes begin a sequence or n is 1, and n + 1 bytes begin none
+-- the first front has n bytes if n is 1 or the first n bytes begin a sequence, and the first n + 1
+-- bytes begin no sequence
 pub length-longest_front_of : (s : List ℕ) (n : ℕ) → 1 ≤ n → n ≤ length s → (n ≡ 1) ⊎ HasBegun s n
     → (HasBegun s (suc n) → ⊥) → length (longest_front_of s) ≡ n
 unfolding longest_front_of
@@ -84,7 +87,7 @@ length-longest_front_of s n some within at above =
     let e : max 1 l ≡ n = omega arith in
     ap (λ k. length (take k s)) e ∙ length-take-le n s within
 
--- the longest front of some bytes has a byte or more, and no more than there are
+-- the first front of a nonempty byte string has at least one byte, and is no longer than the string
 pub front_within : (b : ℕ) (bs : List ℕ)
     → (1 ≤ length (longest_front_of (b ∷ bs)))
     × (length (longest_front_of (b ∷ bs)) ≤ length (b ∷ bs))
@@ -96,12 +99,12 @@ front_within b bs =
     length-take-le (max 1 l) (b ∷ bs) (omega arith) in
     (omega (arith, e), omega (arith, e))
 
--- the longest front of no bytes is empty
+-- the first front of the empty byte string is empty
 pub longest_front_of-nil : longest_front_of [] ≡ []
 unfolding longest_front_of
 longest_front_of-nil = take_all _ [] (omega arith)
 
--- the longest front is a prefix
+-- the first front is a prefix
 pub longest_front_of-take : (s : List ℕ) → longest_front_of s ≡ take (length (longest_front_of s)) s
 unfolding longest_front_of
 longest_front_of-take [] = longest_front_of-nil ∙ sym (take_all _ [] (omega arith))
@@ -111,17 +114,18 @@ longest_front_of-take (b ∷ bs) =
     let k = length-take-le (max 1 l) (b ∷ bs) (omega arith) in
     ap (λ n. take n (b ∷ bs)) (sym k)
 
--- the longest front has one byte if the first two begin no sequence
+-- the first front has one byte if the first two bytes begin no sequence
 pub one_byte_front : (s : List ℕ) → 0 < length s → (HasBegun s 2 → ⊥)
     → length (longest_front_of s) ≡ 1
 one_byte_front s some end = length-longest_front_of s 1 (omega arith) (omega arith) (inl refl) end
 
--- the longest front has two bytes if they begin a sequence and the first three do not
+-- the first front has two bytes if the first two bytes begin a sequence and the first three do not
 pub two_byte_front : (s : List ℕ) → HasBegun s 2 → (HasBegun s 3 → ⊥)
     → length (longest_front_of s) ≡ 2
 two_byte_front s h end = length-longest_front_of s 2 (omega arith) h.0 (inr h) end
 
--- the longest front has three bytes if they begin one and the first four do not
+-- the first front has three bytes if the first three bytes begin a sequence and the first four do
+-- not
 pub three_byte_front : (s : List ℕ) → HasBegun s 3 → (HasBegun s 4 → ⊥)
     → length (longest_front_of s) ≡ 3
 three_byte_front s h end = length-longest_front_of s 3 (omega arith) h.0 (inr h) end

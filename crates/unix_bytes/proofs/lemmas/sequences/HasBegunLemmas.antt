@@ -1,4 +1,5 @@
--- How far a sequence has begun, byte by byte.
+-- When the first two, three or four bytes begin a sequence (`HasBegun`), by the ranges of the
+-- bytes.
 use Rattle.std.proofs.Common.{◌≡◌, ℕ, ◌<◌, ◌≤◌, List, [], ◌∷◌, length, take, true, ⊎_elim, arith}
 use Rattle.std.proofs.Common.{refl, ap, ◌∙◌, drop, slice_index, get_or-drop, add-zero}
 use Rattle.std.proofs.lemmas.Bool.{cases_lt}
@@ -23,23 +24,24 @@ pair_of x y (a ∷ []) h = let p = three_bytes x y a h in grind arith
 pair_of x y (a ∷ b ∷ []) h = let p = four_bytes x y a b h in grind arith
 pair_of x y (a ∷ b ∷ c ∷ u) h = let p = is_sequence-more x y a b c u in cc
 
--- the byte may stand behind the first two of a sequence
+-- the byte may be the third or fourth of a sequence
 abbrev IsTail : ℕ → Type 0
 IsTail z = (0x80 ≤ z) × (z ≤ 0xBF)
 
--- the first and the third byte of a sequence of three or more are in their ranges
+-- the first and the third byte of a sequence of at least three bytes are in their ranges
 third_of : (x y z : ℕ) (u : List ℕ) → IsSequence (x ∷ y ∷ z ∷ u) → (0xE0 ≤ x) × IsTail z
 third_of x y z [] h = let p = three_bytes x y z h in (omega arith, (omega arith, omega arith))
 third_of x y z (a ∷ []) h =
     let p = four_bytes x y z a h in (omega arith, (omega arith, omega arith))
 third_of x y z (a ∷ b ∷ u) h = let p = is_sequence-more x y z a b u in cc
 
--- the first and the fourth byte of a sequence of four are in their ranges
+-- the first and the fourth byte of a sequence of four bytes are in their ranges
 fourth_of : (x y z w : ℕ) (u : List ℕ) → IsSequence (x ∷ y ∷ z ∷ w ∷ u) → (0xF0 ≤ x) × IsTail w
 fourth_of x y z w [] h = let p = four_bytes x y z w h in (omega arith, (omega arith, omega arith))
 fourth_of x y z w (a ∷ u) h = let p = is_sequence-more x y z w a u in cc
 
--- two bytes that begin a sequence of three or more still begin one with any tail byte behind them
+-- two bytes that begin a sequence, the first of at least E0, and any tail byte after them begin a
+-- sequence
 third_begins : (x y z : ℕ) → begins_sequence (x ∷ y ∷ []) ≡ true → 0xE0 ≤ x → IsTail z
     → begins_sequence (x ∷ y ∷ z ∷ []) ≡ true
 third_begins x y z b g r =
@@ -49,7 +51,8 @@ third_begins x y z b g r =
     (⊎_elim (λ (l : x < 0xF0). ([], IsSequence-three x y z (grind arith)))
     (λ (k : 0xF0 ≤ x). (0x80 ∷ [], IsSequence-four x y z 0x80 (grind arith))) (cases_lt x 0xF0))
 
--- three bytes that begin a sequence of four still begin one with any tail byte behind them
+-- three bytes that begin a sequence, the first of at least F0, and any tail byte after them begin a
+-- sequence
 fourth_begins : (x y z w : ℕ) → begins_sequence (x ∷ y ∷ z ∷ []) ≡ true → 0xF0 ≤ x → IsTail w
     → begins_sequence (x ∷ y ∷ z ∷ w ∷ []) ≡ true
 fourth_begins x y z w b g r =
@@ -58,14 +61,14 @@ fourth_begins x y z w b g r =
     let k = third_of x y z u is in
     begins_sequence-from (x ∷ y ∷ z ∷ w ∷ []) ([], IsSequence-four x y z w (grind arith))
 
--- the first two bytes of a string
+-- the first two bytes of a string, by their indices
 pub take-two : (s : List ℕ) → 1 < length s
     → take 2 s ≡ slice_index s 0 ∷ slice_index s 1 ∷ []
 take-two [] l = absurd (omega arith)
 take-two (x ∷ []) l = absurd (omega arith)
 take-two (x ∷ y ∷ s) l = refl
 
--- the first byte behind i bytes is the one at place i
+-- the first byte after i bytes is the byte at index i
 pub first_of_drop : (i : ℕ) (s : List ℕ) → slice_index (drop i s) 0 ≡ slice_index s i
 first_of_drop i s = get_or-drop i s 0 0 ∙ ap (slice_index s) (add-zero i)
 
@@ -79,7 +82,8 @@ pair_bounds (x ∷ y ∷ s) h =
     let p = pair_of x y u is in
     (p.0, p.1, omega arith, (p.2, p.3))
 
--- three bytes begin a sequence of three or more if two do and the third is a tail byte
+-- the first three bytes begin a sequence if the first two do, the first is at least E0 and the
+-- third is a tail byte
 pub HasBegun-three : (s : List ℕ) → HasBegun s 2 → 0xE0 ≤ slice_index s 0 → 2 < length s
     → IsTail (slice_index s 2) → HasBegun s 3
 HasBegun-three [] h g l t = absurd (omega arith)
@@ -87,7 +91,7 @@ HasBegun-three (x ∷ []) h g l t = absurd (omega arith)
 HasBegun-three (x ∷ y ∷ []) h g l t = absurd (omega arith)
 HasBegun-three (x ∷ y ∷ z ∷ s) h g l t = (omega arith, third_begins x y z h.1 g t)
 
--- the ranges of the first and the third byte, if three bytes begin a sequence
+-- the ranges of the first and the third byte, if the first three bytes begin a sequence
 pub third_byte_bounds : (s : List ℕ) → HasBegun s 3
     → (0xE0 ≤ slice_index s 0) × (2 < length s) × IsTail (slice_index s 2)
 third_byte_bounds [] h = absurd (omega arith)
@@ -98,7 +102,8 @@ third_byte_bounds (x ∷ y ∷ z ∷ s) h =
     let t = third_of x y z u is in
     (t.0, omega arith, t.1)
 
--- four bytes begin a sequence of four if three do and the fourth is a tail byte
+-- the first four bytes begin a sequence if the first three do, the first is at least F0 and the
+-- fourth is a tail byte
 pub HasBegun-four : (s : List ℕ) → HasBegun s 3 → 0xF0 ≤ slice_index s 0 → 3 < length s
     → IsTail (slice_index s 3) → HasBegun s 4
 HasBegun-four [] h g l t = absurd (omega arith)
@@ -107,7 +112,7 @@ HasBegun-four (x ∷ y ∷ []) h g l t = absurd (omega arith)
 HasBegun-four (x ∷ y ∷ z ∷ []) h g l t = absurd (omega arith)
 HasBegun-four (x ∷ y ∷ z ∷ w ∷ s) h g l t = (omega arith, fourth_begins x y z w h.1 g t)
 
--- the ranges of the first and the fourth byte, if four bytes begin a sequence
+-- the ranges of the first and the fourth byte, if the first four bytes begin a sequence
 pub fourth_byte_bounds : (s : List ℕ) → HasBegun s 4
     → (0xF0 ≤ slice_index s 0) × (3 < length s) × IsTail (slice_index s 3)
 fourth_byte_bounds [] h = absurd (omega arith)
@@ -119,7 +124,7 @@ fourth_byte_bounds (x ∷ y ∷ z ∷ w ∷ s) h =
     let t = fourth_of x y z w u is in
     (t.0, omega arith, t.1)
 
--- if four bytes begin a sequence, the first three do
+-- if the first four bytes begin a sequence, the first three do
 pub HasBegun-three_of_four : (s : List ℕ) → HasBegun s 4 → HasBegun s 3
 HasBegun-three_of_four [] h = absurd (omega arith)
 HasBegun-three_of_four (x ∷ []) h = absurd (omega arith)
@@ -129,7 +134,7 @@ HasBegun-three_of_four (x ∷ y ∷ z ∷ w ∷ s) h =
     let (u, is) = BeginsSequence-from (x ∷ y ∷ z ∷ w ∷ []) h.1 in
     (omega arith, begins_sequence-from (x ∷ y ∷ z ∷ []) (w ∷ u, is))
 
--- if three bytes begin a sequence, the first two do
+-- if the first three bytes begin a sequence, the first two do
 pub HasBegun-two_of_three : (s : List ℕ) → HasBegun s 3 → HasBegun s 2
 HasBegun-two_of_three [] h = absurd (omega arith)
 HasBegun-two_of_three (x ∷ []) h = absurd (omega arith)
@@ -138,10 +143,10 @@ HasBegun-two_of_three (x ∷ y ∷ z ∷ s) h =
     let (u, is) = BeginsSequence-from (x ∷ y ∷ z ∷ []) h.1 in
     (omega arith, begins_sequence-from (x ∷ y ∷ []) (z ∷ u, is))
 
--- how far a sequence has begun, by the bytes at each place
+-- when the first two, three or four bytes begin a sequence, by the byte at each index
 pub ruleset beginnings =
     (take-two, pair_bounds, HasBegun-three, third_byte_bounds, HasBegun-four, fourth_byte_bounds)
 
--- how far a sequence has begun, by the bytes at each place, and that fewer bytes begin one if more
--- do
+-- when the first two, three or four bytes begin a sequence, by the byte at each index; the first
+-- two do if the first three do, and the first three if the first four do
 pub ruleset all_beginnings = (beginnings, HasBegun-two_of_three, HasBegun-three_of_four)

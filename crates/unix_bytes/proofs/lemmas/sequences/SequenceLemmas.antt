@@ -16,11 +16,11 @@ pub IsSequence-one : (a : ℕ) → a ≤ 0x7F → IsSequence (a ∷ [])
 unfolding is_sequence
 IsSequence-one a h = grind (arith, nat_tests)
 
--- the ranges of the bytes of a sequence of two
+-- the ranges of the bytes of a sequence of two bytes
 abbrev pub Two : ℕ → ℕ → Type 0
 Two a b = (0xC2 ≤ a) × (a ≤ 0xDF) × (0x80 ≤ b) × (b ≤ 0xBF)
 
--- the bytes of a sequence of two are in their ranges
+-- the bytes of a sequence of two bytes are in the ranges of `Two`
 pub two_bytes : (a b : ℕ) → IsSequence (a ∷ b ∷ []) → Two a b
 unfolding is_sequence
 two_bytes a b h = grind (arith, nat_tests)
@@ -30,7 +30,7 @@ pub IsSequence-two : (a b : ℕ) → Two a b → IsSequence (a ∷ b ∷ [])
 unfolding is_sequence
 IsSequence-two a b h = grind (arith, nat_tests)
 
--- the ranges of the bytes of a sequence of three
+-- the ranges of the bytes of a sequence of three bytes
 abbrev pub Three : ℕ → ℕ → ℕ → Type 0
 Three a b c =
     (0xE0 ≤ a) × (a ≤ 0xEF) × (0x80 ≤ b) × (b ≤ 0xBF) × (0x80 ≤ c) × (c ≤ 0xBF)
@@ -42,7 +42,7 @@ in_three : (al ah bl bh a b c : ℕ)
     → (al ≤ a) × (a ≤ ah) × (bl ≤ b) × (b ≤ bh) × (0x80 ≤ c) × (c ≤ 0xBF)
 in_three al ah bl bh a b c h = grind (arith, nat_tests)
 
--- the bytes of a sequence of three are in their ranges
+-- the bytes of a sequence of three bytes are in the ranges of `Three`
 pub three_bytes : (a b c : ℕ) → IsSequence (a ∷ b ∷ c ∷ []) → Three a b c
 unfolding is_sequence
 three_bytes a b c h =
@@ -57,7 +57,7 @@ pub IsSequence-three : (a b c : ℕ) → Three a b c → IsSequence (a ∷ b ∷
 unfolding is_sequence
 IsSequence-three a b c h = grind (arith, nat_tests)
 
--- the ranges of the bytes of a sequence of four
+-- the ranges of the bytes of a sequence of four bytes
 abbrev pub Four : ℕ → ℕ → ℕ → ℕ → Type 0
 Four a b c d =
     (0xF0 ≤ a) × (a ≤ 0xF4) × (0x80 ≤ b) × (b ≤ 0xBF) × (0x80 ≤ c) × (c ≤ 0xBF)
@@ -71,7 +71,7 @@ in_four : (al ah bl bh a b c d : ℕ)
     × (0x80 ≤ d) × (d ≤ 0xBF)
 in_four al ah bl bh a b c d h = grind (arith, nat_tests)
 
--- the bytes of a sequence of four are in their ranges
+-- the bytes of a sequence of four bytes are in the ranges of `Four`
 pub four_bytes : (a b c d : ℕ) → IsSequence (a ∷ b ∷ c ∷ d ∷ []) → Four a b c d
 unfolding is_sequence
 four_bytes a b c d h =
@@ -90,7 +90,7 @@ pub is_sequence-nil : is_sequence [] ≡ false
 unfolding is_sequence
 is_sequence-nil = refl
 
--- five bytes or more are no sequence
+-- five or more bytes are no sequence
 pub is_sequence-more : (a b c d e : ℕ) (u : List ℕ)
     → is_sequence (a ∷ b ∷ c ∷ d ∷ e ∷ u) ≡ false
 unfolding is_sequence

@@ -1,4 +1,4 @@
--- The sequence that bytes begin with, by how far one has begun.
+-- The length of a sequence at the beginning, by how many of the first bytes begin a sequence.
 use Rattle.std.proofs.Common.{◌≡◌, ℕ, zero, suc, ◌<◌, ◌≤◌, List, [], ◌∷◌, ◌++◌, length, take, drop}
 use Rattle.std.proofs.Common.{⊎_elim, sym, ap, ◌∙◌, subst, arith, append-nil, slice_index}
 use Rattle.std.proofs.Common.{length-append, length-take-le, take-append-drop}
@@ -14,14 +14,15 @@ use Rattle.unix_bytes.proofs.lemmas.sequences.LongestLemmas.{longest_len-longest
 use Rattle.unix_bytes.proofs.lemmas.sequences.FrontLemmas.{longest_len-sequence}
 use Rattle.unix_bytes.proofs.lemmas.sequences.FrontLemmas.{BeginsSequence-sequence}
 
--- n bytes that begin a sequence are one if no sequence that begins with them is longer
+-- n bytes that begin a sequence are a sequence if no sequence that begins with them is longer
 none_missing : (n : ℕ) (t : List ℕ) → length t ≡ n
     → ((u : List ℕ) → IsSequence (t ++ u) → length (t ++ u) ≤ n) → BeginsSequence t → IsSequence t
 none_missing n t e few ([], h) = subst IsSequence (append-nil t) h
 none_missing n t e few (x ∷ v, h) =
     let k = few (x ∷ v) h in absurd (omega (arith, length-append t (x ∷ v)))
 
--- n bytes that begin a sequence are the longest one if no sequence that begins with them is longer
+-- if the first n bytes begin a sequence, and no sequence that begins with them is longer, they are
+-- the longest prefix that is a sequence
 longest_len-HasBegun : (s : List ℕ) (n : ℕ) → HasBegun s n
     → ((u : List ℕ) → IsSequence (take n s ++ u) → length (take n s ++ u) ≤ n)
     → longest_len is_sequence s ≡ n
@@ -31,8 +32,8 @@ longest_len-HasBegun s n h few =
     ap (longest_len is_sequence) (sym (take-append-drop n s))
     ∙ longest_len-sequence (take n s) (drop n s) is ∙ e
 
--- no sequence stands at the beginning if the first n bytes begin none, and any sequence there would
--- have n bytes or more
+-- no prefix is a sequence if the first n bytes begin none, and each prefix that is a sequence has
+-- at least n bytes
 longest_len-not_HasBegun : (s : List ℕ) (n : ℕ) → (HasBegun s n → ⊥)
     → ((k : ℕ) → k ≤ length s → IsSequence (take k s) → n ≤ k) → longest_len is_sequence s ≡ 0
 longest_len-not_HasBegun s n never many =
@@ -72,14 +73,14 @@ module _ (b n : ℕ) (w : HasWidth b n) where
       (λ c. ⊎_elim (λ (d : b < 0xE0). let e = w.two c (omega arith) in omega arith)
       (λ d. let e = three_at_least d in omega arith) (cases_lt b 0xE0)) (cases_lt b 0xC2)
 
--- the first byte of a prefix that is a sequence tells its length
+-- the first byte of a prefix that is a sequence determines its length
 prefix_width : (b : ℕ) (bs : List ℕ) (k : ℕ) → k ≤ length (b ∷ bs) → IsSequence (take k (b ∷ bs))
     → HasWidth b k
 prefix_width b bs zero within h = let z = is_sequence-nil in cc
 prefix_width b bs (suc k) within h =
     subst (λ n. HasWidth b (suc n)) (length-take-le k bs (omega arith)) (has_width b (take k bs) h)
 
--- two bytes that begin a sequence are one if the first leads no more than two
+-- two bytes that begin a sequence are a sequence if the first is less than E0
 pub two_byte_sequence : (s : List ℕ) → HasBegun s 2 → slice_index s 0 < 0xE0
     → longest_len is_sequence s ≡ 2
 two_byte_sequence [] h l = absurd (omega arith)
@@ -87,7 +88,7 @@ two_byte_sequence (b ∷ []) h l = absurd (omega arith)
 two_byte_sequence (b ∷ x ∷ s) h l =
     longest_len-HasBegun (b ∷ x ∷ s) 2 h (λ u is. two_at_most b _ (has_width b (x ∷ u) is) l)
 
--- three bytes that begin a sequence are one if the first leads no more than three
+-- three bytes that begin a sequence are a sequence if the first is less than F0
 pub three_byte_sequence : (s : List ℕ) → HasBegun s 3 → slice_index s 0 < 0xF0
     → longest_len is_sequence s ≡ 3
 three_byte_sequence [] h l = absurd (omega arith)
@@ -97,11 +98,11 @@ three_byte_sequence (b ∷ x ∷ y ∷ s) h l =
     longest_len-HasBegun (b ∷ x ∷ y ∷ s) 3 h
     (λ u is. three_at_most b _ (has_width b (x ∷ y ∷ u) is) l)
 
--- four bytes that begin a sequence are one
+-- four bytes that begin a sequence are a sequence
 pub four_byte_sequence : (s : List ℕ) → HasBegun s 4 → longest_len is_sequence s ≡ 4
 four_byte_sequence s h = longest_len-HasBegun s 4 h (λ u is. (sequence_len (take 4 s ++ u) is).1)
 
--- no sequence stands at the beginning if two bytes begin none and the first is not ASCII
+-- no prefix is a sequence if the first two bytes begin none and the first is not ASCII
 pub none_of_two : (s : List ℕ) → (HasBegun s 2 → ⊥) → 0x80 ≤ slice_index s 0
     → longest_len is_sequence s ≡ 0
 none_of_two [] never g = absurd (omega arith)
@@ -109,7 +110,7 @@ none_of_two (b ∷ bs) never g =
     longest_len-not_HasBegun (b ∷ bs) 2 never
     (λ k within h. two_at_least b k (prefix_width b bs k within h) g)
 
--- no sequence stands at the beginning if three bytes begin none and the first leads three or more
+-- no prefix is a sequence if the first three bytes begin none and the first is at least E0
 pub none_of_three : (s : List ℕ) → (HasBegun s 3 → ⊥) → 0xE0 ≤ slice_index s 0
     → longest_len is_sequence s ≡ 0
 none_of_three [] never g = absurd (omega arith)
@@ -117,7 +118,7 @@ none_of_three (b ∷ bs) never g =
     longest_len-not_HasBegun (b ∷ bs) 3 never
     (λ k within h. three_at_least b k (prefix_width b bs k within h) g)
 
--- no sequence stands at the beginning if four bytes begin none and the first leads four
+-- no prefix is a sequence if the first four bytes begin none and the first is at least F0
 pub none_of_four : (s : List ℕ) → (HasBegun s 4 → ⊥) → 0xF0 ≤ slice_index s 0
     → longest_len is_sequence s ≡ 0
 none_of_four [] never g = absurd (omega arith)

@@ -1,4 +1,4 @@
--- How many bytes a sequence has, by its first; so no sequence begins another.
+-- The length of a sequence, by its first byte. No sequence is a proper prefix of another.
 use Rattle.std.specs.Prelude.{◌↔◌}
 use Rattle.std.proofs.Common.{◌⊎◌, ◌≡◌, ℕ, suc, ◌<◌, ◌≤◌, List, [], ◌∷◌, ◌++◌, length, ⊎_elim, refl}
 use Rattle.std.proofs.Common.{sym, ◌∙◌, arith, length-append}
@@ -18,7 +18,7 @@ pub record HasWidth (b n : ℕ) : Type 0 where
   pub three : 0xE0 ≤ b → b ≤ 0xEF → n ≡ 3
   pub four : 0xF0 ≤ b → (b ≤ 0xF4) × (n ≡ 4)
 
--- the first byte of a sequence tells its length
+-- the first byte of a sequence determines its length
 pub has_width : (b : ℕ) (u : List ℕ) → IsSequence (b ∷ u) → HasWidth b (suc (length u))
 has_width b [] h =
     let p = one_byte b h in
@@ -54,7 +54,7 @@ has_width b (x ∷ y ∷ z ∷ []) h =
     }
 has_width b (x ∷ y ∷ z ∷ w ∷ u) h = let p = is_sequence-more b x y z w u in cc
 
--- the first byte tells only one length
+-- the first byte determines only one length
 same_width : (b n m : ℕ) → HasWidth b n → HasWidth b m → n ≡ m
 same_width b n m p q =
     ⊎_elim (λ (l : b < 0xC2). (p.one l).1 ∙ sym (q.one l).1)
@@ -63,12 +63,12 @@ same_width b n m p q =
     (λ g. (p.four g).1 ∙ sym (q.four g).1)
     (cases_lt b 0xF0)) (cases_lt b 0xE0)) (cases_lt b 0xC2)
 
--- what adds no length is empty
+-- a suffix that adds no length is empty
 none_more : (u v : List ℕ) → length (u ++ v) ≡ length u → v ≡ []
 none_more u [] e = refl
 none_more u (x ∷ v) e = absurd (omega (arith, length-append u (x ∷ v)))
 
--- no sequence begins another
+-- no sequence is a proper prefix of another
 pub prefix_free : (u v : List ℕ) → IsSequence u → IsSequence (u ++ v) → v ≡ []
 prefix_free [] v h k = let e = is_sequence-nil in cc
 prefix_free (b ∷ u) v h k =
@@ -79,18 +79,18 @@ prefix_free (b ∷ u) v h k =
 pub begins_one : (b : ℕ) → b ≤ 0x7F → BeginsSequence (b ∷ [])
 begins_one b h = ([], IsSequence-one b h)
 
--- a byte that leads two begins a sequence
+-- a byte from C2 to DF begins a sequence, of two bytes
 pub begins_two : (b : ℕ) → 0xC2 ≤ b → b ≤ 0xDF → BeginsSequence (b ∷ [])
 begins_two b h k = (0x80 ∷ [], IsSequence-two b 0x80 (h, k, omega arith, omega arith))
 
--- a byte that leads three begins a sequence
+-- a byte from E0 to EF begins a sequence, of three bytes
 pub begins_three : (b : ℕ) → 0xE0 ≤ b → b ≤ 0xEF → BeginsSequence (b ∷ [])
 begins_three b h k =
     ⊎_elim (λ (l : b < 0xE1). (0xA0 ∷ 0x80 ∷ [], IsSequence-three b 0xA0 0x80 (grind arith)))
     (λ (g : 0xE1 ≤ b). (0x80 ∷ 0x80 ∷ [], IsSequence-three b 0x80 0x80 (grind arith)))
     (cases_lt b 0xE1)
 
--- a byte that leads four begins a sequence
+-- a byte from F0 to F4 begins a sequence, of four bytes
 pub begins_four : (b : ℕ) → 0xF0 ≤ b → b ≤ 0xF4 → BeginsSequence (b ∷ [])
 begins_four b h k =
     ⊎_elim
@@ -98,22 +98,23 @@ begins_four b h k =
     (λ (g : 0xF1 ≤ b). (0x80 ∷ 0x80 ∷ 0x80 ∷ [], IsSequence-four b 0x80 0x80 0x80 (grind arith)))
     (cases_lt b 0xF1)
 
--- if a byte begins a sequence, a width that is not 0 fits it
+-- if n is not 0 and b begins a sequence: n is 0 if and only if b begins no sequence, as both are
+-- false
 pub some_width : (b n : ℕ) → 0 < n → BeginsSequence (b ∷ [])
     → (n ≡ 0) ↔ ¬ (BeginsSequence (b ∷ []))
 some_width b n some begins = (λ e. absurd (omega arith), λ none. absurd (none begins))
 
--- the byte leads no sequence
+-- the byte is from 80 to C1, or greater than F4
 abbrev pub LeadsNone : ℕ → Type 0
 LeadsNone b = ((0x80 ≤ b) × (b < 0xC2)) ⊎ (0xF4 < b)
 
--- a byte that leads no sequence begins none
+-- no sequence begins with a byte from 80 to C1, or greater than F4
 pub leads_none : (b : ℕ) (u : List ℕ) → LeadsNone b → IsSequence (b ∷ u) → ⊥
 leads_none b u lone h =
     let w = has_width b u h in
     ⊎_elim (λ l. let p = (w.one l.1).0 in omega arith)
     (λ g. let p = (w.four (omega arith)).0 in omega arith) lone
 
--- the width 0 fits a byte that leads no sequence
+-- if b is such a byte: 0 is 0 if and only if b begins no sequence, as both are true
 pub no_width : (b : ℕ) → LeadsNone b → ◌≡◌ {A = ℕ} 0 0 ↔ ¬ (BeginsSequence (b ∷ []))
 no_width b lone = (λ e (u, h). leads_none b u lone h, λ none. refl)

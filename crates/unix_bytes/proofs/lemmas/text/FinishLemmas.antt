@@ -1,4 +1,4 @@
--- Text ends with a finished sequence.
+-- Valid UTF-8 leaves no sequence unfinished at its end.
 use Rattle.std.proofs.Common.{◌≡◌, ℕ, ◌+◌, ◌-◌, ◌≤◌, List, [], ◌∷◌, ◌++◌, length, take, drop}
 use Rattle.std.proofs.Common.{ap, ◌∙◌, subst, arith, slice_index, length-drop}
 use Rattle.std.specs.List.{All, concat}
@@ -10,16 +10,16 @@ use Rattle.unix_bytes.proofs.lemmas.sequences.SequenceLemmas.{one_byte, two_byte
 use Rattle.unix_bytes.proofs.lemmas.sequences.SequenceLemmas.{four_bytes}
 use Rattle.unix_bytes.proofs.lemmas.sequences.SequenceLemmas.{is_sequence-nil, is_sequence-more}
 
--- the last three of the bytes, behind three others, are the end of finished sequences
+-- the last three bytes of a, b, c and the list after them leave no sequence unfinished
 abbrev EndsFinished : ℕ → ℕ → ℕ → List ℕ → Type 0
 EndsFinished a b c [] = IsFinished a b c
 EndsFinished a b c (d ∷ s) = EndsFinished b c d s
 
--- the bytes leave finished sequences finished
+-- if three bytes leave no sequence unfinished, neither do the last three bytes after s is appended
 abbrev KeepsFinished : List ℕ → Type 0
 KeepsFinished s = (a b c : ℕ) → IsFinished a b c → EndsFinished a b c s
 
--- bytes that leave finished sequences finished do so behind a sequence too
+-- if `KeepsFinished` holds of s, it also holds of a sequence and then s
 sequence_keeps_finished : (u s : List ℕ) → IsSequence u → KeepsFinished s → KeepsFinished (u ++ s)
 sequence_keeps_finished [] s h next a b c k = let z = is_sequence-nil in cc
 sequence_keeps_finished (d ∷ []) s h next a b c k =
@@ -33,14 +33,14 @@ sequence_keeps_finished (d ∷ e ∷ f ∷ x ∷ []) s h next a b c k =
 sequence_keeps_finished (d ∷ e ∷ f ∷ x ∷ y ∷ u) s h next a b c k =
     let z = is_sequence-more d e f x y u in cc
 
--- sequences, one after the other, leave finished sequences finished
+-- `KeepsFinished` holds of sequences, one after the other
 text_keeps_finished : (us : List (List ℕ)) → All IsSequence us → KeepsFinished (concat us)
 text_keeps_finished [] all = λ a b c k. k
 text_keeps_finished (u ∷ us) all =
     sequence_keeps_finished u (concat us) (All-head IsSequence u us all)
     (text_keeps_finished us (All-tail IsSequence u us all))
 
--- if u and then three bytes of w end in finished sequences, these three do
+-- if u and then the first three bytes of w leave no sequence unfinished, neither do these three
 IsFinished-last : (u w : List ℕ) (a b c : ℕ) → 3 ≤ length w → EndsFinished a b c (u ++ take 3 w)
     → IsFinished (slice_index w 0) (slice_index w 1) (slice_index w 2)
 IsFinished-last [] [] a b c l h = absurd (omega arith)
@@ -49,7 +49,7 @@ IsFinished-last [] (x ∷ y ∷ []) a b c l h = absurd (omega arith)
 IsFinished-last [] (x ∷ y ∷ z ∷ w) a b c l h = h
 IsFinished-last (d ∷ u) w a b c l h = IsFinished-last u w b c d l h
 
--- the last three bytes of text are the end of finished sequences
+-- the last three bytes of valid UTF-8 leave no sequence unfinished
 pub IsFinished-before : (s : List ℕ) (i : ℕ) → 3 ≤ i → i ≤ length s → IsText (take i s)
     → IsFinished (slice_index (drop (i - 3) s) 0) (slice_index (drop (i - 3) s) 1)
     (slice_index (drop (i - 3) s) 2)

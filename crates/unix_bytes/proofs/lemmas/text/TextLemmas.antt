@@ -1,4 +1,5 @@
--- Text by the table is UTF-8 as Rattle's std defines it.
+-- Bytes are valid by the table (`IsText`) if and only if Rattle's std defines them as UTF-8
+-- (`IsUtf8`).
 use Rattle.std.proofs.Common.{◌≡◌, ℕ, ◌+◌, ◌/◌, ◌%◌, ◌<◌, List, [], ◌∷◌, ◌++◌, map, true, ⊎_elim}
 use Rattle.std.proofs.Common.{inl, inr, refl, ap, ◌∙◌, subst, arith}
 use Rattle.std.specs.List.{concat, list_all}
@@ -17,7 +18,7 @@ use Rattle.unix_bytes.proofs.lemmas.sequences.SequenceLemmas.{IsSequence-three}
 use Rattle.unix_bytes.proofs.lemmas.sequences.SequenceLemmas.{IsSequence-four, is_sequence-nil}
 use Rattle.unix_bytes.proofs.lemmas.sequences.SequenceLemmas.{is_sequence-more}
 
--- a sequence is UTF-8
+-- a sequence is `IsUtf8`
 pub IsUtf8-sequence : (u : List ℕ) → IsSequence u → IsUtf8 u
 IsUtf8-sequence [] h = let k = is_sequence-nil in cc
 IsUtf8-sequence (a ∷ []) h =
@@ -70,19 +71,19 @@ IsSequence-encode c h =
     )))
     (cases_lt c 65536)) (cases_lt c 2048)) (cases_lt c 128)
 
--- sequences, one after the other, are UTF-8
+-- sequences, one after the other, are `IsUtf8`
 IsUtf8-concat : (us : List (List ℕ)) → list_all is_sequence us ≡ true → IsUtf8 (concat us)
 IsUtf8-concat [] h = IsUtf8-nil
 IsUtf8-concat (u ∷ us) h =
     let k : IsSequence u × (list_all is_sequence us ≡ true) = and_parts _ _ h in
     IsUtf8-append u (concat us) (IsUtf8-sequence u k.0) (IsUtf8-concat us k.1)
 
--- text is UTF-8
+-- `IsText` implies `IsUtf8`
 pub IsUtf8-from_IsText : (s : List ℕ) → IsText s → IsUtf8 s
 IsUtf8-from_IsText s (us, h, e) =
     subst IsUtf8 e (IsUtf8-concat us (list_all-from_AllPass is_sequence us h))
 
--- the encodings of scalar values are sequences, and one after the other the encoding of all
+-- the encodings of scalar values are sequences, and concatenate to the encoding of the whole list
 sequences : (cs : List ℕ) → scalars cs ≡ true
     → (list_all is_sequence (map encode cs) ≡ true) × (concat (map encode cs) ≡ encodes cs)
 sequences [] h = (refl, refl)
@@ -91,21 +92,21 @@ sequences (c ∷ cs) h =
     let j = sequences cs k.1 in
     (rw (IsSequence-encode c k.0, j.0) refl, ap (λ t. encode c ++ t) j.1)
 
--- UTF-8 is text
+-- `IsUtf8` implies `IsText`
 pub IsText-from_IsUtf8 : (s : List ℕ) → IsUtf8 s → IsText s
 IsText-from_IsUtf8 s (cs, (h, e)) =
     let j = sequences cs h in
     (map encode cs, AllPass-from_list_all is_sequence (map encode cs) j.0, j.1 ∙ e)
 
--- the empty list is text
+-- the empty list is valid UTF-8
 pub IsText-nil : IsText []
 IsText-nil = IsText-from_IsUtf8 [] IsUtf8-nil
 
--- one sequence is text
+-- one sequence is valid UTF-8
 pub IsText-sequence : (u : List ℕ) → IsSequence u → IsText u
 IsText-sequence u h = IsText-from_IsUtf8 u (IsUtf8-sequence u h)
 
--- text and text behind it are text
+-- valid UTF-8 followed by valid UTF-8 is valid UTF-8
 pub IsText-append : (s t : List ℕ) → IsText s → IsText t → IsText (s ++ t)
 IsText-append s t h k =
     IsText-from_IsUtf8 (s ++ t)

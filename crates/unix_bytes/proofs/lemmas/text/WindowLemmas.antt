@@ -1,4 +1,4 @@
--- Windows of text: bytes that each may follow the three before them.
+-- Windows of UTF-8: bytes each of which may follow the three before it.
 use Rattle.std.proofs.Common.{◌≡◌, ℕ, zero, suc, ◌+◌, ◌-◌, ◌<◌, ◌≤◌, List, [], ◌∷◌, ◌++◌, length}
 use Rattle.std.proofs.Common.{take, drop, Bool, true, false, ⊎_elim, inl, inr, refl, sym, ap, ◌∙◌}
 use Rattle.std.proofs.Common.{subst, arith, slice_index, length-append, length-take-le, le-leb}
@@ -8,42 +8,42 @@ use Rattle.std.proofs.lemmas.Bool.{cases_lt, lt-leb}
 use Rattle.std.proofs.lemmas.List.{take-take}
 use Rattle.std.proofs.Math.Seq.{take-append-add}
 use Rattle.unix_bytes.specs.Utf8.{IsSequence, IsText}
-use Rattle.unix_bytes.specs.Windows.{least_second, most_second, unfinished_len, IsFinished}
+use Rattle.unix_bytes.specs.Windows.{min_second, max_second, unfinished_len, IsFinished}
 use Rattle.unix_bytes.specs.Windows.{Fits, FitAfter, FitsWindow}
 use Rattle.unix_bytes.proofs.lemmas.sequences.SequenceLemmas.{IsSequence-one, IsSequence-two}
 use Rattle.unix_bytes.proofs.lemmas.sequences.SequenceLemmas.{IsSequence-three}
 use Rattle.unix_bytes.proofs.lemmas.sequences.SequenceLemmas.{IsSequence-four}
 use Rattle.unix_bytes.proofs.lemmas.text.TextLemmas.{IsText-nil, IsText-append, IsText-sequence}
 
--- how many of the last bytes, after a, b and c, are of a sequence that is not finished
+-- how many bytes at the end of a, b, c and the list after them belong to an unfinished sequence
 abbrev unfinished_after : ℕ → ℕ → ℕ → List ℕ → ℕ
 unfinished_after a b c [] = unfinished_len a b c
 unfinished_after a b c (d ∷ s) = unfinished_after b c d s
 
--- the text that the bytes begin with, up to a sequence that is not finished at their end
+-- the bytes, which come after a, b and c, are valid UTF-8 up to an unfinished sequence at their end
 record TextPrefix (a b c : ℕ) (s : List ℕ) : Type 0 where
   len : ℕ
   whole : len + unfinished_after a b c s ≡ length s
   text : IsText (take len s)
 
--- behind finished sequences no byte is of one that is not finished
+-- if a, b and c leave no sequence unfinished, none of them belongs to an unfinished sequence
 unfinished_len-finished : (a b c : ℕ) → IsFinished a b c → unfinished_len a b c ≡ 0
 unfinished_len-finished a b c h = rw (lt-leb 0xC0 c h.2, lt-leb 0xE0 b h.1, lt-leb 0xF0 a h.0) refl
 
--- the upper bound of a second byte is never more than F4
-most_bound : (c : ℕ) → most_second c ≤ 0xF4
-most_bound c = by (c == 0xED) (c == 0xF4)
+-- the upper bound of the byte after c is at most F4
+max_bound : (c : ℕ) → max_second c ≤ 0xF4
+max_bound c = by (c == 0xED) (c == 0xF4)
   where
     by : (p q : Bool) → (if p then 0x9F else if q then 0x8F else 0xF4) ≤ 0xF4
     by true q = omega arith
     by false true = omega arith
     by false false = omega arith
 
--- if all bytes are of a sequence that is not finished, the text that they begin with is empty
+-- if all bytes belong to an unfinished sequence, the valid prefix is empty
 no_prefix : (a b c : ℕ) (s : List ℕ) → unfinished_after a b c s ≡ length s → TextPrefix a b c s
 no_prefix a b c s e = record { len = 0; whole = omega (arith, e); text = IsText-nil }
 
--- a sequence, and the text that the bytes behind it begin with, are text at the beginning of all
+-- a sequence, and the valid prefix of the bytes after it, are a valid prefix of the whole
 more_prefix : (u s : List ℕ) (a b c x y z n : ℕ) → IsSequence u → length u ≡ n → TextPrefix x y z s
     → unfinished_after a b c (u ++ s) ≡ unfinished_after x y z s → TextPrefix a b c (u ++ s)
 more_prefix u s a b c x y z n h l f e = record {
@@ -54,36 +54,39 @@ more_prefix u s a b c x y z n h l f e = record {
       (IsText-append u (take f.len s) (IsText-sequence u h) f.text);
 }
 
--- one byte, a lead, is of a sequence that is not finished
+-- if the last byte is at least C0, one byte belongs to an unfinished sequence
 unfinished_len-one : (a b c : ℕ) → 0xC0 ≤ c → unfinished_len a b c ≡ 1
 unfinished_len-one a b c h = rw (le-leb 0xC0 c h) refl
 
--- two bytes, of which the first leads three or more, are of a sequence that is not finished
+-- if the last byte is less than C0 and the byte before it at least E0, two bytes belong to an
+-- unfinished sequence
 unfinished_len-two : (a b c : ℕ) → c < 0xC0 → 0xE0 ≤ b → unfinished_len a b c ≡ 2
 unfinished_len-two a b c l h = rw (lt-leb 0xC0 c l, le-leb 0xE0 b h) refl
 
--- three bytes, of which the first leads four, are of a sequence that is not finished
+-- if the first byte is at least F0, the second less than E0 and the third less than C0, three bytes
+-- belong to an unfinished sequence
 unfinished_len-three : (a b c : ℕ) → c < 0xC0 → b < 0xE0 → 0xF0 ≤ a → unfinished_len a b c ≡ 3
 unfinished_len-three a b c l k h = rw (lt-leb 0xC0 c l, lt-leb 0xE0 b k, le-leb 0xF0 a h) refl
 
--- the bounds of a second byte
-second_bounds : (d e : ℕ) → least_second d ≤ e → e ≤ most_second d
+-- the bounds of the byte after E0, ED, F0 and F4
+second_bounds : (d e : ℕ) → min_second d ≤ e → e ≤ max_second d
     → (d ≡ 0xE0 → 0xA0 ≤ e) × (d ≡ 0xED → e ≤ 0x9F) × (d ≡ 0xF0 → 0x90 ≤ e) × (d ≡ 0xF4 → e ≤ 0x8F)
 second_bounds d e l m = (
-  λ h. subst (λ x. least_second x ≤ e) h l,
-  λ h. subst (λ x. e ≤ most_second x) h m,
-  λ h. subst (λ x. least_second x ≤ e) h l,
-  λ h. subst (λ x. e ≤ most_second x) h m,
+  λ h. subst (λ x. min_second x ≤ e) h l,
+  λ h. subst (λ x. e ≤ max_second x) h m,
+  λ h. subst (λ x. min_second x ≤ e) h l,
+  λ h. subst (λ x. e ≤ max_second x) h m,
 )
 
--- up to n bytes that each may follow the three before them begin with text
+-- up to n bytes that each may follow the three before it, where a, b and c leave no sequence
+-- unfinished, have a valid prefix
 abbrev HasPrefixUpTo : ℕ → Type 0
 HasPrefixUpTo n =
     (a b c : ℕ) (s : List ℕ) → length s ≤ n → IsFinished a b c → FitAfter a b c s
     → TextPrefix a b c s
 
 module _ (n : ℕ) (fewer : HasPrefixUpTo n) (a b c d : ℕ) (k : IsFinished a b c) where
-  -- at most n + 1 bytes that may follow begin with text, if the first leads two
+  -- at most n + 1 such bytes have a valid prefix if the first is from C2 to DF
   two_byte_prefix : (s : List ℕ) → length s ≤ n → 0xC2 ≤ d → d ≤ 0xDF → FitAfter b c d s
       → TextPrefix a b c (d ∷ s)
   two_byte_prefix [] le g l hs = no_prefix _ _ _ _ (unfinished_len-one b c d (omega arith))
@@ -92,7 +95,7 @@ module _ (n : ℕ) (fewer : HasPrefixUpTo n) (a b c d : ℕ) (k : IsFinished a b
       more_prefix (d ∷ e ∷ []) s a b c c d e 2 (IsSequence-two d e (g, l, lo, hi)) refl
       (fewer c d e s (omega arith) (omega arith, omega arith, omega arith) hs) refl
 
-  -- at most n + 1 bytes that may follow begin with text, if the first leads three
+  -- at most n + 1 such bytes have a valid prefix if the first is from E0 to EF
   three_byte_prefix : (s : List ℕ) → length s ≤ n → 0xE0 ≤ d → d ≤ 0xEF → FitAfter b c d s
       → TextPrefix a b c (d ∷ s)
   three_byte_prefix [] le g l hs = no_prefix _ _ _ _ (unfinished_len-one b c d (omega arith))
@@ -102,12 +105,12 @@ module _ (n : ℕ) (fewer : HasPrefixUpTo n) (a b c d : ℕ) (k : IsFinished a b
   three_byte_prefix (e ∷ f ∷ s) le g l (h, (i, hs)) =
       let (lo, hi) = h.goes.within (inr (inr (omega arith))) in
       let (lo2, hi2) = i.goes.within (inr (inl g)) in
-      let second = second_bounds d e h.least h.most in
+      let second = second_bounds d e h.min h.max in
       more_prefix (d ∷ e ∷ f ∷ []) s a b c d e f 3
       (IsSequence-three d e f (g, l, lo, hi, lo2, hi2, second.0, second.1)) refl
       (fewer d e f s (omega arith) (omega arith, omega arith, omega arith) hs) refl
 
-  -- at most n + 1 bytes that may follow begin with text, if the first leads four
+  -- at most n + 1 such bytes have a valid prefix if the first is from F0 to F4
   four_byte_prefix : (s : List ℕ) → length s ≤ n → 0xF0 ≤ d → d ≤ 0xF4 → FitAfter b c d s
       → TextPrefix a b c (d ∷ s)
   four_byte_prefix [] le g l hs = no_prefix _ _ _ _ (unfinished_len-one b c d (omega arith))
@@ -122,17 +125,17 @@ module _ (n : ℕ) (fewer : HasPrefixUpTo n) (a b c d : ℕ) (k : IsFinished a b
       let (lo, hi) = h.goes.within (inr (inr (omega arith))) in
       let (lo2, hi2) = i.goes.within (inr (inl (omega arith))) in
       let (lo3, hi3) = j.goes.within (inl g) in
-      let second = second_bounds d e h.least h.most in
+      let second = second_bounds d e h.min h.max in
       more_prefix (d ∷ e ∷ f ∷ x ∷ []) s a b c e f x 4
       (IsSequence-four d e f x (g, l, lo, hi, lo2, hi2, lo3, hi3, second.2, second.3)) refl
       (fewer e f x s (omega arith) (omega arith, omega arith, omega arith) hs) refl
 
-  -- at most n + 1 bytes that may follow begin with text, whatever the first is
+  -- at most n + 1 such bytes have a valid prefix, whatever the first is
   any_prefix : (s : List ℕ) → length s ≤ n → Fits a b c d → FitAfter b c d s
       → TextPrefix a b c (d ∷ s)
   any_prefix s le h hs =
-      let last = most_bound c in
-      let most = h.most in
+      let last = max_bound c in
+      let max = h.max in
       ⊎_elim (λ (l : d < 0x80).
       more_prefix (d ∷ []) s a b c b c d 1 (IsSequence-one d (omega arith)) refl
       (fewer b c d s le (omega arith, omega arith, omega arith) hs) refl)
@@ -143,14 +146,15 @@ module _ (n : ℕ) (fewer : HasPrefixUpTo n) (a b c d : ℕ) (k : IsFinished a b
       (cases_lt d 0xE0))
       (h.goes.begins k)
 
--- bytes that each may follow the three before them begin with text
+-- any number of such bytes have a valid prefix
 has_prefix : (n : ℕ) → HasPrefixUpTo n
 has_prefix n a b c [] le k h = no_prefix _ _ _ _ (unfinished_len-finished a b c k)
 has_prefix zero a b c (d ∷ s) le k h = absurd (omega arith)
 has_prefix (suc n) a b c (d ∷ s) le k (h, hs) =
     any_prefix n (has_prefix n) a b c d k s (omega arith) h hs
 
--- how many of the last of n bytes are of a sequence that is not finished, by their places
+-- how many bytes at the end of the first n belong to an unfinished sequence, by the last three
+-- bytes
 unfinished_after-take : (n a b c : ℕ) (s : List ℕ) → n ≤ length s
     → unfinished_after a b c (take n s)
     ≡ unfinished_len (slice_index (a ∷ b ∷ c ∷ s) n) (slice_index (a ∷ b ∷ c ∷ s) (suc n))
@@ -159,7 +163,7 @@ unfinished_after-take zero a b c s le = refl
 unfinished_after-take (suc n) a b c [] le = absurd (omega arith)
 unfinished_after-take (suc n) a b c (d ∷ s) le = unfinished_after-take n b c d s (omega arith)
 
--- the text that a window begins with
+-- the bytes of a window after its first three are valid UTF-8 up to an unfinished sequence
 pub window_text : (w : List ℕ) → 19 ≤ length w
     → IsFinished (slice_index w 0) (slice_index w 1) (slice_index w 2) → FitsWindow w
     → let last = slice_index w in

@@ -1,4 +1,4 @@
--- How far two strings are the same, and several bytes of each compared at once.
+-- Common prefixes, and several bytes of two strings compared at once.
 use Rattle.std.proofs.Common.{◌≡◌, ℕ, zero, suc, ◌+◌, ◌-◌, ◌^◌, ◌%◌, ◌<◌, ◌≤◌, Bool, true, false}
 use Rattle.std.proofs.Common.{cond, not, eqb, List, [], ◌∷◌, length, map, get_or, ⊎_elim}
 use Rattle.std.proofs.Common.{refl, sym, ap, ap₂, ◌∙◌, arith, w8, eq-eqb, ne_eqb, eqb-true}
@@ -12,8 +12,8 @@ use Rattle.std.proofs.lemmas.Simd.{tops_compared, mask_l-mod, first_set_mask_l}
 use Rattle.std.proofs.lemmas.Simd.{length-chunk, get_or-chunk}
 use Rattle.unix_bytes.proofs.lemmas.vectors.HitLemmas.{in_window}
 
--- n is the length of the common prefix if the bytes before n are the same, and at n a string ends
--- or the two differ
+-- n is the length of the common prefix if the bytes before index n are the same, and at n one of
+-- the strings ends or their bytes differ
 pub common_prefix_len-is : (a b : List ℕ) (n : ℕ) → n ≤ length a → n ≤ length b
     → ((k : ℕ) → k < n → get_or a k 0 ≡ get_or b k 0)
     → (n < length a → n < length b → eqb (get_or a n 0) (get_or b n 0) ≡ false)
@@ -30,7 +30,7 @@ common_prefix_len-is (x ∷ a) (y ∷ b) (suc n) l m same differs =
     let total : suc n ≡ 1 + common_prefix_len eqb a b = omega arith in
     rw first total
 
--- two strings have the same byte at each place of their common prefix
+-- two strings have the same byte at each index of their common prefix
 pub common_prefix_len-same : (a b : List ℕ) (k : ℕ) → k < common_prefix_len eqb a b
     → get_or a k 0 ≡ get_or b k 0
 common_prefix_len-same [] b k l = absurd (omega arith)
@@ -47,7 +47,7 @@ common_prefix_len-same (x ∷ a) (y ∷ b) (suc k) l =
     (λ (other : eqb x y ≡ false). let m : suc k < 0 = rw other at l in absurd (omega arith))
     (cases_Bool (eqb x y))
 
--- two strings that go on behind their common prefix differ there
+-- two strings that continue after their common prefix differ there
 pub common_prefix_len-differs : (a b : List ℕ) (n : ℕ) → n ≡ common_prefix_len eqb a b
     → n < length a
     → n < length b → eqb (get_or a n 0) (get_or b n 0) ≡ false
@@ -70,17 +70,17 @@ common_prefix_len-differs (x ∷ a) (y ∷ b) (suc n) e l m =
 abbrev differ : ℕ × ℕ → Bool
 differ pair = not (eqb pair.0 pair.1)
 
--- the bytes of two strings, place by place
+-- the bytes of two strings, index by index
 abbrev pairs : List ℕ → List ℕ → List (ℕ × ℕ)
 pairs a b = zip2 (λ x y. (x, y)) a b
 
--- the places at which two strings differ, by their pairs
+-- whether two strings differ at each index, by their pairs
 zip2-pairs : (a b : List ℕ) → zip2 (λ x y. not (eqb x y)) a b ≡ map differ (pairs a b)
 zip2-pairs [] b = refl
 zip2-pairs (x ∷ a) [] = refl
 zip2-pairs (x ∷ a) (y ∷ b) = ap (λ ts. not (eqb x y) ∷ ts) (zip2-pairs a b)
 
--- the pairs before the first that differs are the common prefix
+-- the number of pairs before the first whose bytes differ is the length of the common prefix
 prefix_len-pairs : (a b : List ℕ)
     → prefix_len (λ pair. not (differ pair)) (pairs a b) ≡ common_prefix_len eqb a b
 prefix_len-pairs [] b = refl
@@ -89,17 +89,17 @@ prefix_len-pairs (x ∷ a) (y ∷ b) =
     ⊎_elim (λ (same : eqb x y ≡ true). rw same (ap (λ n. 1 + n) (prefix_len-pairs a b)))
     (λ (other : eqb x y ≡ false). rw other refl) (cases_Bool (eqb x y))
 
--- two strings of one length have as many pairs
+-- two strings of the same length have as many pairs as each has bytes
 length-pairs : (a b : List ℕ) → length a ≡ length b → length (pairs a b) ≡ length a
 length-pairs [] b e = refl
 length-pairs (x ∷ a) [] e = absurd (omega arith)
 length-pairs (x ∷ a) (y ∷ b) e = ap (λ n. suc n) (length-pairs a b (omega arith))
 
--- a bit for each pair of bytes, the lowest for the first: set if they differ
+-- a bit for each pair of bytes, the lowest for the first: set if and only if the two bytes differ
 abbrev other_mask : List ℕ → List ℕ → ℕ
 other_mask a b = mask_l (map (top 7) (zip2 (λ x y. cond (not (eqb x y)) 255 0) a b)) % 2 ^ 64
 
--- the mask that the code computes has a bit for each pair that differs
+-- the mask that the code computes has a bit set for each pair whose bytes differ
 other_mask-pairs : (a b : List ℕ) (n : ℕ) → n ≤ 64 → length a ≡ n → length b ≡ n
     → other_mask a b ≡ mask_l (map differ (pairs a b))
 other_mask-pairs a b n few l m =
@@ -108,7 +108,8 @@ other_mask-pairs a b n few l m =
     ap (λ ts. mask_l ts % 2 ^ 64) (tops_compared w8 (λ x y. not (eqb x y)) a b ∙ zip2-pairs a b)
     ∙ mask_l-mod (map differ (pairs a b)) 64 size
 
--- the length of the common prefix is n if no bit is set, and else the place of the lowest
+-- the length of the common prefix is n if no bit is set, and otherwise the index of the lowest bit
+-- that is set
 first_other : (a b : List ℕ) (n : ℕ) → n ≤ 64 → length a ≡ n → length b ≡ n
     → cond (eqb (other_mask a b) 0) n (count_trailing_zeros 64 (other_mask a b))
     ≡ common_prefix_len eqb a b
@@ -117,13 +118,13 @@ first_other a b n few l m =
     ∙ first_set_mask_l differ (pairs a b) n (length-pairs a b (l ∙ sym m) ∙ l) few
     ∙ prefix_len-pairs a b
 
--- of the n bytes from `at` on, `len` stand before the first place at which two strings differ
+-- of the n bytes from `at` on, `len` come before the first index at which two strings differ
 pub record CommonInLanes (a b : List ℕ) (n at len : ℕ) : Type 0 where
   pub in_range : len ≤ n
   pub same : (k : ℕ) → at ≤ k → k < at + len → get_or a k 0 ≡ get_or b k 0
   pub differs : len < n → eqb (get_or a (at + len) 0) (get_or b (at + len) 0) ≡ false
 
--- the common prefix of n bytes from `at` on, by the places in the whole strings
+-- the common prefix of n bytes from `at` on, by the indices in the whole strings
 in_lanes : (a b : List ℕ) (n at len : ℕ) → at + n ≤ length a → at + n ≤ length b
     → len ≡ common_prefix_len eqb (chunk at n a) (chunk at n b) → CommonInLanes a b n at len
 in_lanes a b n at len l m is =
@@ -154,7 +155,7 @@ none_other a b n at few l m none =
     ∙ first_other (chunk at n a) (chunk at n b) n few (length-chunk at n a l)
     (length-chunk at n b m))
 
--- if a bit is set, the lowest is that of the first pair that differs
+-- if a bit is set, the lowest bit that is set is for the first pair whose bytes differ
 pub some_other : (a b : List ℕ) (n at : ℕ) → n ≤ 64 → at + n ≤ length a → at + n ≤ length b
     → (other_mask (chunk at n a) (chunk at n b) ≡ 0 → ⊥)
     → CommonInLanes a b n at

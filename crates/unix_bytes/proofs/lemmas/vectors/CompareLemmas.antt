@@ -1,4 +1,4 @@
--- Byte strings compared by the first bytes that differ.
+-- Byte strings compared at their first difference.
 use Rattle.std.proofs.Common.{◌≡◌, ℕ, zero, suc, ◌+◌, ◌<◌, true, false, eqb, List, []}
 use Rattle.std.proofs.Common.{◌∷◌, length, get_or, ⊎_elim, refl, sym, ap, ◌∙◌, arith, eqb-true}
 use Rattle.std.proofs.Common.{nat_cmp, eq-eqb, Ordering, Less, Equal, Greater}
@@ -12,7 +12,7 @@ use Rattle.std.proofs.lemmas.Bool.{cases_Bool, false≢true}
 same_number : (x y : ℕ) → eqb x y ≡ true → nat_cmp x y ≡ Equal
 same_number x y same = sym (nat_cmp_is x y Equal (eqb-true x y same))
 
--- an order of two numbers that differ isn't asked for another one
+-- if two numbers differ, their order decides
 other_number : (x y : ℕ) (r : Ordering) → eqb x y ≡ false
     → ordering_then (nat_cmp x y) r ≡ nat_cmp x y
 other_number x y r other =
@@ -23,7 +23,7 @@ other_number x y r other =
       | Greater ↦ λ behind. refl
     ] (ranks x y)
 
--- if both strings go on behind their common prefix, the bytes there tell the order
+-- if both strings continue after their common prefix, the first bytes after it decide the order
 pub differing_bytes : (a b : List ℕ) (n : ℕ) → n ≡ common_prefix_len eqb a b → n < length a
     → n < length b → slice_cmp nat_cmp a b ≡ nat_cmp (get_or a n 0) (get_or b n 0)
 differing_bytes [] b n e l m = absurd (omega arith)
@@ -42,7 +42,7 @@ differing_bytes (x ∷ a) (y ∷ b) (suc n) e l m =
     (λ (other : eqb x y ≡ false). let f : suc n ≡ 0 = rw other at e in absurd (omega arith))
     (cases_Bool (eqb x y))
 
--- numbers are in the order of those that follow them
+-- the successors of two numbers have the same order
 nat_cmp-suc : (m n : ℕ) → nat_cmp m n ≡ nat_cmp (suc m) (suc n)
 nat_cmp-suc m n = nat_cmp_is (suc m) (suc n) (nat_cmp m n)
     (elim (nat_cmp m n)
@@ -53,7 +53,7 @@ nat_cmp-suc m n = nat_cmp_is (suc m) (suc n) (nat_cmp m n)
       | Greater ↦ λ behind. omega arith
     ] (ranks m n))
 
--- if a string ends with their common prefix, the lengths tell the order
+-- if one of two strings is their common prefix, the lengths decide the order
 pub beginning_is_less : (a b : List ℕ) (n : ℕ) → n ≡ common_prefix_len eqb a b
     → (n < length a → n < length b → ⊥) → slice_cmp nat_cmp a b ≡ nat_cmp (length a) (length b)
 beginning_is_less [] [] n e ends = refl

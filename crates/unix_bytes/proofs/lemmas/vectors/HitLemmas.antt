@@ -1,4 +1,4 @@
--- One byte searched for, sixteen bytes at a time.
+-- The search for a byte, 16 bytes at a time.
 use Rattle.std.proofs.Common.{◌≡◌, ℕ, suc, ◌+◌, ◌-◌, ◌*◌, ◌/◌, ◌%◌, ◌^◌, ◌<◌, ◌≤◌, ◌==◌, Bool}
 use Rattle.std.proofs.Common.{true, false, List, length, take, drop, map, get_or, ⊎_elim, refl}
 use Rattle.std.proofs.Common.{sym, ap, subst, ◌∙◌, arith, length-drop, get_or-drop}
@@ -14,7 +14,7 @@ use Rattle.std.proofs.lemmas.Simd.{bit_mask_l, mask_l-lt, run_in_chunk_fails, ru
 use Rattle.unix_bytes.specs.Lanes.{hit_mask}
 use Rattle.unix_bytes.proofs.lemmas.vectors.MaskLemmas.{bit, is_clear}
 
--- if the byte stands nowhere before `at`, it stands nowhere before its first place in a window that
+-- if the byte does not occur before `at`, it does not occur before its first index in a window that
 -- begins at `at` or earlier
 pub none_before : (byte : ℕ) (s : List ℕ) (at from n : ℕ) → from ≤ at → from + 16 ≤ length s
     → n ≡ position_or_len (λ b. b == byte) (take 16 (drop from s))
@@ -25,8 +25,8 @@ none_before byte s at from n order fits is none k l =
     (λ (more : at ≤ k).
     run_in_chunk_fails (λ b. b == byte) s from 16 n 0 fits is k (omega arith) l) (cases_lt k at)
 
--- if the byte stands nowhere before `at`, its first place in a window that begins at `at` or
--- earlier is its first of all
+-- if the byte does not occur before `at`, its first index in a window that begins at `at` or
+-- earlier is its first index in s
 pub first_after : (byte : ℕ) (s : List ℕ) (at from n : ℕ) → from ≤ at → from + 16 ≤ length s
     → n ≡ position_or_len (λ b. b == byte) (take 16 (drop from s)) → n ≤ 16
     → ((k : ℕ) → k < at → (get_or s k 0 == byte) ≡ false) → (from + n < length s → n < 16)
@@ -47,7 +47,7 @@ top_bit a k low high =
     let some : 0 < 2 ^ k = omega (arith, pow_mono {i = 0} {j = k} (omega arith)) in
     omega (arith, le-div 1 a (2 ^ k) some (omega arith), div_below a (2 ^ k) 2 some (omega arith))
 
--- the k-th bit of the mask says whether the k-th byte is `byte`
+-- the k-th bit of the mask is set if and only if the k-th byte is `byte`
 bit_of : (byte : ℕ) (xs : List ℕ) (k : ℕ) → k < length xs
     → hit_mask byte xs / 2 ^ k % 2 ≡ bit (get_or xs k 0 == byte)
 bit_of byte xs k l =
@@ -59,13 +59,13 @@ is_set : (t : Bool) → bit t ≡ 1 → t ≡ true
 is_set true e = refl
 is_set false e = absurd (omega arith)
 
--- the last place of `byte` among 16 bytes is just before `past`, or there is none and `past` is 0
+-- the last index of `byte` among 16 bytes is just before `past`, or there is none and `past` is 0
 pub record LastHit (byte : ℕ) (xs : List ℕ) (past : ℕ) : Type 0 where
   pub in_range : past ≤ 16
   pub after : 0 < past → (get_or xs (past - 1) 0 == byte) ≡ true
-  pub none_behind : (k : ℕ) → past ≤ k → k < 16 → (get_or xs k 0 == byte) ≡ false
+  pub none_after : (k : ℕ) → past ≤ k → k < 16 → (get_or xs k 0 == byte) ≡ false
 
--- a number of 16 bits has its highest bit below 16
+-- if a is less than 2^16, and 2^m is at most 2a + 1, m is at most 16
 at_most_16 : (a m : ℕ) → a < 2 ^ 16 → 2 ^ m ≤ 2 * a + 1 → m ≤ 16
 at_most_16 a m small low =
     ⊎_elim
@@ -74,11 +74,11 @@ at_most_16 a m small low =
     absurd (omega (arith, small, low, many)))
     (λ (few : m ≤ 16). few) (cases_lt 16 m)
 
--- a power of two is twice the one before
+-- a power of two is twice the power before it
 halves : (m : ℕ) → 0 < m → 2 ^ m ≡ 2 * 2 ^ (m - 1)
 halves m some = ap (λ k. 2 ^ k) {x = m} {y = suc (m - 1)} (omega arith) ∙ pow-succ' 2 (m - 1)
 
--- the leading zeros of the mask of 16 bytes tell the last place of the byte
+-- the leading zeros of the mask of 16 bytes determine the last index of the byte
 pub last_hit : (byte : ℕ) (xs : List ℕ) → length xs ≡ 16
     → LastHit byte xs (64 - count_leading_zeros 64 (hit_mask byte xs))
 last_hit byte xs l =
@@ -97,11 +97,12 @@ last_hit byte xs l =
           let two = halves m some in
           is_set _ (sym (bit_of byte xs (m - 1) (omega arith)) ∙ ap (λ n. n % 2)
           (top_bit a (m - 1) (omega (arith, low, two)) (omega (arith, high, two))));
-      none_behind = λ k h n.
+      none_after = λ k h n.
           is_clear _ (sym (bit_of byte xs k (omega arith)) ∙ ap (λ n. n % 2) (no_bit a k m high h));
     })
 
--- if the byte stands nowhere from `from` on, the search there finds none
+-- if the byte does not occur from `from` on, `position_or_len` of the bytes from there is their
+-- number
 pub none_from : (byte : ℕ) (s : List ℕ) (from : ℕ) → from ≤ length s
     → ((k : ℕ) → from ≤ k → k < length s → (get_or s k 0 == byte) ≡ false)
     → position_or_len (λ b. b == byte) (drop from s) ≡ length (drop from s)
@@ -112,7 +113,7 @@ none_from byte s from l none =
     ∙ none (from + k) (omega arith) (omega arith))
     (λ few. absurd (omega arith))
 
--- each byte of a window of n bytes is the byte of the whole string at the same place
+-- each byte of a window of n bytes is the byte of the whole string at the same index
 pub in_window : (at n : ℕ) (s : List ℕ) (k : ℕ) → at ≤ k → k < at + n
     → get_or (take n (drop at s)) (k - at) 0 ≡ get_or s k 0
 in_window at n s k l h =

@@ -1,4 +1,4 @@
--- ASCII, 64, 16 and 8 bytes at a time.
+-- Tests for ASCII, 64, 16 or 8 bytes at a time.
 use Rattle.std.proofs.Common.{◌≡◌, ℕ, zero, suc, ◌+◌, ◌-◌, ◌<◌, ◌≤◌, List, [], ◌∷◌, length, take}
 use Rattle.std.proofs.Common.{drop, Bool, true, false, not, slice_index, get_or, sym, ap, ◌∙◌}
 use Rattle.std.proofs.Common.{subst, arith, length-take-le}
@@ -13,22 +13,22 @@ use Rattle.std.proofs.lemmas.Str.{IsAscii-append, IsAscii-take}
 use Rattle.std.proofs.lemmas.Str.Ascii.{IsAscii-from_all, IsAscii-more}
 use Rattle.std.proofs.lemmas.Simd.{leading_from_mask_l, trailing_mask_l, length-chunk}
 use Rattle.std.proofs.Math.Seq.{take-add}
-use Rattle.unix_bytes.specs.Lanes.{is_wide, wide_mask}
-use Rattle.unix_bytes.proofs.lemmas.vectors.MaskLemmas.{least_bits, least_mask}
+use Rattle.unix_bytes.specs.Lanes.{is_non_ascii, non_ascii_mask}
+use Rattle.unix_bytes.proofs.lemmas.vectors.MaskLemmas.{min_bits, min_mask}
 
 -- the byte is ASCII
 abbrev is_narrow : ℕ → Bool
-is_narrow b = not (is_wide b)
+is_narrow b = not (is_non_ascii b)
 
--- a byte that passes the test is less than 128
+-- a byte that passes `is_narrow` is less than 128
 narrow_bound : (b : ℕ) → is_narrow b ≡ true → b < 128
 narrow_bound b h = grind (arith, nat_tests)
 
--- a byte that fails the test is 128 or more
-wide_bound : (b : ℕ) → is_narrow b ≡ false → 0x80 ≤ b
-wide_bound b h = grind (arith, nat_tests)
+-- a byte that fails `is_narrow` is at least 128
+non_ascii_bound : (b : ℕ) → is_narrow b ≡ false → 0x80 ≤ b
+non_ascii_bound b h = grind (arith, nat_tests)
 
--- the bytes before the first that is not ASCII are ASCII
+-- the bytes before the first byte that is not ASCII are ASCII
 narrow_prefix : (xs : List ℕ) → IsAscii (take (prefix_len is_narrow xs) xs)
 narrow_prefix xs =
     let n = prefix_len is_narrow xs in
@@ -37,24 +37,24 @@ narrow_prefix xs =
     rw (get_or-take n xs k d few)
     (narrow_bound (get_or xs k d) (prefix_len_passes is_narrow xs k d few)))
 
--- if no bit of their mask is set, all bytes are ASCII
-ascii_from_mask : (xs : List ℕ) → wide_mask xs ≡ 0 → IsAscii xs
+-- if no bit of the mask of some bytes is set, all these bytes are ASCII
+ascii_from_mask : (xs : List ℕ) → non_ascii_mask xs ≡ 0 → IsAscii xs
 ascii_from_mask xs none =
-    let e = leading_from_mask_l is_wide xs none in
+    let e = leading_from_mask_l is_non_ascii xs none in
     subst IsAscii (take_all (prefix_len is_narrow xs) xs (omega arith)) (narrow_prefix xs)
 
 -- if the code sets no bit for n bytes from i on, they are ASCII
 pub ascii_block : (s : List ℕ) (i n : ℕ) → n ≤ 64 → i + n ≤ length s
-    → least_bits 0x80 n (take n (drop i s)) ≡ 0 → IsAscii (take n (drop i s))
+    → min_bits 0x80 n (take n (drop i s)) ≡ 0 → IsAscii (take n (drop i s))
 ascii_block s i n few l none =
     let block = take n (drop i s) in
-    ascii_from_mask block (sym (least_mask 0x80 n block (length-chunk i n s l) few) ∙ none)
+    ascii_from_mask block (sym (min_mask 0x80 n block (length-chunk i n s l) few) ∙ none)
 
 -- a shorter prefix of ASCII is ASCII
 pub fewer_ascii : (s : List ℕ) (i j : ℕ) → i ≤ j → IsAscii (take j s) → IsAscii (take i s)
 fewer_ascii s i j le h = subst IsAscii (take-take i j s le) (IsAscii-take (take j s) i h)
 
--- bytes of ASCII up to i, and n more bytes of ASCII, are ASCII up to i + n
+-- if the bytes before i and the next n are ASCII, so are the bytes before i + n
 pub more_ascii : (s : List ℕ) (i n : ℕ) → IsAscii (take i s) → IsAscii (take n (drop i s))
     → IsAscii (take (i + n) s)
 more_ascii s i n before here =
@@ -69,24 +69,24 @@ eight_and_eight s i e long short first last =
     subst IsAscii (take_all (i + 8) s (omega arith))
     (more_ascii s i 8 (fewer_ascii s i 8 (omega arith) first) last)
 
--- if the bytes up to i are ASCII and the next 16 have no bit set in their mask, all of them are
--- ASCII
+-- if the bytes before i are ASCII, and no bit of the mask of the next 16 is set, the bytes before
+-- i + 16 are ASCII
 pub ascii_window : (s : List ℕ) (i m : ℕ) → i + 16 ≤ length s → IsAscii (take i s)
-    → m ≡ wide_mask (take 16 (drop i s)) → m ≡ 0 → IsAscii (take (i + 16) s)
+    → m ≡ non_ascii_mask (take 16 (drop i s)) → m ≡ 0 → IsAscii (take (i + 16) s)
 ascii_window s i m l before mask none =
     more_ascii s i 16 before (ascii_from_mask (take 16 (drop i s)) (sym mask ∙ none))
 
--- the lowest bit in the mask of 16 bytes is that of the first that is not ASCII
-count_trailing_zeros-wide_mask : (s : List ℕ) (i m : ℕ) → i + 16 ≤ length s
-    → m ≡ wide_mask (take 16 (drop i s)) → (m ≡ 0 → ⊥)
+-- the lowest bit set in the mask of 16 bytes is for the first byte that is not ASCII
+count_trailing_zeros-non_ascii_mask : (s : List ℕ) (i m : ℕ) → i + 16 ≤ length s
+    → m ≡ non_ascii_mask (take 16 (drop i s)) → (m ≡ 0 → ⊥)
     → count_trailing_zeros 64 m ≡ prefix_len is_narrow (take 16 (drop i s))
-count_trailing_zeros-wide_mask s i m l mask some =
+count_trailing_zeros-non_ascii_mask s i m l mask some =
     let xs = take 16 (drop i s) in
     let long = length-chunk i 16 s l in
-    let nonzero : 0 < wide_mask xs = omega arith in
-    ap (count_trailing_zeros 64) mask ∙ trailing_mask_l is_wide 64 xs (omega arith) nonzero
+    let nonzero : 0 < non_ascii_mask xs = omega arith in
+    ap (count_trailing_zeros 64) mask ∙ trailing_mask_l is_non_ascii 64 xs (omega arith) nonzero
 
--- if the first byte is ASCII, at least one byte stands before the first that is not
+-- if the first byte is ASCII, at least one byte comes before the first byte that is not ASCII
 narrow_some : (s : List ℕ) → 0 < length s → slice_index s 0 < 128
     → 0 < prefix_len is_narrow (take 16 (drop 0 s))
 narrow_some [] some h = absurd (omega arith)
@@ -94,26 +94,26 @@ narrow_some (x ∷ s) some h =
     let e : is_narrow x ≡ true = grind (arith, nat_tests) in
     rw e (omega arith)
 
--- if the first byte is ASCII, at least one byte stands before the lowest bit
+-- if the first byte is ASCII, at least one byte comes before the byte of the lowest bit set
 some_ascii : (s : List ℕ) (i m : ℕ) → i + 16 ≤ length s
-    → m ≡ wide_mask (take 16 (drop i s)) → (m ≡ 0 → ⊥) → slice_index s 0 < 128
+    → m ≡ non_ascii_mask (take 16 (drop i s)) → (m ≡ 0 → ⊥) → slice_index s 0 < 128
     → 0 < i + count_trailing_zeros 64 m
 some_ascii s zero m l mask some h =
-    let e = count_trailing_zeros-wide_mask s 0 m l mask some in
+    let e = count_trailing_zeros-non_ascii_mask s 0 m l mask some in
     let n = narrow_some s (omega arith) h in
     omega arith
 some_ascii s (suc i) m l mask some h = omega arith
 
--- if the bytes up to i are ASCII, so are all before the lowest bit in the mask of the next 16;
--- these are at least one byte if the first byte is ASCII
+-- if the bytes before i are ASCII, so are all bytes before the byte of the lowest bit set in the
+-- mask of the next 16; there is at least one such byte if the first byte is ASCII
 pub ascii_prefix : (s : List ℕ) (i m : ℕ) → i + 16 ≤ length s → IsAscii (take i s)
-    → m ≡ wide_mask (take 16 (drop i s)) → (m ≡ 0 → ⊥)
+    → m ≡ non_ascii_mask (take 16 (drop i s)) → (m ≡ 0 → ⊥)
     → let n = i + count_trailing_zeros 64 m in
     (n ≤ length s) × IsAscii (take n s) × (slice_index s 0 < 128 → 0 < n)
 ascii_prefix s i m l before mask some =
     let xs = take 16 (drop i s) in
     let n = count_trailing_zeros 64 m in
-    let e = count_trailing_zeros-wide_mask s i m l mask some in
+    let e = count_trailing_zeros-non_ascii_mask s i m l mask some in
     let few : n ≤ 16 =
     omega (arith, e, prefix_len-le-length is_narrow xs, length-chunk i 16 s l) in
     let here : IsAscii (take n xs) =
@@ -123,24 +123,25 @@ ascii_prefix s i m l before mask some =
       some_ascii s i m l mask some,
     )
 
--- the lowest bit in the mask of the first 16 bytes tells the place of the first that is not ASCII
-pub first_wide : (s : List ℕ) (m : ℕ) → 16 ≤ length s → m ≡ wide_mask (take 16 (drop 0 s))
+-- the lowest bit set in the mask of the first 16 bytes determines the index of the first byte that
+-- is not ASCII
+pub first_non_ascii : (s : List ℕ) (m : ℕ) → 16 ≤ length s → m ≡ non_ascii_mask (take 16 (drop 0 s))
     → (m ≡ 0 → ⊥) → (count_trailing_zeros 64 m ≤ 16)
     × (count_trailing_zeros 64 m < 16 → 0x80 ≤ slice_index s (count_trailing_zeros 64 m))
-first_wide s m l mask some =
+first_non_ascii s m l mask some =
     let xs = take 16 s in
     let long : length xs ≡ 16 = length-take-le 16 s l in
     let n = prefix_len is_narrow xs in
     let e : count_trailing_zeros 64 m ≡ n =
-    count_trailing_zeros-wide_mask s 0 m (omega arith) mask some in (
+    count_trailing_zeros-non_ascii_mask s 0 m (omega arith) mask some in (
       omega (arith, prefix_len-le-length is_narrow xs),
       λ few.
           let within : n < 16 = omega arith in
           let stop = prefix_len_stops is_narrow xs 0 (omega arith) in
-          let wide : 0x80 ≤ get_or xs n 0 = wide_bound (get_or xs n 0) stop in
+          let non_ascii : 0x80 ≤ get_or xs n 0 = non_ascii_bound (get_or xs n 0) stop in
           subst (λ k. 0x80 ≤ get_or s k 0) (sym e)
-          (subst (λ b. 0x80 ≤ b) (get_or-take 16 s n 0 within) wide),
+          (subst (λ b. 0x80 ≤ b) (get_or-take 16 s n 0 within) non_ascii),
     )
 
--- one more byte of ASCII behind bytes of ASCII
+-- ASCII with one more byte of ASCII appended is ASCII
 pub ruleset one_more_ascii = IsAscii-more

@@ -7,17 +7,17 @@ use Rattle.std.specs.Simd.Lanes.{zip2, mask_l, top}
 use Rattle.std.proofs.lemmas.List.{length-map}
 use Rattle.std.proofs.lemmas.Simd.{length-zip2, mask_l-mod, mask_l-lt, tops_compared}
 use Rattle.std.proofs.lemmas.Simd.{zip2_splat_left}
-use Rattle.unix_bytes.specs.Windows.{AreAbove}
+use Rattle.unix_bytes.specs.Windows.{AllAtLeast}
 
--- the mask of the bytes that are not less than k, as the code computes it of n bytes
-abbrev pub least_bits : ℕ → ℕ → List ℕ → ℕ
-least_bits k n xs =
+-- the mask of the bytes that are not less than k, as the code computes it for n bytes
+abbrev pub min_bits : ℕ → ℕ → List ℕ → ℕ
+min_bits k n xs =
     mask_l (map (top 7) (zip2 (λ a b. cond (nat_le a b) 255 0) (replicate n k) xs)) % 2 ^ 64
 
--- the mask that the code computes has a bit for each byte that is not less than k
-pub least_mask : (k n : ℕ) (xs : List ℕ) → length xs ≡ n → n ≤ 64
-    → least_bits k n xs ≡ mask_l (map (nat_le k) xs)
-least_mask k n xs e le =
+-- the mask that the code computes has a bit set for each byte that is not less than k
+pub min_mask : (k n : ℕ) (xs : List ℕ) → length xs ≡ n → n ≤ 64
+    → min_bits k n xs ≡ mask_l (map (nat_le k) xs)
+min_mask k n xs e le =
     ap (λ ms. mask_l ms % 2 ^ 64)
     (tops_compared w8 nat_le (replicate n k) xs ∙ zip2_splat_left nat_le k n xs e)
     ∙ mask_l-mod (map (nat_le k) xs) 64 (omega (arith, length-map xs (nat_le k)))
@@ -38,7 +38,7 @@ is_clear true e = absurd (omega arith)
 is_clear false e = refl
 
 -- if no bit is set, no byte is less than its bound
-none_less : (xs ys : List ℕ) → mask_l (zip2 ltb xs ys) ≡ 0 → AreAbove xs ys
+none_less : (xs ys : List ℕ) → mask_l (zip2 ltb xs ys) ≡ 0 → AllAtLeast xs ys
 none_less [] ys e = tt
 none_less (x ∷ xs) [] e = tt
 none_less (x ∷ xs) (y ∷ ys) e =
@@ -46,7 +46,8 @@ none_less (x ∷ xs) (y ∷ ys) e =
 
 -- if the code sets no bit, no byte is less than its bound
 pub none_below : (xs ys : List ℕ) → length xs ≡ 16 → length ys ≡ 16
-    → mask_l (map (top 7) (zip2 (λ a b. cond (ltb a b) 255 0) xs ys)) % 2 ^ 64 ≡ 0 → AreAbove xs ys
+    → mask_l (map (top 7) (zip2 (λ a b. cond (ltb a b) 255 0) xs ys)) % 2 ^ 64 ≡ 0
+    → AllAtLeast xs ys
 none_below xs ys p q e =
     let l : length (zip2 ltb xs ys) ≤ 64 =
     omega (arith, length-zip2 {C = Bool} ltb xs ys (p ∙ sym q)) in

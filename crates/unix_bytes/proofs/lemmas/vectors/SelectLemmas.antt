@@ -1,4 +1,4 @@
--- Vectors of bytes, lane by lane: what is chosen by a comparison.
+-- Vectors of bytes, lane by lane: selection by a comparison.
 use Rattle.std.proofs.Common.{◌≡◌, ℕ, zero, suc, List, [], ◌∷◌, length, Bool, cond, map, nat_le}
 use Rattle.std.proofs.Common.{eqb, refl, sym, ap, ◌∙◌, arith, w8}
 use Rattle.std.specs.Prelude.{replicate}
@@ -6,7 +6,7 @@ use Rattle.std.specs.Simd.Lanes.{zip2, sel_l, top}
 use Rattle.std.proofs.lemmas.List.{map-id}
 use Rattle.std.proofs.lemmas.Simd.{tops_compared, zip2_splat, zip2_splat_left, zip2_of_maps}
 
--- where a byte passes the test, y is chosen, and elsewhere the other byte
+-- y is selected where a byte passes the test, and elsewhere the byte of `os`
 sel_l-map : (p : ℕ → Bool) (y n : ℕ) (xs os : List ℕ) → length xs ≡ n
     → sel_l (map p xs) (replicate n y) os ≡ zip2 (λ b o. cond (p b) y o) xs os
 sel_l-map p y n [] os e = refl
@@ -15,17 +15,17 @@ sel_l-map p y (suc n) (x ∷ xs) [] e = refl
 sel_l-map p y (suc n) (x ∷ xs) (o ∷ os) e =
     ap (λ t. cond (p x) y o ∷ t) (sel_l-map p y n xs os (omega arith))
 
--- 255 is chosen where a byte is not less than k
-pub sel_l-at_least : (k n : ℕ) (xs os : List ℕ) → length xs ≡ n
+-- 255 is selected where a byte is not less than k
+pub sel_l-lanes_ge : (k n : ℕ) (xs os : List ℕ) → length xs ≡ n
     → sel_l (map (top 7) (zip2 (λ a b. cond (nat_le a b) 255 0) (replicate n k) xs))
     (replicate n 255) os
     ≡ zip2 (λ b o. cond (nat_le k b) 255 o) xs os
-sel_l-at_least k n xs os e =
+sel_l-lanes_ge k n xs os e =
     ap (λ ms. sel_l ms (replicate n 255) os)
     (tops_compared w8 nat_le (replicate n k) xs ∙ zip2_splat_left nat_le k n xs e)
     ∙ sel_l-map (nat_le k) 255 n xs os e
 
--- `own` is chosen where a byte equals k
+-- `own` is selected where a byte equals k
 pub sel_l-equal : (k own n : ℕ) (xs os : List ℕ) → length xs ≡ n
     → sel_l (map (top 7) (zip2 (λ a b. cond (eqb a b) 255 0) xs (replicate n k)))
     (replicate n own) os
@@ -35,7 +35,7 @@ sel_l-equal k own n xs os e =
     (tops_compared w8 eqb xs (replicate n k) ∙ zip2_splat eqb xs n k e)
     ∙ sel_l-map (λ b. eqb b k) own n xs os e
 
--- two choices, one after the other
+-- two selections, one after the other
 pub zip2-zip2 : (f g : ℕ → ℕ → ℕ) (z n : ℕ) (xs : List ℕ) → length xs ≡ n
     → zip2 f xs (zip2 g xs (replicate n z)) ≡ map (λ b. f b (g b z)) xs
 zip2-zip2 f g z n xs e =

@@ -1,6 +1,6 @@
 use Rattle.std.proofs.Common.{◌≡◌, ◌+◌, length, take, arith, length-take-le}
 use Rattle.std.proofs.lemmas.Simd.{take_more_put_chunk}
-use Rattle.unix_bytes.proofs.lemmas.stretches.PrinterLemmas.{takes_fewer}
+use Rattle.unix_bytes.proofs.lemmas.prefixes.PrinterLemmas.{takes_fewer}
 use Rattle.unix_bytes.proofs.printer.copy_first.Goals as goal
 
 pub returns-clause-bytes : goal.returns-clause-bytes

@@ -2,7 +2,7 @@ use Rattle.std.proofs.Common.{◌≡◌, ◌-◌, ◌≤◌, [], length, take}
 use Rattle.unix_bytes.specs.Printer.{Shows}
 use Rattle.unix_bytes.proofs.printer.show_first.Given as goal
 
--- what is written is the lossy text of what is read
+-- what is written is the lossy form of what is read
 abbrev pub invariant-loop-read : goal.invariant-loop-read
 invariant-loop-read l = record {
   len : length l.out ≡ length l.initial.out;

@@ -1,6 +1,6 @@
-use Rattle.unix_bytes.proofs.lemmas.stretches.StretchLemmas.{sequence_is_text}
-use Rattle.unix_bytes.proofs.lemmas.stretches.PrinterLemmas.{shows_text, shows_broken}
-use Rattle.unix_bytes.proofs.lemmas.stretches.PrinterLemmas.{sequence_is_short}
+use Rattle.unix_bytes.proofs.lemmas.prefixes.TextPrefixLemmas.{sequence_is_text}
+use Rattle.unix_bytes.proofs.lemmas.prefixes.PrinterLemmas.{shows_text, shows_broken}
+use Rattle.unix_bytes.proofs.lemmas.prefixes.PrinterLemmas.{sequence_is_short}
 use Rattle.unix_bytes.proofs.printer.show_front.Goals as goal
 use Rattle.std.proofs.Common.{arith}
 

@@ -1,7 +1,7 @@
 use Rattle.std.proofs.Common.{◌≡◌, ◌+◌, length, take, ap, sym, ◌∙◌, arith, length-take-le}
-use Rattle.unix_bytes.proofs.lemmas.stretches.StretchLemmas.{sequence_is_text}
-use Rattle.unix_bytes.proofs.lemmas.stretches.PrinterLemmas.{shows_text, shows_broken}
-use Rattle.unix_bytes.proofs.lemmas.stretches.PrinterLemmas.{sequence_is_short}
+use Rattle.unix_bytes.proofs.lemmas.prefixes.TextPrefixLemmas.{sequence_is_text}
+use Rattle.unix_bytes.proofs.lemmas.prefixes.PrinterLemmas.{shows_text, shows_broken}
+use Rattle.unix_bytes.proofs.lemmas.prefixes.PrinterLemmas.{sequence_is_short}
 use Rattle.unix_bytes.proofs.printer.show_last_front.Goals as goal
 
 pub copy_at-requires : goal.copy_at-requires

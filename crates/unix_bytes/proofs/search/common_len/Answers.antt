@@ -6,7 +6,7 @@ use Rattle.unix_bytes.proofs.search.common_len.Goals as goal
 pub returns-then-common-lt16-clause-value : goal.returns-then-common-lt16-clause-value
 returns-then-common-lt16-clause-value c =
     let len = c.loop-len.len in
-    let lanes = c.common_in_lanes-common in
+    let lanes = c.common_len_simd16-common in
     common_prefix_len-is c.args.a.now c.args.b.now (len + lanes.result) (omega arith) (omega arith)
     (λ k l.
     ⊎_elim (λ (less : k < len). c.loop-len.invariant.same k less)
@@ -16,7 +16,7 @@ returns-then-common-lt16-clause-value c =
 pub loop-len-preserved : goal.loop-len-preserved
 loop-len-preserved c =
     let len = c.loop-len.len in
-    let lanes = c.common_in_lanes-common in
+    let lanes = c.common_len_simd16-common in
     record {
       in_range = omega arith;
       same = λ k l.
@@ -27,8 +27,8 @@ loop-len-preserved c =
 pub returns-clause-value : goal.returns-clause-value
 returns-clause-value c =
     let len = c.loop-len.len in
-    let last = c.min-most.result - 16 in
-    let lanes = c.common_in_lanes in
+    let last = c.min-shorter_len.result - 16 in
+    let lanes = c.common_len_simd16 in
     common_prefix_len-is c.args.a.now c.args.b.now (last + lanes.result) (omega arith) (omega arith)
     (λ k l.
     ⊎_elim (λ (less : k < len). c.loop-len.invariant.same k less)

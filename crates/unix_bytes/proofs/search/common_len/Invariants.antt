@@ -1,7 +1,7 @@
 use Rattle.std.proofs.Common.{◌≡◌, ℕ, ◌+◌, ◌-◌, ◌<◌, ◌≤◌, get_or}
 use Rattle.unix_bytes.proofs.search.common_len.Given as goal
 
--- the bytes so far are the same
+-- the first `len` bytes of `a` and `b` are the same
 abbrev pub invariant-loop-len : goal.invariant-loop-len
 invariant-loop-len l = record {
   in_range : l.len ≤ l.last + 16;

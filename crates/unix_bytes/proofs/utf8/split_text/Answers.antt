@@ -1,6 +1,6 @@
 use Rattle.std.proofs.Common.{subst, sym}
 use Rattle.std.specs.Str.{IsUtf8}
-use Rattle.unix_bytes.proofs.lemmas.stretches.StretchLemmas.{prefix_is_utf8}
+use Rattle.unix_bytes.proofs.lemmas.prefixes.TextPrefixLemmas.{prefix_is_utf8}
 use Rattle.unix_bytes.proofs.utf8.split_text.Goals as goal
 
 pub from_utf8_unchecked-requires : goal.from_utf8_unchecked-requires

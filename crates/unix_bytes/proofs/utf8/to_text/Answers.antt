@@ -1,5 +1,5 @@
 use Rattle.std.proofs.Common.{refl}
-use Rattle.unix_bytes.proofs.lemmas.stretches.StretchLemmas.{whole_is_text, whole_is_utf8}
+use Rattle.unix_bytes.proofs.lemmas.prefixes.TextPrefixLemmas.{whole_is_text, whole_is_utf8}
 use Rattle.unix_bytes.proofs.utf8.to_text.Goals as goal
 
 pub from_utf8_unchecked-requires : goal.from_utf8_unchecked-requires

@@ -3,7 +3,7 @@ use std::alloc::{AllocError, Global};
 use std::hash::{DefaultHasher, Hash, Hasher};
 use unix_bytes::bytes::UnixStr;
 
-// Whether the name has these bytes and their length.
+// Returns true if the name has these bytes and their length.
 fn is_view(name: UnixStr<'_>, bytes: &[u8]) -> bool {
     name.as_bytes() == bytes && name.len() == bytes.len() && name.is_empty() == (name.len() == 0)
 }
@@ -16,8 +16,8 @@ fn views(rt: HostRuntime) {
     assert!(rt; name == UnixStr::from_bytes(b"tmp") && name != broken && name < broken);
 }
 
-// Equal names feed a hasher alike. Two names with the same bytes together feed it differently if
-// the second begins at another place.
+// Compares hashes of two names: the same two names feed a hasher the same input. Two names with the
+// same concatenation, but of other lengths, feed it different input.
 #[test]
 fn hashes(rt: HostRuntime) {
     assert!(rt; hash_of("tmp", "a") == hash_of("tmp", "a"));
@@ -34,7 +34,7 @@ fn hash_of(first: &str, second: &str) -> u64 {
 // A length, and what a truncation to it keeps of `foobar`.
 static TRUNCATIONS: [(usize, &str); 4] = [(0, ""), (3, "foo"), (6, "foobar"), (7, "foobar")];
 
-// Whether a truncation of `foobar` keeps these bytes, and the capacity.
+// Returns true if a truncation of `foobar` keeps these bytes, and the capacity.
 fn keeps(alloc: Global, len: usize, kept: &str) -> Result<bool, AllocError> {
     let mut name = UnixStr::new("foobar").to_unix_string(alloc)?;
     let before = name.capacity();

@@ -1,4 +1,4 @@
-//! Rows of the widths of sequences, and walks over chunks.
+//! Rows of the widths of UTF-8 sequences, and walks over chunks.
 use unix_bytes::lossy::{Utf8Lossy, utf8_char_width};
 
 #[test]
@@ -27,7 +27,7 @@ fn has_broken(bytes: &[u8]) -> bool {
     false
 }
 
-// Whether a walk over one chunk stays ended, and leaves a copy of it as it was.
+// Returns true if a walk over one chunk stays at its end, and does not change a copy of it.
 fn stays_ended(bytes: &[u8]) -> bool {
     let mut chunks = Utf8Lossy::from_bytes(bytes).chunks();
     let copy = chunks;

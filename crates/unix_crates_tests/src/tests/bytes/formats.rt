@@ -19,7 +19,7 @@ static LOSSY_TEXTS: [(&[u8], &str); 5] = [
     (b"", ""),
 ];
 
-// Whether the debug form of the bytes is that of their lossy text.
+// Returns true if the debug form of the bytes is the debug form of their lossy text.
 fn is_that_of_text(alloc: Global, bytes: &[u8], text: &str) -> bool {
     match format!(in alloc; "{text:?}") {
         Ok(wanted) => {
@@ -44,7 +44,7 @@ fn debug_texts(rt: HostRuntime) {
     assert!(rt; is_debug_text(alloc, &chunk, wanted));
 }
 
-// Whether an error came from the one write that failed, or else the whole text was written.
+// Returns true if an error came from the one write that failed, or if the whole text was written.
 fn keeps_to(writer: &RefusingWriter, answer: fmt::Result, whole: &str) -> bool {
     let text = writer.text.as_str();
     match answer {
@@ -53,8 +53,8 @@ fn keeps_to(writer: &RefusingWriter, answer: fmt::Result, whole: &str) -> bool {
     }
 }
 
-// Whether the debug form is written, of which all writes but the first `most` are refused; `None`
-// if it doesn't end at the first that is refused.
+// Returns whether the debug form is written to a writer whose writes after the first `most` fail;
+// `None` if the debug form does not end at the first write that fails.
 fn is_written(alloc: Global, most: usize) -> Option<bool> {
     let mut writer = RefusingWriter::after(alloc, most);
     let answer = write!(writer, "{:?}", UnixStr::from_bytes(b"a\xFF'"));
@@ -65,7 +65,7 @@ fn is_written(alloc: Global, most: usize) -> Option<bool> {
     }
 }
 
-// The debug form fails if the writer does, writes no more then, and fails in no other case.
+// Tests that the debug form fails if and only if the writer does, and then writes no more.
 #[test]
 fn failing_writers_of_debug(rt: HostRuntime) {
     let alloc = rt.alloc();

@@ -6,7 +6,7 @@ use std::hash::{DefaultHasher, Hash, Hasher};
 use std::test::Fail;
 use unix_bytes::bytes::{LossyText, UnixStr};
 
-// Whether a borrowed and an owned text are equal, and feed a hasher alike.
+// Returns true if a borrowed and an owned text are equal, and feed a hasher the same input.
 fn are_alike<'a>(borrowed: &LossyText<'a>, owned: &LossyText<'a>) -> bool {
     borrowed == owned
         && borrowed.cmp(owned) == Ordering::Equal
@@ -16,7 +16,7 @@ fn are_alike<'a>(borrowed: &LossyText<'a>, owned: &LossyText<'a>) -> bool {
         && matches!(owned, LossyText::Owned(_))
 }
 
-// Whether the text of 61 FF is printed right: plain, padded, cut and in its debug form.
+// Returns true if the text of 61 FF is printed correctly: plain, padded, cut and in its debug form.
 fn is_printed(alloc: Global, text: &LossyText<'_>) -> bool {
     is_text(format!(in alloc; "{text}"), "a\u{FFFD}")
         && is_text(format!(in alloc; "{text:>4}"), "  a\u{FFFD}")
@@ -24,7 +24,8 @@ fn is_printed(alloc: Global, text: &LossyText<'_>) -> bool {
         && is_debug_text(alloc, text, "\"a\u{FFFD}\"")
 }
 
-// A borrowed and an owned text of the same bytes are equal, feed a hasher alike and print alike.
+// Compares a borrowed and an owned text of the same bytes: they are equal, feed a hasher the same
+// input and print the same text.
 #[test]
 fn borrowed_and_owned_are_alike(rt: HostRuntime) -> Result<(), Fail> {
     let alloc = rt.alloc();
@@ -36,7 +37,7 @@ fn borrowed_and_owned_are_alike(rt: HostRuntime) -> Result<(), Fail> {
     Ok(())
 }
 
-// Lossy texts are ordered by their bytes, and a proper beginning is less.
+// Compares lossy texts: they are ordered by their bytes, and a proper prefix is less.
 #[test]
 fn texts_in_order(rt: HostRuntime) {
     let rows: [&[u8]; 5] = [b"", b"a", b"a\0", b"b", b"\xFF"];
@@ -48,7 +49,7 @@ fn texts_in_order(rt: HostRuntime) {
     }
 }
 
-// Whether the lossy texts of these bytes compare so.
+// Returns true if the lossy texts of these bytes compare this way.
 fn are_ordered(
     alloc: Global,
     first: &[u8],
@@ -60,7 +61,7 @@ fn are_ordered(
     Ok(x.cmp(&y) == order && (x == y) == order.is_eq() && (x < y) == order.is_lt())
 }
 
-// The lossy text of the bytes, owned.
+// Returns the lossy text of the bytes, owned.
 fn owned_text(alloc: Global, bytes: &[u8]) -> Result<String, AllocError> {
     UnixStr::from_bytes(bytes)
         .to_string_lossy(alloc)?

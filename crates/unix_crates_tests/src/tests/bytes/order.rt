@@ -2,8 +2,8 @@
 use unix_bytes::bytes::UnixStr;
 use unix_bytes::order::compare_bytes;
 
-// Byte strings, each greater than the one before it: by a byte among the first 16, behind them, or
-// by their lengths alone.
+// Byte strings, each greater than the one before it: by a byte among the first 16, by a byte after
+// these, or only because it is longer.
 static RISING: [&[u8]; 13] = [
     b"",
     b"\x00",
@@ -20,7 +20,8 @@ static RISING: [&[u8]; 13] = [
     b"b123456789abcdef0123456789abcdef",
 ];
 
-// Whether these bytes compare with each row as their place does with its place.
+// Returns true if these bytes compare with each row as the index `at` compares with the row's
+// index.
 fn is_at(bytes: &[u8], at: usize) -> bool {
     for (place, other) in RISING.iter().enumerate() {
         let order = at.cmp(&place);

@@ -1,7 +1,9 @@
-//! Rows of places of bytes, and of how long a common beginning is.
-use unix_bytes::search::{common_len, first_place, near_common_len, past_last, past_last_of_two};
+//! Rows of indices of bytes, and of the lengths of common prefixes.
+use unix_bytes::search::{
+    after_last, after_last_of_two, common_len, common_len_expect_short, find_byte,
+};
 
-// Bytes, where `:` is first, and which place is just after the last one.
+// Bytes, the index of the first `:`, and the index just after the last one.
 static PLACES: [(&[u8], usize, usize); 11] = [
     (b"", 0, 0),
     (b":", 0, 1),
@@ -19,12 +21,12 @@ static PLACES: [(&[u8], usize, usize); 11] = [
 #[test]
 fn first_and_last_bytes(rt: HostRuntime) {
     for &(bytes, first, past) in &PLACES {
-        assert!(rt; first_place(bytes, b':') == first && past_last(bytes, b':') == past);
+        assert!(rt; find_byte(bytes, b':') == first && after_last(bytes, b':') == past);
     }
 }
 
-// The place just after the last `:` or `;`. Of the last three, the one byte stands in a block of
-// 16, and the other in front of it or behind it.
+// Bytes, and the index just after the last `:` or `;`. In the last three rows, one of the two is in
+// a block of 16 bytes, and the other one is outside that block.
 static LAST_OF_TWO: [(&[u8], usize); 10] = [
     (b"", 0),
     (b"abc", 0),
@@ -41,8 +43,8 @@ static LAST_OF_TWO: [(&[u8], usize); 10] = [
 #[test]
 fn last_of_two_bytes(rt: HostRuntime) {
     for &(bytes, past) in &LAST_OF_TWO {
-        let is_found = past_last_of_two(bytes, b':', b';') == past;
-        assert!(rt; is_found && past_last_of_two(bytes, b';', b':') == past);
+        let is_found = after_last_of_two(bytes, b':', b';') == past;
+        assert!(rt; is_found && after_last_of_two(bytes, b';', b':') == past);
     }
 }
 
@@ -74,8 +76,8 @@ static COMMON_PREFIXES: [(&[u8], &[u8], usize); 12] = [
 fn is_common(a: &[u8], b: &[u8], len: usize) -> bool {
     common_len(a, b) == len
         && common_len(b, a) == len
-        && near_common_len(a, b) == len
-        && near_common_len(b, a) == len
+        && common_len_expect_short(a, b) == len
+        && common_len_expect_short(b, a) == len
 }
 
 #[test]
@@ -85,7 +87,8 @@ fn common_prefixes(rt: HostRuntime) {
     }
 }
 
-// Whether strings of this length, at most 200, have each common beginning that they differ after.
+// Returns true if two strings of this length, at most 200, have the right common prefix for each
+// index at which they differ, and for none.
 fn are_common(len: usize) -> bool {
     let a = [b'a'; 200];
     if len > 200 {
@@ -101,7 +104,7 @@ fn are_common(len: usize) -> bool {
     is_common(&a[..len], &a[..len], len)
 }
 
-// Strings of each length up to 200 that differ at one place, or at none.
+// Compares strings of each length below 200 that differ at one index, or at none.
 #[test]
 fn places_of_differences(rt: HostRuntime) {
     for len in 0..200 {

@@ -1,5 +1,5 @@
--- What proofs of other crates cite of narrower subjects: values that are the same, ancestors, the
--- order behind a common directory, and where a name and its stem end.
+-- The lemmas that proofs of other crates cite: equal components, ancestors, the order after a
+-- common directory, and where a name and its stem end.
 pub use Rattle.unix_path.proofs.lemmas.order.EqualValueLemmas.{same_value-Decides}
 pub use Rattle.unix_path.proofs.lemmas.names.AncestorLemmas.{ancestors_of-alone, ancestors_of-above}
 pub use Rattle.unix_path.proofs.lemmas.order.CommonDirLemmas.{shares-common_dir}

@@ -1,4 +1,4 @@
--- The cuts that edits make.
+-- Where edits cut a path.
 use Rattle.std.proofs.Common.{◌≡◌, ℕ, List, [], ◌∷◌, ◌++◌, length, take, refl, Option, Some, None}
 use Rattle.std.proofs.Common.{is_some, option_map, unwrap_or, true, false, sym, ap, ◌∙◌}
 use Rattle.std.proofs.Math.Dec.{eqb-suc-zero}
@@ -8,18 +8,18 @@ use Rattle.unix_path.specs.Parents.{parent_of}
 use Rattle.unix_path.specs.Names.{file_name_of, stem_of}
 use Rattle.unix_path.specs.Edits.{popped_of, stem_end_of, dot_before, with_extension_of}
 
--- a path without a parent stays as it is
+-- a pop leaves a path without a parent unchanged
 pub popped_of-none : (s : List ℕ) → None ≡ parent_of s → popped_of s ≡ s
 unfolding popped_of
 popped_of-none s e = ap (λ o. unwrap_or o s) (sym e)
 
--- a path with a parent is cut to it
+-- a pop cuts a path with a parent to its parent
 pub popped_of-some : (s : List ℕ) (len : ℕ) → Some (take len s) ≡ parent_of s
     → popped_of s ≡ take len s
 unfolding popped_of
 popped_of-some s len e = ap (λ o. unwrap_or o s) (sym e)
 
--- the path s with an extension behind the place `end`, or s if there is no such place
+-- the path s up to index `end` with the extension appended, or s if there is no such index
 abbrev pub with_extension_at : List ℕ → List ℕ → Option ℕ → List ℕ
 with_extension_at s extension end =
     option_map_or (λ end. (take end s ++ dot_before extension) ++ extension) end s
@@ -27,13 +27,13 @@ with_extension_at s extension end =
 pub dot_before-some : (b : ℕ) (extension : List ℕ) → dot_before (b ∷ extension) ≡ 46 ∷ []
 dot_before-some b extension = rw (eqb-suc-zero (length extension)) refl
 
--- an extension leaves a path without a stem as it is
+-- setting an extension leaves a path without a stem unchanged
 pub with_extension_of-none : (s extension : List ℕ) → None ≡ stem_end_of s
     → with_extension_of s extension ≡ s
 unfolding with_extension_of
 with_extension_of-none s extension e = ap (with_extension_at s extension) (sym e)
 
--- an extension is put behind the stem, with the dot if it is not empty
+-- setting an extension appends it after the stem, with a dot before it if it is not empty
 pub with_extension_of-some : (s extension separator : List ℕ) (end : ℕ) → Some end ≡ stem_end_of s
     → separator ≡ dot_before extension
     → with_extension_of s extension ≡ (take end s ++ separator) ++ extension
@@ -42,13 +42,13 @@ with_extension_of-some s extension separator end e d =
     ap (with_extension_at s extension) (sym e)
     ∙ ap (λ separator. (take end s ++ separator) ++ extension) (sym d)
 
--- a map over an option changes nothing of whether it is `Some`
+-- a map over an option doesn't change whether it is `Some`
 pub is_some-option_map : {A B : Type 0} (f : A → B) (o : Option A)
     → is_some (option_map f o) ≡ is_some o
 is_some-option_map f None = refl
 is_some-option_map f (Some x) = refl
 
--- there is a stem exactly if there is a file name
+-- there is a stem if and only if there is a file name
 is_some-stem_end_of : (s : List ℕ) → is_some (stem_end_of s) ≡ is_some (file_name_of (values s))
 unfolding stem_end_of
 is_some-stem_end_of s =

@@ -1,68 +1,71 @@
--- What a join keeps of its base, and what it adds.
+-- What a join keeps of its base, and what it appends.
 use Rattle.std.proofs.Common.{◌≡◌, ℕ, ◌+◌, ◌≤◌, List, [], ◌∷◌, ◌++◌, length, refl, ap}
 use Rattle.std.proofs.Common.{arith, false, Option, Some}
 use Rattle.std.proofs.iter.runs.Made.{run, seen, to_item}
 use Rattle.std.specs.Iterator.{Yields}
 use Rattle.std.specs.Prelude.{fold}
 use Rattle.std.proofs.Math.Seq.{take-length}
-use Rattle.unix_path.specs.Joins.{is_open, join_of, join_all_of}
+use Rattle.unix_path.specs.Joins.{needs_no_separator, join_of, join_all_of}
 use Rattle.unix_path.specs.Parts.{is_rooted}
 use Rattle.unix_path.specs.Buffers.{bytes_of_each, ItemsFit, JoinsFit}
 use Rattle.unix_path.specs.declared.path.Path.{Path}
 use Rattle.unix_bytes.proofs.lemmas.lists.ListLemmas.{by_test, take-beginning}
-use Rattle.unix_path.proofs.lemmas.edits.JoinLemmas.{join_of_rooted, join_of_open, join_of_closed}
-use Rattle.unix_path.proofs.lemmas.edits.JoinLemmas.{length-join_of_open, length-join_of_closed}
+use Rattle.unix_path.proofs.lemmas.edits.JoinLemmas.{join_of_rooted, join_of_no_separator}
+use Rattle.unix_path.proofs.lemmas.edits.JoinLemmas.{join_of_separator}
+use Rattle.unix_path.proofs.lemmas.edits.JoinLemmas.{length-join_of_no_separator}
+use Rattle.unix_path.proofs.lemmas.edits.JoinLemmas.{length-join_of_separator}
 
-pub ruleset join_cases = (join_of_rooted, join_of_open, join_of_closed, take-length)
+pub ruleset join_cases = (join_of_rooted, join_of_no_separator, join_of_separator, take-length)
 
 pub ruleset beginnings = (take-beginning, take-length)
 
--- to join several paths and one more is to join the one more to the join of the others
+-- joining a list of paths and then one more path is joining that path to the join of the list
 pub join_all_of_snoc : (a : List ℕ) (paths : List Path) (path : Path)
     → join_all_of a (bytes_of_each (paths ++ path ∷ []))
     ≡ join_of (join_all_of a (bytes_of_each paths)) path.bytes.now
 join_all_of_snoc a [] path = refl
 join_all_of_snoc a (p ∷ paths) path = join_all_of_snoc (join_of a p.bytes.now) paths path
 
--- a join is no longer than both paths and a slash
-length-join_of-most : (a b : List ℕ) → length (join_of a b) ≤ length a + (1 + length b)
-length-join_of-most a b = by_test (is_rooted b)
+-- the length of a join is at most the sum of the lengths of both paths, plus 1
+length-join_of-max_len : (a b : List ℕ) → length (join_of a b) ≤ length a + (1 + length b)
+length-join_of-max_len a b = by_test (is_rooted b)
     (λ r. omega (arith, ap length (join_of_rooted a b r)))
-    (λ r. by_test (is_open a)
-    (λ o. omega (arith, length-join_of_open a b r o))
-    (λ o. omega (arith, length-join_of_closed a b r o)))
+    (λ r. by_test (needs_no_separator a)
+    (λ o. omega (arith, length-join_of_no_separator a b r o))
+    (λ o. omega (arith, length-join_of_separator a b r o)))
 
--- the bytes of these paths, with one more for each, added to a number
+-- the lengths of these paths, plus 1 for each, added to a number
 abbrev pub sum_of_paths : ℕ → List Path → ℕ
 sum_of_paths = fold (λ sum path. sum + (1 + length path.bytes.now))
 
--- a join with several paths is no longer than all of them and a slash for each
-length-join_all_of-most : (a : List ℕ) (n : ℕ) (paths : List Path)
+-- the length of a join with several paths is at most the sum of the lengths of all paths, plus 1
+-- for each joined path
+length-join_all_of-max_len : (a : List ℕ) (n : ℕ) (paths : List Path)
     → length (join_all_of a (bytes_of_each paths)) + n ≤ length a + sum_of_paths n paths
-length-join_all_of-most a n [] = omega arith
-length-join_all_of-most a n (p ∷ paths) =
+length-join_all_of-max_len a n [] = omega arith
+length-join_all_of-max_len a n (p ∷ paths) =
     let one = join_of a p.bytes.now in
     let more = n + (1 + length p.bytes.now) in
     let rest : length (join_all_of one (bytes_of_each paths)) + more
-    ≤ length one + sum_of_paths more paths = length-join_all_of-most one more paths in
-    omega (arith, rest, length-join_of-most a p.bytes.now)
+    ≤ length one + sum_of_paths more paths = length-join_all_of-max_len one more paths in
+    omega (arith, rest, length-join_of-max_len a p.bytes.now)
 
--- so paths that fit the room have joins that fit the capacity
-pub JoinsFit-room : {S : Type 0} {steps : S → Option Path → S → Type 0} {items : S}
-    (old : List ℕ) (room : ℕ) → ItemsFit steps items room
-    → JoinsFit steps items old (length old + room)
-JoinsFit-room old room fits run met from =
-    omega (arith, length-join_all_of-most old 0 run.items, fits run met from)
+-- if the items of an iterator fit the spare capacity, the joins with them fit the capacity
+pub JoinsFit-spare_capacity : {S : Type 0} {steps : S → Option Path → S → Type 0} {items : S}
+    (old : List ℕ) (spare_capacity : ℕ) → ItemsFit steps items spare_capacity
+    → JoinsFit steps items old (length old + spare_capacity)
+JoinsFit-spare_capacity old spare_capacity fits run met from =
+    omega (arith, length-join_all_of-max_len old 0 run.items, fits run met from)
 
--- if joins with what an iterator gives fit, so does the join with its next item
+-- if joins with the items of an iterator fit, so does the join with its next item
 pub JoinsFit-next : {S : Type 0} {steps : S → Option Path → S → Type 0} {items from : S}
-    (old : List ℕ) (most : ℕ) → JoinsFit steps items old most → from ≡ items
+    (old : List ℕ) (max_len : ℕ) → JoinsFit steps items old max_len → from ≡ items
     → (paths : List Path) (s t : S) (path : Path) → Yields steps from paths s
     → steps s (Some path) t
-    → length (join_of (join_all_of old (bytes_of_each paths)) path.bytes.now) ≤ most
-JoinsFit-next {steps = steps} {from = from} old most fits is paths s t path yields call =
+    → length (join_of (join_all_of old (bytes_of_each paths)) path.bytes.now) ≤ max_len
+JoinsFit-next {steps = steps} {from = from} old max_len fits is paths s t path yields call =
     let all = paths ++ path ∷ [] in
-    let whole : length (join_all_of old (bytes_of_each all)) ≤ most =
+    let whole : length (join_all_of old (bytes_of_each all)) ≤ max_len =
     fits (run steps from all false (to_item steps from t paths path (s, yields, call)))
     (seen (length all)) is in
     omega (arith, whole, ap length (join_all_of_snoc old paths path))

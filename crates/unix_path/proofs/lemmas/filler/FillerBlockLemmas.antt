@@ -1,4 +1,4 @@
--- Sixteen bytes at once that are slashes, or dots before slashes.
+-- 16 bytes at once that are slashes, or dots before slashes.
 use Rattle.std.proofs.Common.{◌≡◌, ℕ, zero, suc, ◌+◌, ◌<◌, ◌≤◌, true, List, length, drop, get_or}
 use Rattle.std.proofs.Common.{ap, ap₂, subst, ◌∙◌, arith}
 use Rattle.std.specs.Simd.Lanes.{chunk}
@@ -10,11 +10,11 @@ use Rattle.unix_path.specs.Scan.{is_filler}
 use Rattle.unix_path.proofs.lemmas.filler.FillerLemmas.{inner_parts_filler_at}
 use Rattle.unix_path.proofs.lemmas.filler.DotLaneLemmas.{stops, goes_on, stop_lanes, Tells-stop}
 
--- the lanes of the 16 bytes from `at` on tell which stop
-stops_told : (s : List ℕ) (at : ℕ) → at + 16 < length s
+-- the lanes of the 16 bytes that start at `at` show which of them stop
+ends_shown : (s : List ℕ) (at : ℕ) → at + 16 < length s
     → TellFrom 16 (stop_lanes (chunk at 16 s) (chunk (at + 1) 16 s))
     (λ k. stops (get_or s k 0) (get_or s (k + 1) 47)) at
-stops_told s at l =
+ends_shown s at l =
     let here = chunk at 16 s in
     let next = chunk (at + 1) 16 s in
     record {
@@ -27,15 +27,15 @@ stops_told s at l =
           (length-chunk (at + 1) 16 s (omega arith)) few);
     }
 
--- if no bit is set, all 16 bytes from `at` on are slashes, or dots before slashes
+-- if no bit of the mask is set, the 16 bytes that start at `at` are slashes, or dots before slashes
 pub filler_block : (s : List ℕ) (at : ℕ) → at + 16 < length s
     → mask_of (stop_lanes (chunk at 16 s) (chunk (at + 1) 16 s)) ≡ 0
     → (k : ℕ) → at ≤ k → k < at + 16 → is_filler s k ≡ true
 filler_block s at l none k from to =
     goes_on (get_or s k 0) (get_or s (k + 1) 47)
-    ((none_set (stops_told s at l) none).none_before k from to)
+    ((none_set (ends_shown s at l) none).none_before k from to)
 
--- n bytes of filler from place i on may be skipped
+-- skipping n bytes of filler at index i doesn't change the inner components
 pub inner_parts_filler_block : (at : ℕ) (s : List ℕ) (i n : ℕ) → i + n ≤ length s
     → ((k : ℕ) → i ≤ k → k < i + n → is_filler s k ≡ true)
     → inner_parts (at + i) (drop i s) ≡ inner_parts (at + (i + n)) (drop (i + n) s)

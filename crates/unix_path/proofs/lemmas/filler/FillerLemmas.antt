@@ -1,4 +1,4 @@
--- The filler between two parts.
+-- The filler between two components.
 use Rattle.std.proofs.Common.{◌≡◌, ℕ, suc, ◌+◌, ◌≤◌, ◌<◌, true, false, cond, ◌&&◌, ◌||◌, eqb, List}
 use Rattle.std.proofs.Common.{[], ◌∷◌, ◌++◌, length, get_or, drop, refl, sym, ap, ap₂, ◌∙◌, map}
 use Rattle.std.proofs.Common.{◌⊎◌, inl, inr, ⊎_elim, arith, eqb-true, get_or-drop, length-drop}
@@ -17,7 +17,7 @@ use Rattle.unix_path.specs.Parts.{value_of_piece, values}
 use Rattle.unix_path.specs.Scan.{is_filler}
 use Rattle.unix_path.specs.CommonDir.{inner_values}
 
--- a byte of filler is a slash, or a `.` that a slash or the end follows
+-- a byte of filler is a slash, or a `.` followed by a slash or the end
 pub filler_from : (b : ℕ) (s : List ℕ) → is_filler (b ∷ s) 0 ≡ true
     → (b ≡ 47) ⊎ ((b ≡ 46) × (get_or s 0 47 ≡ 47))
 filler_from b s e =
@@ -34,7 +34,7 @@ inner_parts-dot_cut at (b ∷ s) e = ap (λ b. inner_parts at (46 ∷ b ∷ s)) 
     ∙ inner_parts-dot_slash at s
     ∙ sym (ap (λ b. inner_parts (at + 1) (b ∷ s)) e)
 
--- a first byte of filler adds no part
+-- a first byte that is filler adds no component
 inner_parts_filler : (at : ℕ) (s : List ℕ) → 0 < length s → is_filler s 0 ≡ true
     → inner_parts at s ≡ inner_parts (at + 1) (drop 1 s)
 inner_parts_filler at [] l e = absurd (omega arith)
@@ -43,7 +43,7 @@ inner_parts_filler at (b ∷ s) l e =
     (λ is. ap (λ b. inner_parts at (b ∷ s)) is.0 ∙ inner_parts-dot_cut at s is.1)
     (filler_from b s e)
 
--- whether a byte is filler doesn't depend on what stands before it
+-- whether a byte is filler doesn't depend on the bytes before it
 pub is_filler-drop : (s : List ℕ) (i : ℕ) → is_filler (drop i s) 0 ≡ is_filler s i
 is_filler-drop s i =
     let here : get_or (drop i s) 0 0 ≡ get_or s i 0 = get_or-drop i s 0 0
@@ -54,12 +54,12 @@ is_filler-drop s i =
 pub filler_slash : (s : List ℕ) (i : ℕ) → get_or s i 0 ≡ 47 → is_filler s i ≡ true
 filler_slash s i e = rw e refl
 
--- and so is a `.` that a slash or the end follows
+-- a `.` followed by a slash or the end is filler
 pub filler_dot : (s : List ℕ) (i : ℕ) → get_or s i 0 ≡ 46 → get_or s (i + 1) 47 ≡ 47
     → is_filler s i ≡ true
 filler_dot s i e next = rw (e, next) refl
 
--- a byte of filler at place i adds no part
+-- a byte of filler at index i adds no component
 pub inner_parts_filler_at : (at : ℕ) (s : List ℕ) (i : ℕ) → i < length s → is_filler s i ≡ true
     → inner_parts (at + i) (drop i s) ≡ inner_parts (at + (i + 1)) (drop (i + 1) s)
 inner_parts_filler_at at s i l e =
@@ -67,14 +67,14 @@ inner_parts_filler_at at s i l e =
     inner_parts_filler (at + i) (drop i s) some (is_filler-drop s i ∙ e)
     ∙ ap₂ inner_parts {x = at + i + 1} {y = at + (i + 1)} (omega arith) (drop-drop 1 i s)
 
--- the first piece is empty exactly if the string is empty or begins with a slash
+-- the first piece is empty if and only if the string is empty or begins with a slash
 pub first_piece_empty : (s : List ℕ) → bytes_eq (first_piece s) [] ≡ eqb (get_or s 0 47) 47
 first_piece_empty [] = refl
 first_piece_empty (b ∷ s) = by_test (eqb b 47)
     (λ e. ap (λ p. bytes_eq p []) (first_piece-slash b s e) ∙ sym e)
     (λ e. ap (λ p. bytes_eq p []) (first_piece-other b s e) ∙ sym e)
 
--- whether the first piece is `.`, by its first two bytes
+-- the first two bytes determine whether the first piece is `.`
 pub first_piece_dot : (s : List ℕ)
     → bytes_eq (first_piece s) cur_dir ≡ (eqb (get_or s 0 0) 46 && eqb (get_or s 1 47) 47)
 first_piece_dot [] = refl
@@ -84,44 +84,46 @@ first_piece_dot (b ∷ s) = by_test (eqb b 47)
     (λ e. ap (λ p. bytes_eq p cur_dir) (first_piece-other b s e)
     ∙ ap (λ t. eqb b 46 && t) (first_piece_empty s))
 
--- a string that begins with no filler begins with no slash, and its first piece is no `.`
-pub busy_parts : (s : List ℕ) → 0 < length s → is_filler s 0 ≡ false
+-- a string that doesn't begin with filler doesn't begin with a slash, and its first piece isn't `.`
+pub not_filler_parts : (s : List ℕ) → 0 < length s → is_filler s 0 ≡ false
     → (eqb (get_or s 0 0) 47 ≡ false) × (bytes_eq (first_piece s) cur_dir ≡ false)
-busy_parts [] l e = absurd (omega arith)
-busy_parts (b ∷ s) l e =
+not_filler_parts [] l e = absurd (omega arith)
+not_filler_parts (b ∷ s) l e =
     let neither = or_parts (eqb b 47) (eqb b 46 && eqb (get_or s 0 47) 47) e in
     (neither.0, first_piece_dot (b ∷ s) ∙ neither.1)
 
--- a string that begins with no filler has its first piece as its first part
-pub inner_parts_busy : (at : ℕ) (s : List ℕ) → 0 < length s → is_filler s 0 ≡ false
+-- the first piece of a string that doesn't begin with filler is its first component
+pub inner_parts_not_filler : (at : ℕ) (s : List ℕ) → 0 < length s → is_filler s 0 ≡ false
     → inner_parts at s ≡ record
     { start = at; end = at + length (first_piece s); value = value_of_piece (first_piece s) }
     ∷ inner_parts (at + position_or_len is_slash s) (drop (position_or_len is_slash s) s)
-inner_parts_busy at s l e =
-    let is = busy_parts s l e in
+inner_parts_not_filler at s l e =
+    let is = not_filler_parts s l e in
     inner_parts-first at s ∙ rw (nonempty_first_piece s l is.0, is.1) refl
 
--- a string that begins with no filler has no leading part
-pub parts-busy : (s : List ℕ) → (0 < length s → is_filler s 0 ≡ false) → parts s ≡ inner_parts 0 s
+-- a string that doesn't begin with filler has no leading part
+pub parts-not_filler : (s : List ℕ) → (0 < length s → is_filler s 0 ≡ false) → parts s
+    ≡ inner_parts 0 s
 unfolding parts leading_part
-parts-busy [] h = refl
-parts-busy (b ∷ s) h =
-    let is = busy_parts (b ∷ s) (omega arith) (h (omega arith)) in
+parts-not_filler [] h = refl
+parts-not_filler (b ∷ s) h =
+    let is = not_filler_parts (b ∷ s) (omega arith) (h (omega arith)) in
     let none : leading_part (b ∷ s) ≡ [] = leading_part-name (b ∷ s) is.0
     ∙ ap (λ t. cond t (record { start = 0; end = 1; value = CurDir } ∷ []) []) is.1 in
     ap (λ ps. ps ++ inner_parts 0 (b ∷ s)) none
 
--- nor does it have other values than behind a slash
-pub values-busy : (s : List ℕ) → is_filler s 0 ≡ false → values s ≡ inner_values s
+-- a string that doesn't begin with filler has the same components as after a slash
+pub values-not_filler : (s : List ℕ) → is_filler s 0 ≡ false → values s ≡ inner_values s
 unfolding values
-values-busy s busy = ap (map (λ (p : Part). p.value)) (parts-busy s (λ _. busy))
+values-not_filler s not_filler =
+    ap (map (λ (p : Part). p.value)) (parts-not_filler s (λ _. not_filler))
 
--- the first `len` bytes are filler, and behind them stands nothing or a part
+-- the first `len` bytes are filler, followed by a component or the end
 pub record SkipsFiller (s : List ℕ) : Type 0 where
   pub len : ℕ
   pub in_range : len ≤ length s
   pub same : (at : ℕ) → inner_parts at s ≡ inner_parts (at + len) (drop len s)
-  pub busy : 0 < length (drop len s) → is_filler (drop len s) 0 ≡ false
+  pub not_filler : 0 < length (drop len s) → is_filler (drop len s) 0 ≡ false
 
 -- every string begins with filler, which may be empty
 pub skips_filler : (s : List ℕ) → SkipsFiller s
@@ -129,7 +131,7 @@ skips_filler [] = record {
   len = 0;
   in_range = omega arith;
   same = λ at. ap (λ n. inner_parts n []) {x = at} {y = at + 0} (omega arith);
-  busy = λ l. absurd (omega arith);
+  not_filler = λ l. absurd (omega arith);
 }
 skips_filler (b ∷ s) = by_test (is_filler (b ∷ s) 0)
     (λ e. let next = skips_filler s in record {
@@ -139,11 +141,11 @@ skips_filler (b ∷ s) = by_test (is_filler (b ∷ s) 0)
           ∙ ap (λ n. inner_parts n (drop next.len s)) {x = at + 1 + next.len}
           {y = at + suc next.len}
           (omega arith);
-      busy = next.busy;
+      not_filler = next.not_filler;
     })
     (λ e. record {
       len = 0;
       in_range = omega arith;
       same = λ at. ap (λ n. inner_parts n (b ∷ s)) {x = at} {y = at + 0} (omega arith);
-      busy = λ _. e;
+      not_filler = λ _. e;
     })

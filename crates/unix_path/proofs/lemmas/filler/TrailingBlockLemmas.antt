@@ -1,4 +1,4 @@
--- Sixteen bytes at once that are slashes, or dots after slashes.
+-- 16 bytes at once that are slashes, or dots after slashes.
 use Rattle.std.proofs.Common.{◌≡◌, ℕ, zero, suc, ◌+◌, ◌-◌, ◌<◌, ◌≤◌, true, eqb, ◌&&◌, ◌||◌, List}
 use Rattle.std.proofs.Common.{length, take, get_or, refl, sym, ap, ap₂, subst, ◌∙◌, arith, lt-ltb}
 use Rattle.std.specs.Simd.Lanes.{chunk}
@@ -10,11 +10,11 @@ use Rattle.unix_path.specs.Scan.{is_trailing}
 use Rattle.unix_path.proofs.lemmas.filler.DotLaneLemmas.{stops, goes_on, stop_lanes, Tells-stop}
 use Rattle.unix_path.proofs.lemmas.filler.TrimLemmas.{parts_trailing}
 
--- the lanes of the 16 bytes from `at` on tell which stop
-stops_told : (s : List ℕ) (at : ℕ) → 0 < at → at + 16 ≤ length s
+-- the lanes of the 16 bytes that start at `at` show which of them stop
+ends_shown : (s : List ℕ) (at : ℕ) → 0 < at → at + 16 ≤ length s
     → TellFrom 16 (stop_lanes (chunk at 16 s) (chunk (at - 1) 16 s))
     (λ k. stops (get_or s k 0) (get_or s (k - 1) 0)) at
-stops_told s at some l =
+ends_shown s at some l =
     let here = chunk at 16 s in
     let before = chunk (at - 1) 16 s in
     record {
@@ -27,7 +27,7 @@ stops_told s at some l =
           (length-chunk (at - 1) 16 s (omega arith)) few);
     }
 
--- if no bit is set, all 16 bytes from `at` on are slashes, or dots after slashes
+-- if no bit of the mask is set, the 16 bytes that start at `at` are slashes, or dots after slashes
 pub trailing_block : (s : List ℕ) (at : ℕ) → 0 < at → at + 16 ≤ length s
     → mask_of (stop_lanes (chunk at 16 s) (chunk (at - 1) 16 s)) ≡ 0
     → (k : ℕ) → at ≤ k → k < at + 16 → is_trailing s k ≡ true
@@ -35,10 +35,10 @@ trailing_block s at some l none k from to =
     let one : (eqb (get_or s k 0) 47 || (eqb (get_or s k 0) 46 && eqb (get_or s (k - 1) 0) 47))
     ≡ true =
     goes_on (get_or s k 0) (get_or s (k - 1) 0)
-    ((none_set (stops_told s at some l) none).none_before k from to) in
+    ((none_set (ends_shown s at some l) none).none_before k from to) in
     rw (lt-ltb 0 k (omega arith), one) refl
 
--- without n bytes of filler at the end, the parts are the same
+-- removing n bytes of trailing filler doesn't change the components
 pub parts_trailing_block : (s : List ℕ) (at n : ℕ) → at + n ≤ length s
     → ((k : ℕ) → at ≤ k → k < at + n → is_trailing s k ≡ true)
     → parts (take at s) ≡ parts (take (at + n) s)

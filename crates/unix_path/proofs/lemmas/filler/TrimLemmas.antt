@@ -1,4 +1,4 @@
--- The filler behind the last part.
+-- The filler after the last component.
 use Rattle.std.proofs.Common.{◌≡◌, ℕ, zero, suc, ◌+◌, ◌-◌, ◌≤◌, ◌<◌, true, false, ◌&&◌, ◌||◌, eqb}
 use Rattle.std.proofs.Common.{ltb, List, [], ◌∷◌, ◌++◌, length, get_or, take, drop, refl, sym, ap}
 use Rattle.std.proofs.Common.{ap₂, ◌∙◌, ◌⊎◌, inl, inr, ⊎_elim, arith, eqb-true, append-nil}
@@ -12,7 +12,7 @@ use Rattle.unix_path.proofs.lemmas.parts.PieceLemmas.{inner_parts-dot, inner_par
 use Rattle.unix_path.specs.Parts.{inner_parts, leading_part, parts}
 use Rattle.unix_path.specs.Scan.{is_trailing, EndsInPart}
 
--- a slash at the end, behind other bytes, is filler
+-- a slash at the end, after other bytes, is filler
 pub parts-slash : (x : List ℕ) → 0 < length x → parts (x ++ 47 ∷ []) ≡ parts x
 unfolding parts
 parts-slash x l = ap₂ ◌++◌ (leading_part-append x [] l)
@@ -26,7 +26,8 @@ leading_past_slash [] y z = refl
 leading_past_slash (b ∷ x) y z = leading_part-append (b ∷ x) y (omega arith)
     ∙ sym (leading_part-append (b ∷ x) z (omega arith))
 
--- cut just after a slash, a string has the parts of both sides
+-- a string cut just after a slash has the components before the cut, and then the inner components
+-- after it
 pub parts-append : (x y : List ℕ)
     → parts (x ++ 47 ∷ y) ≡ parts (x ++ 47 ∷ []) ++ inner_parts (0 + length x + 1) y
 unfolding parts
@@ -39,7 +40,7 @@ parts-append x y =
     (sym (inner_parts-append 0 x [] ∙ ap (λ ps. inner_parts 0 x ++ ps) (inner_parts-nil n)
     ∙ append-nil (inner_parts 0 x)))
 
--- a `.` at the end, behind a slash, is filler
+-- a `.` at the end, after a slash, is filler
 parts-slash_dot : (x : List ℕ) → parts (x ++ 47 ∷ 46 ∷ []) ≡ parts (x ++ 47 ∷ [])
 parts-slash_dot x =
     parts-append x (46 ∷ []) ∙ ap (λ ps. parts (x ++ 47 ∷ []) ++ ps) (inner_parts-dot _)
@@ -81,14 +82,14 @@ parts_trailing s i l e =
     ∙ ap parts (sym before))
     is.1
 
--- the first n bytes without a last one that is filler have the same parts
+-- removing the last of the first n bytes, if it is filler, doesn't change their components
 pub parts_shorter : (s : List ℕ) (n : ℕ) → 0 < n → n ≤ length s → is_trailing s (n - 1) ≡ true
     → parts (take (n - 1) s) ≡ parts (take n s)
 parts_shorter s n some l e =
     sym (parts_trailing s (n - 1) (omega arith) e)
     ∙ ap (λ k. parts (take k s)) {x = n - 1 + 1} {y = n} (omega arith)
 
--- what is left from any place on still ends in a part
+-- each suffix of a string that ends in a component ends in a component
 pub EndsInPart-drop : (s : List ℕ) (i : ℕ) → i ≤ length s → EndsInPart s → EndsInPart (drop i s)
 EndsInPart-drop s i l ends some =
     let u = drop i s in
@@ -106,7 +107,7 @@ EndsInPart-drop s i l ends some =
     same ∙ ends (omega arith))
     (λ e. rw e refl)
 
--- the first n bytes end in a part if the last of them is no trailing byte
+-- the first n bytes end in a component if the last of them is not trailing filler
 pub EndsInPart-take : (s : List ℕ) (n : ℕ) → n ≤ length s → (0 < n → is_trailing s (n - 1) ≡ false)
     → EndsInPart (take n s)
 EndsInPart-take s n l ends some =
@@ -119,14 +120,14 @@ EndsInPart-take s n l ends some =
     rw (here, before, m) refl in
     same ∙ ends (omega arith)
 
--- the first `len` of n bytes have all parts of the n bytes, and end in one
+-- the first `len` of n bytes have all components of the n bytes, and end in a component
 pub record TrimsTo (t : List ℕ) (n : ℕ) : Type 0 where
   pub len : ℕ
   pub in_range : len ≤ n
   pub same : parts (take len t) ≡ parts (take n t)
   pub ends : 0 < len → is_trailing t (len - 1) ≡ false
 
--- the first n bytes can lose the filler at their end
+-- the first n bytes can be cut before the filler at their end
 pub trims_to : (t : List ℕ) (n : ℕ) → n ≤ length t → TrimsTo t n
 trims_to t zero l = record
     { len = 0; in_range = omega arith; same = refl; ends = λ l. absurd (omega arith) }

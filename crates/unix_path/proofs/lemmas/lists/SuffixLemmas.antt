@@ -1,32 +1,36 @@
--- Lists that end others, from behind.
+-- Lists that are suffixes of other lists.
 use Rattle.std.proofs.Common.{◌≡◌, List, [], ◌∷◌, ◌++◌, sym, ap, ◌∙◌, append_assoc}
 use Rattle.std.proofs.lemmas.List.{append_cancel_right, same_from_push}
 use Rattle.unix_path.specs.Parts.{Value}
-use Rattle.unix_path.specs.Prefixes.{Ends}
-use Rattle.unix_path.specs.Steps.{SharesEnd}
+use Rattle.unix_path.specs.Prefixes.{IsSuffixOf}
+use Rattle.unix_path.specs.Steps.{SharesSuffix}
 
--- if what stands before a shared end ends in the other, so does the whole
-pub ends_with_shared : {v w x y : List Value} → SharesEnd v w x y → Ends y x → Ends w v
+-- if y is a suffix of x, then w is a suffix of v, where v and w are x and y with the same list
+-- appended
+pub ends_with_shared : {v w x y : List Value} → SharesSuffix v w x y → IsSuffixOf y x
+    → IsSuffixOf w v
 ends_with_shared {y = y} h e = (
   e.0,
   ap (λ z. e.0 ++ z) h.second ∙ sym (append_assoc e.0 y h.last) ∙ ap (λ z. z ++ h.last) e.1
       ∙ sym h.first,
 )
 
--- and the other way round
-pub ends_without_shared : {v w x y : List Value} → SharesEnd v w x y → Ends w v → Ends y x
+-- if w is a suffix of v, then y is a suffix of x, where v and w are x and y with the same list
+-- appended
+pub ends_without_shared : {v w x y : List Value} → SharesSuffix v w x y → IsSuffixOf w v
+    → IsSuffixOf y x
 ends_without_shared {x = x} {y = y} h e = (
   e.0,
   append_cancel_right (e.0 ++ y) x h.last (append_assoc e.0 y h.last
       ∙ ap (λ z. e.0 ++ z) (sym h.second) ∙ e.1 ∙ h.first),
 )
 
--- what a shared end tells of the whole lists
+-- suffixes of lists with and without the same list appended
 pub ruleset shared_ends = (ends_with_shared, ends_without_shared)
 
--- if a list ends another, both have the same last value
+-- if a list is a suffix of another, both have the same last component
 pub ends_last : {x y : List Value} {p q : Value} (t u : List Value) → x ≡ t ++ p ∷ []
-    → y ≡ u ++ q ∷ [] → Ends y x → p ≡ q
+    → y ≡ u ++ q ∷ [] → IsSuffixOf y x → p ≡ q
 ends_last {p = p} {q = q} t u x_is y_is e =
     sym (same_from_push (e.0 ++ u) t q p (append_assoc e.0 u (q ∷ [])
     ∙ ap (λ z. e.0 ++ z) (sym y_is) ∙ e.1 ∙ x_is)).1

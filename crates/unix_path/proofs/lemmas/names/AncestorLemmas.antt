@@ -1,4 +1,4 @@
--- The ancestors of a path: the path and its parent's ancestors, and how many they are.
+-- The ancestors of a path: the path and its parent's ancestors, and how many there are.
 use Rattle.std.proofs.Common.{◌≡◌, ℕ, zero, suc, ◌+◌, ◌-◌, ◌≤◌, List, [], ◌∷◌, ◌++◌, length, map}
 use Rattle.std.proofs.Common.{Option, Some, None, option_map, refl, sym, ap, ap₂, ◌∙◌, arith}
 use Rattle.std.specs.List.{range_with_len}
@@ -20,7 +20,8 @@ use Rattle.unix_bytes.proofs.lemmas.lists.ListLemmas.{Snoc, Empty, Push, snoc}
 abbrev pub ancestors_by : Option (List ℕ) → List (List ℕ)
 ancestors_by parent = option_map_or ancestors_of parent []
 
--- to take m + 1 parts off the end is to take off the last one and then m, for each m from a on
+-- removing m + 1 trailing components is removing the last and then m more, for each of the n
+-- numbers m starting at a
 shift : (s : List ℕ) (a n : ℕ) → map (λ m. rest s 0 m) (range_with_len (a + 1) n)
     ≡ map (λ m. rest (rest s 0 1) 0 m) (range_with_len a n)
 shift s a zero = refl
@@ -29,14 +30,15 @@ shift s a (suc n) =
     ap (rest s 0) {x = a + 1} {y = 1 + a} (omega arith) ∙ sym (rest-rest s 0 1 0 a) in
     ap₂ (λ x xs. x ∷ xs) here (shift s (a + 1) n)
 
--- a path of no depth is its only ancestor, and has no parent
+-- a path of depth 0 is its only ancestor, and has no parent
 ancestors_of-no_depth : (s : List ℕ) → depth_of s ≡ 0
     → ancestors_of s ≡ s ∷ ancestors_by (parent_of s)
 unfolding ancestors_of
 ancestors_of-no_depth s e = ap (λ n. s ∷ map (λ m. rest s 0 m) (range_with_len 1 n)) e
     ∙ sym (ap (λ o. s ∷ ancestors_by o) (parent_of-alone s e))
 
--- the ancestors of a path whose last value is no root are the path and its parent's ancestors
+-- the ancestors of a path whose last component is not the root are the path and its parent's
+-- ancestors
 ancestors_of-deep : (s : List ℕ) (vs : List Value) (v : Value) → values s ≡ vs ++ v ∷ []
     → (v ≡ RootDir → ⊥) → ancestors_of s ≡ s ∷ ancestors_by (parent_of s)
 unfolding ancestors_of
@@ -51,7 +53,7 @@ ancestors_of-deep s vs v e differs =
     ∙ ap (λ ps. s ∷ q ∷ ps) (shift s 1 (depth_of q))
     ∙ sym (ap (λ o. s ∷ ancestors_by o) (parent_of-deep s (depth_of q) more))
 
--- the ancestors of a path whose values end in v are the path and its parent's ancestors
+-- the ancestors of a path whose components end in v are the path and its parent's ancestors
 by_last : (s : List ℕ) (vs : List Value) (v : Value) → values s ≡ vs ++ v ∷ []
     → ancestors_of s ≡ s ∷ ancestors_by (parent_of s)
 by_last s vs RootDir e = ancestors_of-no_depth s (depth_of-root s vs e)
@@ -71,7 +73,7 @@ ancestors_of-parent s = by_snoc s (snoc (values s))
 pub ancestors_of-alone : (s : List ℕ) → parent_of s ≡ None → ancestors_of s ≡ s ∷ []
 ancestors_of-alone s e = ancestors_of-parent s ∙ ap (λ o. s ∷ ancestors_by o) e
 
--- a path's ancestors are the path and those of its parent
+-- if a path has a parent, its ancestors are the path and the parent's ancestors
 pub ancestors_of-above : (s parent : List ℕ) → parent_of s ≡ Some parent
     → ancestors_of s ≡ s ∷ ancestors_of parent
 ancestors_of-above s parent e = ancestors_of-parent s ∙ ap (λ o. s ∷ ancestors_by o) e
@@ -82,20 +84,20 @@ unfolding ancestors_of
 length-ancestors_of s =
     omega (arith, length-values s, length-map-range_with_len (λ m. rest s 0 m) 1 (depth_of s))
 
--- the bytes of the paths that a walk over ancestors gives from `next` on
+-- the bytes of the paths that a walk over ancestors yields, starting with `next`
 abbrev ancestors_from : Option Path → List (List ℕ)
 ancestors_from next = option_map_or (λ path. ancestors_of path.bytes.now) next []
 
--- a parent that is given as a path has the same ancestors as its bytes
+-- the ancestors of a parent that is a `Path` are the ancestors of its bytes
 ancestors_by-bytes : (o : Option Path)
     → ancestors_by (option_map (λ path. path.bytes.now) o) ≡ ancestors_from o
 ancestors_by-bytes None = refl
 ancestors_by-bytes (Some path) = refl
 
--- a walk over ancestors gives its path, and goes on from the parent of that path
-pub ancestors_left-step : (o : Option Path) (path : Path) (parent : Option Path)
+-- a walk over ancestors yields its path, and continues with the parent of that path
+pub remaining_ancestors-step : (o : Option Path) (path : Path) (parent : Option Path)
     → o ≡ Some path → option_map (λ path. path.bytes.now) parent ≡ parent_of path.bytes.now
     → ancestors_from o ≡ path.bytes.now ∷ ancestors_from parent
-ancestors_left-step o path parent is e =
+remaining_ancestors-step o path parent is e =
     ap ancestors_from is ∙ ancestors_of-parent path.bytes.now
     ∙ ap (λ ps. path.bytes.now ∷ ps) (ap ancestors_by (sym e) ∙ ancestors_by-bytes parent)

@@ -1,11 +1,12 @@
--- How many parts can be taken off the end: the root can stand nowhere but in front.
+-- How many trailing components can be removed: all except the root, which can only be the first
+-- component.
 use Rattle.std.proofs.Common.{◌≡◌, ℕ, suc, ◌-◌, ◌≤◌, List, [], ◌∷◌, ◌++◌, length, refl, ap, ◌∙◌}
 use Rattle.std.proofs.Common.{arith, length-append}
 use Rattle.unix_path.specs.Parts.{Value, RootDir, CurDir, ParentDir, Normal, values}
 use Rattle.unix_path.specs.Parents.{depth_of}
 use Rattle.unix_path.proofs.lemmas.rests.RootLemmas.{root_count, root_count-values, root_last}
 
--- a list has at least as many values as roots
+-- a list has at least as many components as roots
 root_count-le : (vs : List Value) → root_count vs ≤ length vs
 root_count-le [] = omega arith
 root_count-le (RootDir ∷ vs) = omega arith
@@ -13,7 +14,7 @@ root_count-le (CurDir ∷ vs) = omega arith
 root_count-le (ParentDir ∷ vs) = omega arith
 root_count-le (Normal name ∷ vs) = omega arith
 
--- a value that is no root leaves the count of roots as it is
+-- a component that is not the root doesn't change the count of roots
 root_count-push : (vs : List Value) (v : Value) → (v ≡ RootDir → ⊥)
     → root_count (vs ++ v ∷ []) ≡ root_count vs
 root_count-push [] RootDir differs = absurd (differs refl)
@@ -25,19 +26,20 @@ root_count-push (CurDir ∷ vs) v differs = refl
 root_count-push (ParentDir ∷ vs) v differs = refl
 root_count-push (Normal name ∷ vs) v differs = refl
 
--- the depth is the number of values, without the root
+-- the depth is the number of components, without the root
 pub depth_of-values : (s : List ℕ) → depth_of s ≡ length (values s) - root_count (values s)
 depth_of-values s = ap (λ n. length (values s) - n) (root_count-values s)
 
 pub depth_of-none : (s : List ℕ) → values s ≡ [] → depth_of s ≡ 0
 depth_of-none s e = omega (arith, depth_of-values s, ap length e)
 
--- a path whose last value is the root has the depth 0
+-- a path whose last component is the root has depth 0
 pub depth_of-root : (s : List ℕ) (vs : List Value) → values s ≡ vs ++ RootDir ∷ [] → depth_of s ≡ 0
 depth_of-root s [] e = omega (arith, depth_of-values s, ap length e, ap root_count e)
 depth_of-root s (v ∷ vs) e = absurd (omega (arith, root_last s (v ∷ vs) e))
 
--- the depth of a path whose last value is no root is one more than that of the values before it
+-- the depth of a path whose last component is not the root is one more than the depth of the
+-- components before it
 pub depth_of-push : (s : List ℕ) (vs : List Value) (v : Value) → values s ≡ vs ++ v ∷ []
     → (v ≡ RootDir → ⊥) → depth_of s ≡ suc (length vs - root_count vs)
 depth_of-push s vs v e differs =

@@ -11,11 +11,11 @@ use Rattle.std.proofs.lemmas.Option.{none-some}
 use Rattle.unix_path.specs.Parts.{is_slash, cur_dir, parent_dir, Part, Value, RootDir, CurDir}
 use Rattle.unix_path.specs.Parts.{ParentDir, Normal, parts, values, inner_parts}
 use Rattle.unix_path.specs.Rest.{rest}
-use Rattle.unix_path.specs.Joins.{is_open}
+use Rattle.unix_path.specs.Joins.{needs_no_separator}
 use Rattle.unix_path.specs.Names.{file_name_of}
 use Rattle.unix_path.specs.Edits.{last_start_of}
 use Rattle.unix_bytes.proofs.lemmas.lists.ListLemmas.{by_test}
-use Rattle.unix_path.proofs.lemmas.edits.JoinLemmas.{is_open-at}
+use Rattle.unix_path.proofs.lemmas.edits.JoinLemmas.{needs_no_separator-at}
 use Rattle.unix_path.proofs.lemmas.steps.LastLemmas.{last_part, last_start, root_alone, IsLastStart}
 use Rattle.unix_path.proofs.lemmas.names.ParentLemmas.{file_name_of-last}
 use Rattle.unix_path.proofs.lemmas.parts.PartLemmas.{values-nil, parts-name}
@@ -26,30 +26,30 @@ use Rattle.unix_path.proofs.lemmas.parts.ValueLemmas.{first_value, name_of-some}
 use Rattle.unix_path.proofs.lemmas.parts.PlaceLemmas.{parts_end}
 use Rattle.unix_path.proofs.lemmas.parts.PieceLemmas.{inner_parts-nil, no_slash_head}
 
--- a piece that is a name wherever it stands
+-- a string that is one piece, and neither empty nor `.` nor `..`
 pub record IsName (name : List ℕ) : Type 0 where
   pub some : 0 < length name
   pub no_slash : position_or_len is_slash name ≡ length name
   pub no_dot : bytes_eq name cur_dir ≡ false
   pub no_dots : bytes_eq name parent_dir ≡ false
 
--- s is an open prefix, the name, and the filler behind it
+-- s is a prefix that is empty or ends in a slash, then the name, and then the filler after it
 pub record NameCut (s name : List ℕ) : Type 0 where
   pub prefix : List ℕ
   pub back : List ℕ
   pub whole : s ≡ (prefix ++ name) ++ back
-  pub ends : is_open prefix ≡ true
+  pub ends : needs_no_separator prefix ≡ true
   pub start : last_start_of (parts s) ≡ length prefix
   pub before : values s ≡ values prefix ++ Normal name ∷ []
   pub is_name : IsName name
 
--- if a path has a file name, it is the last of the path's values
+-- if a path has a file name, it is the last component
 name_of_push : (s name : List ℕ) (vs : List Value) (v : Value) → values s ≡ vs ++ v ∷ []
     → file_name_of (values s) ≡ Some name → v ≡ Normal name
 name_of_push s name vs v is e =
     name_of-some v name (sym (ap file_name_of is ∙ file_name_of-last vs v) ∙ e)
 
--- a path without values has no file name
+-- a path without components has no file name
 no_name : (s name : List ℕ) → values s ≡ [] → file_name_of (values s) ≡ Some name → ⊥
 unfolding file_name_of
 no_name s name is e = none-some name (sym (ap file_name_of is) ∙ e)
@@ -60,7 +60,7 @@ record IsNamePiece (y name : List ℕ) : Type 0 where
   no_dot : bytes_eq y cur_dir ≡ false
   no_dots : bytes_eq y parent_dir ≡ false
 
--- a piece whose value is a name is that name
+-- a piece whose component is a name is that name
 name_piece : (y name : List ℕ) → first_value y ≡ Normal name → IsNamePiece y name
 name_piece y name h = by (bytes_eq y cur_dir) refl (bytes_eq y parent_dir) refl h
   where
@@ -70,17 +70,18 @@ name_piece y name h = by (bytes_eq y cur_dir) refl (bytes_eq y parent_dir) refl 
     by false e true k h = absurd (let no : ParentDir ≡ Normal name = h in cc)
     by false e false k h = record { same = cc; no_dot = e; no_dots = k }
 
--- a beginning of a string is open if it is empty or its last byte is a slash
-is_open-take : (t : List ℕ) (a : ℕ) → a ≤ length t → (0 < a → get_or t (a - 1) 0 ≡ 47)
-    → is_open (take a t) ≡ true
-is_open-take t zero l h = refl
-is_open-take t (suc k) l h =
-    is_open-at (take (suc k) t)
+-- a prefix of a string needs no separator if it is empty or its last byte is a slash
+needs_no_separator-take : (t : List ℕ) (a : ℕ) → a ≤ length t → (0 < a → get_or t (a - 1) 0 ≡ 47)
+    → needs_no_separator (take a t) ≡ true
+needs_no_separator-take t zero l h = refl
+needs_no_separator-take t (suc k) l h =
+    needs_no_separator-at (take (suc k) t)
     ∙ ap (λ j. eqb (get_or (take (suc k) t) (j - 1) 47) 47) (length-take-le (suc k) t l)
     ∙ eq-eqb _ 47 (get_or-take (suc k) t (suc k - 1) 47 (omega arith)
     ∙ get_or_default t (suc k - 1) 47 0 (omega arith) ∙ h (omega arith))
 
--- a path whose last part starts at a, before its end, is cut there
+-- a path with a file name is cut at index `a`, where its last component starts, if `a` is less than
+-- the trimmed length
 cut_at : (s name : List ℕ) (trim : TrimsEnd s) (a : ℕ) → file_name_of (values s) ≡ Some name
     → IsLastStart (take trim.len s) a → a < length (take trim.len s) → NameCut s name
 unfolding values
@@ -106,7 +107,7 @@ cut_at s name trim a e h l =
       prefix = prefix;
       back = drop trim.len s;
       whole = sym (ap (λ t. t ++ drop trim.len s) t_is ∙ take-append-drop trim.len s);
-      ends = is_open-take t a h.in_range h.after_slash;
+      ends = needs_no_separator-take t a h.in_range h.after_slash;
       start = omega (arith, last_start_of-name s name (sym e));
       before = all ∙ ap (λ v. values prefix ++ v ∷ []) named;
       is_name = record {
@@ -117,7 +118,7 @@ cut_at s name trim a e h l =
       };
     }
 
--- a path whose last part would start at its end has no file name
+-- if a path without its trailing filler has an empty last piece, it has no file name
 no_name_at_end : (s name : List ℕ) (trim : TrimsEnd s) (a : ℕ) → file_name_of (values s) ≡ Some name
     → IsLastStart (take trim.len s) a → length (take trim.len s) ≤ a → ⊥
 unfolding values
@@ -137,7 +138,7 @@ no_name_at_end s name trim a e h l =
     no_name s name (ap (map (λ (p : Part). p.value)) (sym trim.same) ∙ ap values nil ∙ values-nil)
     e)
 
--- a path with a file name is cut at it
+-- a path with a file name consists of a prefix, the file name and filler
 pub name_cut : (s name : List ℕ) → file_name_of (values s) ≡ Some name → NameCut s name
 name_cut s name e =
     let trim = trims_end s in
@@ -146,7 +147,7 @@ name_cut s name e =
     (λ l. cut_at s name trim at.0 e at.1 (ltb-true _ _ l))
     (λ l. absurd (no_name_at_end s name trim at.0 e at.1 (ltb-false _ _ l)))
 
--- a name is a path of that name alone
+-- a name is a path with only that name as its component
 pub values-name : (s : List ℕ) → IsName s → values s ≡ Normal s ∷ []
 unfolding values
 values-name s h =

@@ -6,28 +6,28 @@ use Rattle.std.specs.List.{position_or_len}
 use Rattle.std.proofs.Math.Seq.{take-length}
 use Rattle.std.proofs.lemmas.List.Sums.{fails_before_first, suffix_len_is}
 use Rattle.unix_path.specs.Parts.{dot}
-use Rattle.unix_path.specs.Names.{past_last, split_name}
+use Rattle.unix_path.specs.Names.{after_last, split_name}
 use Rattle.unix_bytes.proofs.lemmas.lists.ListLemmas.{by_test, take-take_front}
 
 abbrev pub is_dot : ℕ → Bool
 is_dot b = b == dot
 
--- if no byte from n on passes p, and the byte before n does, n is the place just after the last
--- that passes
-pub past_last-is : (p : ℕ → Bool) (s : List ℕ) (n : ℕ) → n ≤ length s
+-- if no byte at index n or later passes p, and the byte before n does, n is the index just after
+-- the last byte that passes
+pub after_last-is : (p : ℕ → Bool) (s : List ℕ) (n : ℕ) → n ≤ length s
     → ((k : ℕ) → n ≤ k → k < length s → not (p (get_or s k 0)) ≡ true)
-    → (0 < n → not (p (get_or s (n - 1) 0)) ≡ false) → n ≡ past_last p s
-past_last-is p s n l after here =
+    → (0 < n → not (p (get_or s (n - 1) 0)) ≡ false) → n ≡ after_last p s
+after_last-is p s n l after here =
     omega (arith, suffix_len_is (λ b. not (p b)) s n 0 l after here)
 
--- a place just after a byte that is `byte`, with no such byte behind it, is just after the last
--- such byte
-pub past_last-byte : (byte : ℕ) (s : List ℕ) (n : ℕ) → n ≤ length s
+-- an index just after an occurrence of `byte`, with no other after it, is just after the last
+-- occurrence
+pub after_last-byte : (byte : ℕ) (s : List ℕ) (n : ℕ) → n ≤ length s
     → (0 < n → get_or s (n - 1) 0 ≡ byte)
     → position_or_len (λ b. b == byte) (drop n s) ≡ length (drop n s)
-    → n ≡ past_last (λ b. b == byte) s
-past_last-byte byte s n l after none =
-    past_last-is (λ b. b == byte) s n l
+    → n ≡ after_last (λ b. b == byte) s
+after_last-byte byte s n l after none =
+    after_last-is (λ b. b == byte) s n l
     (λ k from to.
     let back : n + (k - n) ≡ k = omega arith in
     ap (λ z. not (z == byte))
@@ -36,24 +36,24 @@ past_last-byte byte s n l after none =
     (omega (arith, length-drop n s))))
     (λ some. ap not (eq-eqb (get_or s (n - 1) 0) byte (after some)))
 
--- a name with no dot behind its first byte is all stem
-pub split_name-whole : (name : List ℕ) (n : ℕ) → n ≡ past_last is_dot name → n ≤ 1
+-- a name without a dot after its first byte is all stem
+pub split_name-whole : (name : List ℕ) (n : ℕ) → n ≡ after_last is_dot name → n ≤ 1
     → split_name name ≡ (name, None)
 unfolding split_name
-split_name-whole name n e l = rw (le-ltb 1 (past_last is_dot name) (omega arith)) refl
+split_name-whole name n e l = rw (le-ltb 1 (after_last is_dot name) (omega arith)) refl
 
--- a name with a dot at place 1 or later is cut at its last one
-pub split_name-cut : (name : List ℕ) (n : ℕ) → n ≡ past_last is_dot name → 1 < n
+-- a name with a dot at index 1 or later is cut at its last dot
+pub split_name-cut : (name : List ℕ) (n : ℕ) → n ≡ after_last is_dot name → 1 < n
     → split_name name ≡ (take (n - 1) name, Some (drop n name))
 unfolding split_name
 split_name-cut name n e l =
-    rw (lt-ltb 1 (past_last is_dot name) (omega arith))
+    rw (lt-ltb 1 (after_last is_dot name) (omega arith))
     (ap (λ k. (take (k - 1) name, Some (drop k name))) (sym e))
 
--- a stem begins its name
+-- a stem is a prefix of its name
 pub split_name-stem : (name : List ℕ)
     → take (length (split_name name).0) name ≡ (split_name name).0
 unfolding split_name
-split_name-stem name = by_test (ltb 1 (past_last is_dot name))
-    (λ e. rw e (take-take_front (past_last is_dot name - 1) name))
+split_name-stem name = by_test (ltb 1 (after_last is_dot name))
+    (λ e. rw e (take-take_front (after_last is_dot name - 1) name))
     (λ e. rw e (take-length name))

@@ -1,4 +1,4 @@
--- A file name as a path of its own, and what stands behind its stem.
+-- A file name as a path of its own, and what follows its stem.
 use Rattle.std.proofs.Common.{◌≡◌, ℕ, ◌+◌, ◌-◌, ◌<◌, List, ◌++◌, length, take, drop}
 use Rattle.std.proofs.Common.{Option, Some, None, ltb, refl, sym, ap, ap₂, ◌∙◌, arith}
 use Rattle.std.proofs.Common.{ltb-true, ltb-false, length-append, length-take-le}
@@ -8,7 +8,7 @@ use Rattle.std.proofs.lemmas.Option.{none-some, same_Some}
 use Rattle.std.specs.Option.{option_and_then}
 use Rattle.unix_path.specs.Parts.{parts, values}
 use Rattle.unix_path.specs.Rest.{rest}
-use Rattle.unix_path.specs.Names.{extension_of, file_name_of, past_last, split_name}
+use Rattle.unix_path.specs.Names.{extension_of, file_name_of, after_last, split_name}
 use Rattle.unix_path.specs.Edits.{last_start_of, stem_end_of}
 use Rattle.unix_path.specs.Extensions.{name_end_of}
 use Rattle.unix_bytes.proofs.lemmas.lists.ListLemmas.{by_test}
@@ -21,7 +21,7 @@ use Rattle.unix_path.proofs.lemmas.names.StemCutLemmas.{stem_end_of-take}
 use Rattle.unix_path.proofs.lemmas.names.StemLemmas.{last_start_of-name, stem_end_by}
 use Rattle.unix_path.proofs.lemmas.names.StemLemmas.{stem_end_of-some}
 
--- y is the file name of itself, and starts where it does
+-- y is its own file name, which starts at index 0
 record IsOwnName (y : List ℕ) : Type 0 where
   name : file_name_of (values y) ≡ Some y
   start : last_start_of (parts y) ≡ 0
@@ -43,7 +43,7 @@ own_name s y e =
       );
     }
 
--- a file name ends in itself
+-- a file name, taken as a path, ends in its own file name
 pub name_end_of-name : (s name : List ℕ) → Some name ≡ file_name_of (values s)
     → name_end_of name ≡ Some (length name)
 unfolding name_end_of
@@ -52,7 +52,7 @@ name_end_of-name s name e =
     let to : last_start_of (parts name) + length name ≡ length name = omega (arith, h.start) in
     ap (name_end_by name) h.name ∙ ap Some to
 
--- up to its stem's end a file name is its stem
+-- the bytes of a file name up to the end of its stem are its stem
 pub take-stem_end : (s name : List ℕ) (end : ℕ) → Some name ≡ file_name_of (values s)
     → stem_end_of name ≡ Some end → take end name ≡ (split_name name).0
 unfolding stem_end_of
@@ -68,7 +68,7 @@ take-stem_end s name end e at =
 extension-none : (name : List ℕ) → length (split_name name).0 ≡ length name
     → (split_name name).1 ≡ None
 extension-none name e =
-    let n = past_last is_dot name in
+    let n = after_last is_dot name in
     by_test (ltb 1 n)
     (λ t.
     let cut = split_name-cut name n refl (ltb-true _ _ t) in
@@ -81,11 +81,11 @@ extension-none name e =
     )))
     (λ f. ap (λ r. r.1) (split_name-whole name n refl (omega (arith, ltb-false _ _ f))))
 
--- a stem that is shorter than its name ends before the dot before the extension
+-- if a stem is shorter than its name, a dot follows it, and then the extension
 extension-some : (name : List ℕ) → length (split_name name).0 < length name
     → (split_name name).1 ≡ Some (drop (length (split_name name).0 + 1) name)
 extension-some name l =
-    let n = past_last is_dot name in
+    let n = after_last is_dot name in
     by_test (ltb 1 n)
     (λ t.
     let cut = split_name-cut name n refl (ltb-true _ _ t) in
@@ -102,7 +102,7 @@ extension-some name l =
       ap (λ r. length r.0) (split_name-whole name n refl (omega (arith, ltb-false _ _ f))),
     )))
 
--- a file name that ends at `end`, and its stem at `stem`
+-- s has a file name that ends at `end` and whose stem ends at `stem`
 record EndsAt (s : List ℕ) (end stem : ℕ) : Type 0 where
   name : List ℕ
   is : Some name ≡ file_name_of (values s)
@@ -123,7 +123,7 @@ ends_at s end stem e at =
       stem_is = omega (arith, h.is);
     }
 
--- without a place where the file name ends there is no extension
+-- without an index where the file name ends there is no extension
 pub extension_of-nameless : (s : List ℕ) → None ≡ name_end_of s → None ≡ extension_of (values s)
 extension_of-nameless s e = by (file_name_of (values s)) refl
   where
@@ -140,7 +140,7 @@ extension_of-none s end stem e at same =
     sym (extension-none h.name (omega (arith, h.end_is, h.stem_is)))
     ∙ ap (option_and_then (λ name. (split_name name).1)) h.is
 
--- otherwise the extension stands behind the byte behind the stem
+-- if the stem ends before the file name does, the extension follows the byte after the stem
 pub extension_of-some : (s : List ℕ) (end stem : ℕ) → Some end ≡ name_end_of s
     → stem_end_of (take end s) ≡ Some stem → stem < end
     → Some (drop (stem + 1) (take end s)) ≡ extension_of (values s)

@@ -15,7 +15,7 @@ use Rattle.unix_path.specs.Rest.{rest}
 use Rattle.unix_path.specs.Names.{name_of, file_name_of}
 use Rattle.unix_path.specs.Edits.{last_start_of}
 use Rattle.unix_path.specs.Extensions.{name_end_of}
-use Rattle.unix_path.specs.Scan.{is_trailing, ends_with_parent, EndsInPart}
+use Rattle.unix_path.specs.Scan.{is_trailing, ends_with_parent_dir, EndsInPart}
 use Rattle.unix_bytes.proofs.lemmas.lists.ListLemmas.{by_test}
 use Rattle.unix_path.proofs.lemmas.steps.LastLemmas.{last_part, last_start, root_alone, IsLastStart}
 use Rattle.unix_path.proofs.lemmas.steps.LastPieceLemmas.{last_name, starts_dot, starts_parent}
@@ -39,7 +39,7 @@ pub record EndsInName (s : List ℕ) : Type 0 where
   pub name : Some (drop start s) ≡ file_name_of (values s)
   pub end : length s ≡ length (rest s 0 0)
 
--- the place where a file name ends, if there is one
+-- s has a file name, which ends at `end`
 pub record HasNameEnd (s : List ℕ) (end : ℕ) : Type 0 where
   pub bytes : List ℕ
   pub name : Some bytes ≡ file_name_of (values s)
@@ -54,11 +54,11 @@ has_name_end s end (Some bytes) is e = record {
   is = sym (same_Some _ end (name_end_of-some s bytes (length (rest s 0 0)) is refl ∙ e));
 }
 
--- a file name ends where the last part does
+-- a file name ends where the last component does
 pub name_end : (s : List ℕ) (end : ℕ) → name_end_of s ≡ Some end → HasNameEnd s end
 name_end s end e = has_name_end s end (file_name_of (values s)) refl e
 
--- the last part of s is its last piece
+-- the last component of s is its last piece
 last_value : (s : List ℕ) (start : ℕ) → IsLastStart s start → start < length s → EndsInPart s
     → values s ≡ values (take start s) ++ first_value (drop start s) ∷ []
 unfolding values
@@ -79,14 +79,14 @@ name_of_piece s start h l ends is = record {
   end = sym (length-rest_whole s ∙ parts_end-whole s ends);
 }
 
--- the root alone has no name
+-- the root has no file name
 root_nameless : (s : List ℕ) → 0 < length s → EndsInPart s → get_or s (length s - 1) 0 ≡ 47
     → None ≡ file_name_of (values s)
 unfolding values file_name_of
 root_nameless s l ends e =
     sym (ap (λ ps. file_name_of (map (λ p. p.value) ps)) (root_alone s l ends e))
 
--- a string that ends in a part and has a file name ends in it
+-- a string that ends in a component and has a file name ends in the file name
 pub named_end : (s name : List ℕ) → EndsInPart s → Some name ≡ file_name_of (values s)
     → EndsInName s
 unfolding values
@@ -113,7 +113,7 @@ named_end s name ends is =
     absurd (none-some name (file_name_of-none s (ap (λ ps. map (λ p. p.value) ps) nil)
     ∙ sym is))))
 
--- a string whose last part ends where it does ends in a part
+-- a string without bytes after its last component ends in a component
 pub ends_part : (s : List ℕ) → length s ≡ length (rest s 0 0) → EndsInPart s
 ends_part s e some =
     let n = length s in
@@ -132,24 +132,24 @@ ends_part s e some =
     )))
     (λ f. f)
 
--- a string whose file name ends where it does ends in that name
+-- a string without bytes after its file name ends in the file name
 pub ends_in_name : (s : List ℕ) → name_end_of s ≡ Some (length s) → EndsInName s
 ends_in_name s e =
     let h = name_end s (length s) e in
     named_end s h.bytes (ends_part s h.is) h.name
 
--- the file name of a string that ends in it ends there
+-- if a string ends in its file name, the file name ends where the string ends
 pub name_end_of-named : (s : List ℕ) → EndsInName s → name_end_of s ≡ Some (length s)
 name_end_of-named s h = sym (name_end_of-some s (drop h.start s) (length s) h.name h.end)
 
--- paths with the same parts have the same place where the file name ends
+-- paths with the same components at the same positions have the same index where the file name ends
 pub name_end_of-same : (s t : List ℕ) → parts s ≡ parts t → name_end_of s ≡ name_end_of t
 unfolding name_end_of values
 name_end_of-same s t e =
     ap (λ ps. option_map (λ name. last_start_of ps + length name)
     (file_name_of (map (λ p. p.value) ps))) e
 
--- up to the end of its file name, a path has all its parts
+-- up to the end of its file name, a path has all its components
 pub parts-named : (s : List ℕ) (end : ℕ) → name_end_of s ≡ Some end
     → parts (take end s) ≡ parts s
 parts-named s end e =
@@ -159,7 +159,7 @@ parts-named s end e =
     ∙ sym (ap length (rest-trimmed s trim.len trim.in_range trim.same trim.ends)) ∙ sym h.is in
     ap (λ k. parts (take k s)) (sym size) ∙ trim.same
 
--- a path ends in a name where its file name ends
+-- the bytes of a path up to the end of its file name end in a name
 pub name_end_of-take : (s : List ℕ) (end : ℕ) → name_end_of s ≡ Some end → end ≤ length s
     → name_end_of (take end s) ≡ Some (length (take end s))
 name_end_of-take s end e l = name_end_of-same (take end s) s (parts-named s end e) ∙ e
@@ -174,7 +174,7 @@ piece_slash s start i h from to =
     ∙ fails_before_first is_slash (drop start s) (i - start) 0
     (omega (arith, h.no_slash, length-drop start s))
 
--- the last piece begins at one place
+-- the last piece begins at only one index
 pub last_start_same : (s : List ℕ) (i j : ℕ) → IsLastStart s i → IsLastStart s j → i ≤ j
 last_start_same s i j h k = by_test (ltb j i)
     (λ t.
@@ -185,7 +185,7 @@ last_start_same s i j h k = by_test (ltb j i)
     ∙ piece_slash s j (i - 1) k (omega arith) (omega arith))))
     (λ f. omega (arith, ltb-false _ _ f))
 
--- a string that ends in a name has a byte
+-- a string that ends in a name is not empty
 pub nameless-nil : (s : List ℕ) → length s ≡ 0 → name_end_of s ≡ Some (length s) → ⊥
 nameless-nil s e is = let h = ends_in_name s is in let l = h.some in omega arith
 
@@ -209,7 +209,7 @@ nameless-dot s e is =
     cc
 
 -- the last piece of a string that ends in a name isn't `..`
-pub nameless-parent : (s : List ℕ) → ends_with_parent s ≡ true
+pub nameless-parent : (s : List ℕ) → ends_with_parent_dir s ≡ true
     → name_end_of s ≡ Some (length s) → ⊥
 nameless-parent s e is =
     let h = ends_in_name s is in
@@ -223,7 +223,7 @@ nameless-parent s e is =
     ∙ ap (λ k. first_value (drop k s)) (sym at) ∙ h.value in
     cc
 
--- a string that ends in a name has no filler at its end
+-- a string that ends in a name has no trailing filler
 pub nameless-trailing : (s : List ℕ) → 0 < length s → is_trailing s (length s - 1) ≡ true
     → name_end_of s ≡ Some (length s) → ⊥
 nameless-trailing s some t is =
@@ -232,7 +232,7 @@ nameless-trailing s some t is =
 -- a last piece that is neither empty nor `.` nor `..` is the file name
 pub named-piece : (s : List ℕ) → 0 < length s → eqb (get_or s (length s - 1) 0) 47 ≡ false
     → is_trailing s (length s - 1) ≡ false → bytes_eq s cur_dir ≡ false
-    → ends_with_parent s ≡ false → name_end_of s ≡ Some (length s)
+    → ends_with_parent_dir s ≡ false → name_end_of s ≡ Some (length s)
 named-piece s some no_slash ends no_dot no_parent =
     let at = last_start s in
     let l = at.1.in_range in
@@ -246,7 +246,7 @@ named-piece s some no_slash ends no_dot no_parent =
     absurd (true≢false (sym (ap (λ b. eqb b 47) (ap (λ k. get_or s (k - 1) 0) (sym here)
     ∙ at.1.after_slash (omega arith))) ∙ no_slash)))
 
--- if the bytes up to the end of the last part don't end in a name, there is no file name
+-- if the bytes up to the end of the last component don't end in a name, there is no file name
 pub name_end_of-unnamed : (s : List ℕ) (end : ℕ) → parts (take end s) ≡ parts s
     → EndsInPart (take end s)
     → (name_end_of (take end s) ≡ Some (length (take end s)) → ⊥) → None ≡ name_end_of s
@@ -257,13 +257,13 @@ name_end_of-unnamed s end same ends none = by (file_name_of (values (take end s)
     by (Some name) is =
         absurd (none (name_end_of-named (take end s) (named_end (take end s) name ends is)))
 
--- if the bytes up to the end of the last part end in a name, the file name ends there
+-- if the bytes up to the end of the last component end in a name, the file name ends there
 pub name_end_of-ended : (s : List ℕ) (end : ℕ) → end ≤ length s → parts (take end s) ≡ parts s
     → name_end_of (take end s) ≡ Some (length (take end s)) → Some end ≡ name_end_of s
 name_end_of-ended s end l same is = ap Some (sym (length-take-le end s l))
     ∙ sym is ∙ name_end_of-same (take end s) s same
 
--- bytes of which the last is neither a slash nor a dot end in a name
+-- bytes whose last byte is neither a slash nor a dot end in a name
 pub named-other : (s : List ℕ) → 0 < length s → eqb (get_or s (length s - 1) 0) 47 ≡ false
     → eqb (get_or s (length s - 1) 0) 46 ≡ false → name_end_of s ≡ Some (length s)
 named-other s some no_slash no_dot =
@@ -279,36 +279,36 @@ named-other s some no_slash no_dot =
 
 -- bytes that end in a dot end in a name, unless their last piece is `.` or `..`
 pub named-dot : (s : List ℕ) → 1 < length s → get_or s (length s - 1) 0 ≡ 46
-    → eqb (get_or s (length s - 2) 0) 47 ≡ false → ends_with_parent s ≡ false
+    → eqb (get_or s (length s - 2) 0) 47 ≡ false → ends_with_parent_dir s ≡ false
     → name_end_of s ≡ Some (length s)
 named-dot s some dot before no_parent =
     let n = length s in
     let no_slash : eqb (get_or s (n - 1) 0) 47 ≡ false = rw dot refl in
-    let behind : eqb (get_or s (n - 1 - 1) 0) 47 ≡ false =
+    let after : eqb (get_or s (n - 1 - 1) 0) 47 ≡ false =
     ap (λ i. eqb (get_or s i 0) 47) {x = n - 1 - 1} {y = n - 2} (omega arith) ∙ before in
     named-piece s (omega arith) no_slash
-    (rw (lt-ltb 0 (n - 1) (omega arith), no_slash, behind, dot) refl)
+    (rw (lt-ltb 0 (n - 1) (omega arith), no_slash, after, dot) refl)
     (by_test (bytes_eq s cur_dir)
     (λ e. absurd (omega (arith, ap length ((bytes_eq-Decides s cur_dir).0 e))))
     (λ e. e))
     no_parent
 
--- one byte that is a dot is no name
+-- a string that is a single dot doesn't end in a name
 pub nameless-one : (s : List ℕ) → length s ≡ 1 → get_or s (length s - 1) 0 ≡ 46
     → name_end_of s ≡ Some (length s) → ⊥
 nameless-one [] e dot = absurd (omega (arith, e))
 nameless-one (b ∷ []) e dot = nameless-dot (b ∷ []) (rw dot refl)
 nameless-one (b ∷ c ∷ s) e dot = absurd (omega (arith, e))
 
--- a dot behind a slash is no name
-pub nameless-behind : (s : List ℕ) → 1 < length s → get_or s (length s - 1) 0 ≡ 46
+-- a string that ends in a slash and a dot doesn't end in a name
+pub nameless-after : (s : List ℕ) → 1 < length s → get_or s (length s - 1) 0 ≡ 46
     → get_or s (length s - 2) 0 ≡ 47 → name_end_of s ≡ Some (length s) → ⊥
-nameless-behind s some dot slash =
+nameless-after s some dot slash =
     let n = length s in
-    let behind : get_or s (n - 1 - 1) 0 ≡ 47 =
+    let after : get_or s (n - 1 - 1) 0 ≡ 47 =
     ap (λ i. get_or s i 0) {x = n - 1 - 1} {y = n - 2} (omega arith) ∙ slash in
-    nameless-trailing s (omega arith) (rw (lt-ltb 0 (n - 1) (omega arith), dot, behind) refl)
+    nameless-trailing s (omega arith) (rw (lt-ltb 0 (n - 1) (omega arith), dot, after) refl)
 
--- the path up to the end of its file name is all that a fresh walk has left
+-- the path up to the end of its file name is the rest if no component is removed
 pub take-name_end : (s : List ℕ) (end : ℕ) → name_end_of s ≡ Some end → take end s ≡ rest s 0 0
 take-name_end s end e = ap (λ n. take n s) (name_end s end e).is ∙ take-rest s 0

@@ -1,4 +1,4 @@
--- What the last part says: the parent, the file name and what stands before it.
+-- What the last component determines: the parent, the file name, and the path before the file name.
 use Rattle.std.proofs.Common.{◌≡◌, ℕ, suc, ◌+◌, ◌-◌, Bool, true, false, cond, eqb, List, [], ◌∷◌}
 use Rattle.std.proofs.Common.{◌++◌, length, Some, None, is_some, refl, sym, ap, ◌∙◌}
 use Rattle.std.proofs.Common.{arith, take_all}
@@ -14,12 +14,13 @@ use Rattle.unix_path.proofs.lemmas.rests.RestLemmas.{values-rest, rest-rest}
 use Rattle.unix_bytes.proofs.lemmas.lists.ListLemmas.{last_or-push}
 use Rattle.unix_path.proofs.lemmas.names.DepthLemmas.{depth_of-none, depth_of-root, depth_of-push}
 
--- the rest after no part is taken has all values of the path
+-- if no component is removed, the rest has all components of the path
 pub values-whole : (s u : List ℕ) → u ≡ rest s 0 0 → values u ≡ values s
 values-whole s u e = ap values e ∙ values-rest s 0 0
     ∙ take_all (length (values s) - (0 + 0)) (values s) (omega arith)
 
--- what is left before the last part of a fresh cursor's rest is left before that of the path
+-- if u is the rest when no component is removed, the rest of u before the last component is the
+-- rest of the path before the last component
 pub rest-whole_last : {u w : List ℕ} (s : List ℕ) → u ≡ rest s 0 0 → w ≡ rest u 0 1 → w ≡ rest s 0 1
 rest-whole_last s e r = r ∙ ap (λ u. rest u 0 1) e ∙ rest-rest s 0 0 0 1
 
@@ -31,7 +32,7 @@ pub parent_of-deep : (s : List ℕ) (n : ℕ) → depth_of s ≡ suc n → paren
 unfolding parent_of
 parent_of-deep s n e = rw (e, eqb-suc-zero n) refl
 
--- a parent is what is left before the last part
+-- a parent is the rest before the last component
 pub parent_of-some : (s parent : List ℕ) → parent_of s ≡ Some parent → parent ≡ rest s 0 1
 unfolding parent_of
 parent_of-some s parent e = by (eqb (depth_of s) 0) e
@@ -47,7 +48,7 @@ pub parent_of-root : (s : List ℕ) (vs : List Value) → values s ≡ vs ++ Roo
     → None ≡ parent_of s
 parent_of-root s vs is = sym (parent_of-alone s (depth_of-root s vs is))
 
--- a path that doesn't end in the root has what is left before its last part as its parent
+-- the parent of a path that doesn't end in the root is the rest before its last component
 pub parent_of-push : {w : List ℕ} (s : List ℕ) (vs : List Value) (v : Value)
     → values s ≡ vs ++ v ∷ [] → w ≡ rest s 0 1 → (v ≡ RootDir → ⊥) → Some w ≡ parent_of s
 parent_of-push s vs v is left differs =
@@ -57,17 +58,17 @@ pub file_name_of-none : (s : List ℕ) → values s ≡ [] → None ≡ file_nam
 unfolding file_name_of
 file_name_of-none s is = sym (ap file_name_of is)
 
--- the file name is that of the last value
+-- the file name is the name of the last component
 pub file_name_of-last : (vs : List Value) (v : Value) → file_name_of (vs ++ v ∷ []) ≡ name_of v
 unfolding file_name_of
 file_name_of-last vs v = ap (option_and_then name_of) (last_or-push None vs v)
 
--- the last value of a path tells its file name
+-- the last component of a path determines its file name
 pub file_name_of-push : (s w : List ℕ) (v : Value) → values s ≡ values w ++ v ∷ []
     → name_of v ≡ file_name_of (values s)
 file_name_of-push s w v is = sym (ap file_name_of is ∙ file_name_of-last (values w) v)
 
--- if there is a file name, the path without it is what is left before the last part
+-- if there is a file name, the path without it is the rest before the last component
 pub before_name_of-some : (s name : List ℕ) → Some name ≡ file_name_of (values s)
     → rest s 0 1 ≡ before_name_of s
 unfolding before_name_of

@@ -1,4 +1,4 @@
--- Where the stem of a name ends with which a string ends, by its last dot or slash.
+-- Where the stem of the name at the end of a string ends, by its last dot or slash.
 use Rattle.std.proofs.Common.{◌≡◌, ℕ, zero, suc, ◌+◌, ◌-◌, ◌<◌, ◌≤◌, true, false, not, eqb, ltb}
 use Rattle.std.proofs.Common.{◌||◌, List, length, get_or, take, drop, map, Option, Some, None}
 use Rattle.std.proofs.Common.{option_map, refl, sym, ap, ◌∙◌, arith, ltb-true, ltb-false}
@@ -9,41 +9,42 @@ use Rattle.std.proofs.lemmas.List.Sums.{position_or_len_is}
 use Rattle.std.proofs.lemmas.Option.{none-some, same_Some}
 use Rattle.unix_path.specs.Parts.{is_slash, values}
 use Rattle.unix_path.specs.Rest.{rest}
-use Rattle.unix_path.specs.Names.{file_name_of, past_last, split_name, stem_of}
+use Rattle.unix_path.specs.Names.{file_name_of, after_last, split_name, stem_of}
 use Rattle.unix_path.specs.Edits.{last_start_of, stem_end_of}
 use Rattle.unix_path.specs.Extensions.{name_end_of}
 use Rattle.unix_path.proofs.lemmas.steps.LastLemmas.{IsLastStart}
 use Rattle.unix_bytes.proofs.lemmas.lists.ListLemmas.{by_test}
 use Rattle.unix_path.proofs.lemmas.names.NameEndLemmas.{name_end_of-some}
-use Rattle.unix_path.proofs.lemmas.names.NameLemmas.{is_dot, past_last-is, split_name-cut}
+use Rattle.unix_path.proofs.lemmas.names.NameLemmas.{is_dot, after_last-is, split_name-cut}
 use Rattle.unix_path.proofs.lemmas.names.NameLemmas.{split_name-stem, split_name-whole}
 use Rattle.unix_path.proofs.lemmas.names.NamedLemmas.{EndsInName, ends_in_name, last_start_same}
 use Rattle.unix_path.proofs.lemmas.names.NamedLemmas.{parts-named, piece_slash}
 use Rattle.unix_path.proofs.lemmas.names.StemLemmas.{length-name, length-rest_whole-le}
 use Rattle.unix_path.proofs.lemmas.names.StemLemmas.{stem_end_of-none, stem_end_of-some}
 
--- each byte of s from n on is ordinary: neither a dot nor a slash
+-- each byte of s at index n or later is ordinary: neither a dot nor a slash
 abbrev pub OrdinaryFrom : List ℕ → ℕ → Type 0
 OrdinaryFrom s n = (i : ℕ) → n ≤ i → i < length s
     → (eqb (get_or s i 0) 46 || eqb (get_or s i 0) 47) ≡ false
 
--- no byte of s from n on is a dot
+-- no byte of s at index n or later is a dot
 abbrev pub DotlessFrom : List ℕ → ℕ → Type 0
 DotlessFrom s n = (i : ℕ) → n ≤ i → i < length s → eqb (get_or s i 0) 46 ≡ false
 
--- a byte that is neither is no dot
+-- a byte that is neither a dot nor a slash is not a dot
 no_dot : (b : ℕ) → (eqb b 46 || eqb b 47) ≡ false → eqb b 46 ≡ false
 no_dot b e = by_test (eqb b 46) (λ t. absurd (true≢false (rw t at e))) (λ f. f)
 
--- a byte that is neither is no slash
+-- a byte that is neither a dot nor a slash is not a slash
 no_slash : (b : ℕ) → (eqb b 46 || eqb b 47) ≡ false → eqb b 47 ≡ false
 no_slash b e = by_test (eqb b 46) (λ t. absurd (true≢false (rw t at e))) (λ f. rw f at e)
 
--- from a place on without dots and slashes there are no dots
+-- if every byte at index n or later is ordinary, no byte at index m or later is a dot, for m at
+-- least n
 Dotless-ordinary : (s : List ℕ) (n m : ℕ) → OrdinaryFrom s n → n ≤ m → DotlessFrom s m
 Dotless-ordinary s n m ordinary l i from to = no_dot (get_or s i 0) (ordinary i (omega arith) to)
 
--- what is ordinary behind the first n bytes is so in the whole string
+-- bytes that are ordinary after the first n bytes are ordinary in the whole string
 pub ordinary_behind : (s : List ℕ) (n past : ℕ) → n ≤ length s → OrdinaryFrom (drop n s) past
     → OrdinaryFrom s (n + past)
 ordinary_behind s n past l ordinary i from to =
@@ -53,15 +54,15 @@ ordinary_behind s n past l ordinary i from to =
     ap (λ b. eqb b 46 || eqb b 47) here
     ∙ ordinary (i - n) (omega arith) (omega (arith, length-drop n s))
 
--- what is ordinary from a place on in t, which follows the first n bytes, is so in the whole string
+-- bytes that are ordinary in t, which follows the first n bytes, are ordinary in the whole string
 pub ordinary_from : (s t : List ℕ) (n past place : ℕ) → n ≤ length s → t ≡ drop n s
     → OrdinaryFrom t past
     → place ≡ n + past → OrdinaryFrom s place
 ordinary_from s t n past place l is ordinary e i from to =
     ordinary_behind s n past l (subst (λ t. OrdinaryFrom t past) is ordinary) i (omega arith) to
 
--- if the byte before a place in t, which follows the first n bytes, is a dot or a slash, and it is
--- no slash in the whole string, it is a dot there
+-- t is s without its first n bytes: if the byte of t before index `past` is a dot or a slash, and
+-- the same byte of s isn't a slash, then that byte of s is a dot
 pub dot_at : (s t : List ℕ) (n past place : ℕ) → t ≡ drop n s → 0 < past → place ≡ n + past - 1
     → (eqb (get_or t (past - 1) 0) 46 || eqb (get_or t (past - 1) 0) 47) ≡ true
     → (get_or s place 0 ≡ 47 → ⊥) → get_or s place 0 ≡ 46
@@ -73,7 +74,7 @@ dot_at s t n past place is some e stops no_slash =
     (λ slash. absurd (no_slash (here ∙ eqb-true _ 47 slash)))
     (or_cases (eqb (get_or t (past - 1) 0) 46) (eqb (get_or t (past - 1) 0) 47) stops)
 
--- the stem ends as many bytes behind its name's beginning as it has
+-- the stem ends at the start of the file name plus the length of the stem
 stem_end-named : (s : List ℕ) → (h : EndsInName s)
     → stem_end_of s ≡ Some (h.start + length (split_name (drop h.start s)).0)
 stem_end-named s h =
@@ -83,7 +84,7 @@ stem_end-named s h =
     omega (arith, length-drop h.start s) in
     sym (stem_end_of-some s y (length s) h.name h.end refl) ∙ ap Some (sym to)
 
--- behind a dot that isn't the name's first byte, with no dot and slash behind it, the stem ends
+-- the stem ends before a dot that isn't the name's first byte, if no dot and no slash follows it
 pub stem_end-cut : (s : List ℕ) (d : ℕ) → EndsInName s → d < length s → OrdinaryFrom s (d + 1)
     → get_or s d 0 ≡ 46 → 0 < d → eqb (get_or s (d - 1) 0) 47 ≡ false → stem_end_of s ≡ Some d
 stem_end-cut s d h l ordinary dot some before =
@@ -110,7 +111,7 @@ stem_end-cut s d h l ordinary dot some before =
     ∙ before))))) in
     let n = d + 1 - k in
     let size = length-drop k s in
-    let past : n ≡ past_last is_dot y = past_last-is is_dot y n (omega arith)
+    let past : n ≡ after_last is_dot y = after_last-is is_dot y n (omega arith)
     (λ i from to. ap not (ap (λ b. eqb b 46) (get_or-drop k s i 0)
     ∙ no_dot (get_or s (k + i) 0) (ordinary (k + i) (omega arith) (omega arith))))
     (λ l. ap not (ap (λ b. eqb b 46) (get_or-drop k s (n - 1) 0
@@ -123,7 +124,7 @@ stem_end-cut s d h l ordinary dot some before =
       length-take-le (n - 1) y (omega arith),
     ))
 
--- a name without a dot behind its first byte is all stem
+-- a name without a dot after its first byte is all stem
 pub stem_end-whole : (s : List ℕ) → (h : EndsInName s) → DotlessFrom s (h.start + 1)
     → stem_end_of s ≡ Some (length s)
 stem_end-whole s h none =
@@ -137,9 +138,9 @@ stem_end-whole s h none =
     ∙ none (k + i) (omega arith) (omega arith)) in
     let whole : split_name y ≡ (y, None) = by_test (is_dot (get_or y 0 0))
     (λ t. split_name-whole y 1
-    (past_last-is is_dot y 1 (omega arith) (behind 1 (omega arith)) (λ _. ap not t)) (omega arith))
+    (after_last-is is_dot y 1 (omega arith) (behind 1 (omega arith)) (λ _. ap not t)) (omega arith))
     (λ f. split_name-whole y 0
-    (past_last-is is_dot y 0 (omega arith)
+    (after_last-is is_dot y 0 (omega arith)
     (λ i from to. by_test (ltb 0 i) (λ t. behind 1 (omega arith) i (ltb-true _ _ t) to)
     (λ u. ap (λ j. not (is_dot (get_or y j 0))) {x = i} {y = 0} (omega (arith, ltb-false _ _ u))
     ∙ ap not f))
@@ -150,7 +151,7 @@ stem_end-whole s h none =
       ap (λ r. length r.0) whole,
     ))
 
--- the place behind the last dot among the first m bytes, or 0
+-- the index after the last dot among the first m bytes, or 0
 record LastDot (s : List ℕ) (m : ℕ) : Type 0 where
   past : ℕ
   in_range : past ≤ m
@@ -182,12 +183,12 @@ last_dot s (suc m) = by_test (eqb (get_or s m 0) 46)
       dot = h.dot;
     })
 
--- a name that is all stem has no dot behind its first byte
+-- a name that is all stem has no dot after its first byte
 whole_dotless : (y : List ℕ) → length (split_name y).0 ≡ length y → DotlessFrom y 1
 whole_dotless y e =
     let h = last_dot y (length y) in
     let l = h.in_range in
-    let past : h.past ≡ past_last is_dot y = past_last-is is_dot y h.past l
+    let past : h.past ≡ after_last is_dot y = after_last-is is_dot y h.past l
     (λ i from to. ap not (h.none i from to)) (λ some. ap not (h.dot some)) in
     by_test (ltb 1 h.past)
     (λ t.
@@ -200,7 +201,7 @@ whole_dotless y e =
     )))
     (λ f i from to. h.none i (omega (arith, ltb-false _ _ f)) to)
 
--- s ends in a name that has no dot behind its first byte
+-- s ends in a name that has no dot after its first byte
 pub record EndsInStem (s : List ℕ) : Type 0 where
   pub named : EndsInName s
   pub dotless : DotlessFrom s (named.start + 1)
@@ -235,11 +236,13 @@ ends_in_stem_by s (Some bytes) is e =
     length_take_le : (n : ℕ) (xs : List ℕ) → length (take n xs) ≤ length xs
     length_take_le n xs = omega (arith, length-take n xs)
 
--- a string that ends in the stem of its file name
+-- if the stem of its file name ends where a string ends, the string ends in a name that has no dot
+-- after its first byte
 pub ends_in_stem : (s : List ℕ) → stem_end_of s ≡ Some (length s) → EndsInStem s
 ends_in_stem s e = ends_in_stem_by s (file_name_of (values s)) refl e
 
--- if the first n bytes end in a stem, and neither dot nor slash stands behind them, all end in one
+-- if the first n bytes end in a stem, and no dot and no slash follows them, the whole string ends
+-- in a stem
 pub stem_end-longer : (s : List ℕ) (n : ℕ) → n ≤ length s → EndsInName s
     → stem_end_of (take n s) ≡ Some n → OrdinaryFrom s n → stem_end_of s ≡ Some (length s)
 stem_end-longer s n l h known ordinary =
@@ -275,13 +278,14 @@ stem_end-longer s n l h known ordinary =
     ∙ stem.dotless i (omega arith) (omega (arith, ltb-true _ _ b)))
     (λ b. no_dot (get_or s i 0) (ordinary i (omega (arith, ltb-false _ _ b)) to)))
 
--- without a dot and a slash, all of the name is stem
+-- a string that ends in a name, and has no dot and no slash, is all stem
 pub stem_end-ordinary : (s : List ℕ) → EndsInName s → OrdinaryFrom s 0
     → stem_end_of s ≡ Some (length s)
 stem_end-ordinary s h ordinary = stem_end-whole s h
     (Dotless-ordinary s 0 (h.start + 1) ordinary (omega arith))
 
--- if neither dot nor slash stands behind what is known to end in a stem, all ends in one
+-- if no dot and no slash follows the first n bytes, which end in a stem unless n is 0, the whole
+-- string ends in a stem
 pub stem_end-known : (s : List ℕ) (n : ℕ) → EndsInName s → n ≤ length s
     → (0 < n → stem_end_of (take n s) ≡ Some n) → OrdinaryFrom s n
     → stem_end_of s ≡ Some (length s)
@@ -289,7 +293,7 @@ stem_end-known s n h l known ordinary = by_test (ltb 0 n)
     (λ t. stem_end-longer s n l h (known (ltb-true _ _ t)) ordinary)
     (λ f. stem_end-ordinary s h (λ i from to. ordinary i (omega (arith, ltb-false _ _ f)) to))
 
--- behind a slash, with no dot and slash behind it, all of the name is stem
+-- after a slash that no dot and no slash follows, the whole name is stem
 pub stem_end-slash : (s : List ℕ) (d : ℕ) → EndsInName s → d < length s → OrdinaryFrom s (d + 1)
     → get_or s d 0 ≡ 47 → stem_end_of s ≡ Some (length s)
 stem_end-slash s d h l ordinary slash =
@@ -298,7 +302,7 @@ stem_end-slash s d h l ordinary slash =
     ∙ piece_slash s h.start d h.last (ltb-false _ _ f) l))) in
     stem_end-whole s h (Dotless-ordinary s (d + 1) (h.start + 1) ordinary (omega arith))
 
--- if the last dot is the name's first byte, all of the name is stem
+-- if the last dot is the name's first byte, the whole name is stem
 pub stem_end-lead : (s : List ℕ) (d : ℕ) → EndsInName s → d < length s → OrdinaryFrom s (d + 1)
     → (0 < d → eqb (get_or s (d - 1) 0) 47 ≡ true) → stem_end_of s ≡ Some (length s)
 stem_end-lead s d h l ordinary before =
@@ -310,7 +314,7 @@ stem_end-lead s d h l ordinary before =
     (λ f. ltb-false _ _ f) in
     stem_end-whole s h (Dotless-ordinary s (d + 1) (h.start + 1) ordinary (omega arith))
 
--- up to the end of its file name, a path has the stem that it has
+-- up to the end of its file name, a path has the same stem
 pub stem_end_of-take : (s : List ℕ) (end : ℕ) → name_end_of s ≡ Some end
     → stem_end_of (take end s) ≡ stem_end_of s
 unfolding stem_end_of values
@@ -318,7 +322,7 @@ stem_end_of-take s end e =
     ap (λ ps. option_map (λ stem. last_start_of ps + length stem)
     (stem_of (map (λ p. p.value) ps))) (parts-named s end e)
 
--- without a place where the name ends there is none where its stem ends
+-- if there is no index where the file name ends, there is none where its stem ends
 pub stem_end_of-nameless : (s : List ℕ) → name_end_of s ≡ None → None ≡ stem_end_of s
 stem_end_of-nameless s e = by (file_name_of (values s)) refl
   where

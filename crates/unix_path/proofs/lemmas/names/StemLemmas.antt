@@ -20,11 +20,11 @@ use Rattle.unix_path.proofs.lemmas.rests.RestLemmas.{take-rest}
 use Rattle.unix_path.proofs.lemmas.steps.SpanLemmas.{length-rest_whole, parts_end-append}
 use Rattle.unix_path.proofs.lemmas.parts.ValueLemmas.{value_bytes-piece, name_of-some}
 
--- a part is as long as the bytes of its value
+-- a component spans as many bytes as its value has
 abbrev SpansValue : Part → Type 0
 SpansValue p = p.end ≡ p.start + length (value_bytes p.value)
 
--- the parts of pieces are as long as the bytes of their values
+-- each component of these pieces spans as many bytes as its value has
 SpansValue-parts_of_pieces : (at : ℕ) (ps : List (List ℕ))
     → AllByRecursion SpansValue (parts_of_pieces at ps)
 SpansValue-parts_of_pieces at [] = tt
@@ -45,7 +45,7 @@ SpansValue-leading_part s = by_test (is_rooted s) (λ e. rw e (refl, tt))
     (λ e. rw e (by_test (bytes_eq (before_first is_slash s) cur_dir) (λ d. rw d (refl, tt))
     (λ d. rw d tt)))
 
--- the parts of a path are as long as the bytes of their values
+-- each component of a path spans as many bytes as its value has
 SpansValue-parts : (s : List ℕ) → AllByRecursion SpansValue (parts s)
 unfolding parts inner_parts
 SpansValue-parts s =
@@ -57,11 +57,11 @@ SpansValue-last : (ps : List Part) (p : Part) → AllByRecursion SpansValue (ps 
 SpansValue-last [] p h = h.0
 SpansValue-last (q ∷ ps) p h = SpansValue-last ps p h.1
 
--- the last of some parts and one behind them starts where that one does
+-- after a component is appended, the last component starts where the appended component starts
 last_start_of-push : (ps : List Part) (p : Part) → last_start_of (ps ++ p ∷ []) ≡ p.start
 last_start_of-push ps p = ap (λ o. option_map_or (λ p. p.start) o 0) (last_or-push None ps p)
 
--- the file name ends where a fresh cursor's rest ends
+-- the file name ends where the last component ends
 pub last_start_of-name : (s name : List ℕ) → Some name ≡ file_name_of (values s)
     → last_start_of (parts s) + length name ≡ length (rest s 0 0)
 unfolding file_name_of values
@@ -87,22 +87,23 @@ last_start_of-name s name e = by_last (snoc (parts s))
         let to : parts_end (parts s) ≡ p.end = ap parts_end n ∙ parts_end-append ps p in
         omega (arith, length-rest_whole s)
 
--- a name is no longer than what stands up to its end
+-- a name is no longer than the bytes up to its end
 pub length-name : (s name : List ℕ) (end : ℕ) → Some name ≡ file_name_of (values s)
     → end ≡ length (rest s 0 0) → length name ≤ end
 length-name s name end e at = omega (arith, last_start_of-name s name e, at)
 
--- the place where the stem of this name ends in s, if there is a name
+-- the index in s where the stem of this name ends, if there is a name
 abbrev pub stem_end_by : List ℕ → Option (List ℕ) → Option ℕ
 stem_end_by s name = option_map (λ stem. last_start_of (parts s) + length stem)
     (option_map (λ name. (split_name name).0) name)
 
--- without a file name there is no place where its stem ends
+-- without a file name there is no index where its stem ends
 pub stem_end_of-none : (s : List ℕ) → None ≡ file_name_of (values s) → None ≡ stem_end_of s
 unfolding stem_end_of
 stem_end_of-none s e = ap (stem_end_by s) e
 
--- the stem begins where the name does, and the name ends where a fresh cursor's rest ends
+-- the file name ends at index `end`, where the last component ends, and the stem starts where the
+-- file name starts
 pub stem_end_of-some : {stem : List ℕ} (s name : List ℕ) (end : ℕ)
     → Some name ≡ file_name_of (values s) → end ≡ length (rest s 0 0)
     → stem ≡ (split_name name).0 → Some (end - length name + length stem) ≡ stem_end_of s
@@ -114,7 +115,7 @@ stem_end_of-some {stem} s name end e at is =
     omega (arith, at, ap length is) in
     ap Some to ∙ ap (stem_end_by s) e
 
--- no more is left of a path than its bytes
+-- the rest of a path is no longer than the path
 pub length-rest_whole-le : (s : List ℕ) → length (rest s 0 0) ≤ length s
 length-rest_whole-le s =
     omega (arith, ap length (take-rest s 0), length-take (length (rest s 0 0)) s)

@@ -1,4 +1,4 @@
--- Two strings that are told apart by the bytes at the first place at which they differ.
+-- Two strings whose order is decided by the bytes at their first difference.
 use Rattle.std.proofs.Common.{◌≡◌, ℕ, zero, suc, ◌+◌, ◌-◌, ◌<◌, ◌≤◌, ◌||◌, true, false, eqb, List}
 use Rattle.std.proofs.Common.{[], ◌∷◌, ◌++◌, length, get_or, take, drop, map, refl, sym, ap, ◌∙◌}
 use Rattle.std.proofs.Common.{arith, take-append-drop, append_assoc, get_or-drop, length-drop}
@@ -16,20 +16,20 @@ use Rattle.unix_path.specs.OrderLaws.{value_cmp-total}
 use Rattle.unix_path.specs.Parts.{Part, Value, cur_dir, inner_parts, is_slash, value_of_piece}
 use Rattle.unix_path.specs.Parts.{values}
 use Rattle.unix_path.specs.Scan.{is_filler}
-use Rattle.unix_path.specs.Steps.{begins_piece, piece_rank, AreApart}
-use Rattle.unix_path.proofs.lemmas.order.BehindLemmas.{begins_past}
+use Rattle.unix_path.specs.Steps.{is_piece_start, piece_rank, AreApart}
+use Rattle.unix_path.proofs.lemmas.order.AfterCutLemmas.{begins_past}
 use Rattle.unix_path.proofs.lemmas.order.CommonPrefixLemmas.{take-common, take-past_slash}
 use Rattle.unix_path.proofs.lemmas.order.CommonPrefixLemmas.{values_cmp-common, values-past_slash}
 use Rattle.unix_path.proofs.lemmas.order.DifferLemmas.{Counts, counts_from, head_rank-drop}
 use Rattle.unix_path.proofs.lemmas.order.DifferLemmas.{value_cmp-pieces}
 use Rattle.unix_path.proofs.lemmas.filler.FillerLemmas.{first_piece_dot, first_piece_empty}
-use Rattle.unix_path.proofs.lemmas.filler.FillerLemmas.{inner_parts_busy, parts-busy}
+use Rattle.unix_path.proofs.lemmas.filler.FillerLemmas.{inner_parts_not_filler, parts-not_filler}
 use Rattle.unix_path.proofs.lemmas.steps.LastLemmas.{last_start, IsLastStart}
 use Rattle.unix_path.proofs.lemmas.parts.PartLemmas.{values-nil}
 use Rattle.unix_path.proofs.lemmas.parts.PieceLemmas.{first_piece, first_piece-other}
 use Rattle.unix_path.proofs.lemmas.lists.PrefixLemmas.{begins_tail}
 
--- bytes of the same rank at the first place at which strings differ are the ends of pieces
+-- if two strings have the same rank at their first difference, a piece of each ends there
 pub ranks_end : (a b : List ℕ) (n : ℕ) → n ≡ common_prefix_len eqb a b
     → piece_rank a n ≡ piece_rank b n → piece_rank a n ≡ 0
 ranks_end [] b n is same = refl
@@ -37,7 +37,8 @@ ranks_end (x ∷ a) [] n is same = same
 ranks_end (x ∷ a) (y ∷ b) zero is same = grind arith
 ranks_end (x ∷ a) (y ∷ b) (suc n) is same = grind (arith, ranks_end a b n)
 
--- paths are apart if behind the same values stand two in the order of numbers that differ
+-- paths are apart if, after the same components v, they have components s and t, in the order of
+-- two different numbers x and y
 pub apart-values : {a b : List ℕ} (v : List Value) (s t : Value) (ss ts : List Value) (x y : ℕ)
     → values a ≡ v ++ s ∷ ss → values b ≡ v ++ t ∷ ts → value_cmp s t ≡ nat_cmp x y
     → (x ≡ y → ⊥) → AreApart a b (nat_cmp x y)
@@ -50,72 +51,76 @@ apart-values v s t ss ts x y first second order differs = record {
       ∙ tied_itself value_cmp-total s));
 }
 
--- the first piece of a string goes on behind a beginning that has no slash
-pub first_piece-behind : (p x : List ℕ) → position_or_len is_slash p ≡ length p
+-- if a string starts with a prefix without a slash, its first piece is the prefix and the first
+-- piece of what follows
+pub first_piece-after : (p x : List ℕ) → position_or_len is_slash p ≡ length p
     → first_piece (p ++ x) ≡ p ++ first_piece x
-first_piece-behind [] x none = refl
-first_piece-behind (b ∷ p) x none =
-    grind (arith, first_piece-other b (p ++ x), first_piece-behind p x)
+first_piece-after [] x none = refl
+first_piece-after (b ∷ p) x none =
+    grind (arith, first_piece-other b (p ++ x), first_piece-after p x)
 
--- the values behind that of the first piece
+-- the components after the first piece
 abbrev later_values : List ℕ → List Value
 later_values s =
     let n = position_or_len is_slash s in
     map (λ (p : Part). p.value) (inner_parts (0 + n) (drop n s))
 
--- a string that begins with a piece that counts has its value first, also behind a slash
+-- a string whose first piece counts has the component of that piece first, and has the same
+-- components as after a slash
 values-first : (s p : List ℕ) → first_piece s ≡ p → (bytes_eq p [] || bytes_eq p cur_dir) ≡ false
     → (values s ≡ value_of_piece p ∷ later_values s) × (values s ≡ inner_values s)
 unfolding values
 values-first [] p is h = absurd (grind arith)
 values-first (b ∷ s) p is h =
-    let busy : is_filler (b ∷ s) 0 ≡ false =
+    let not_filler : is_filler (b ∷ s) 0 ≡ false =
     grind (arith, first_piece_empty (b ∷ s), first_piece_dot (b ∷ s)) in
-    let whole = ap (map (λ (p : Part). p.value)) (parts-busy (b ∷ s) (λ _. busy)) in (
-      whole ∙ ap (map (λ (p : Part). p.value)) (inner_parts_busy 0 (b ∷ s) (omega arith) busy)
+    let whole = ap (map (λ (p : Part). p.value)) (parts-not_filler (b ∷ s) (λ _. not_filler)) in (
+      whole ∙ ap (map (λ (p : Part). p.value))
+          (inner_parts_not_filler 0 (b ∷ s) (omega arith) not_filler)
           ∙ ap (λ p. value_of_piece p ∷ later_values (b ∷ s)) is,
       whole,
     )
 
--- it has that behind the values of what stands before the piece
+-- if the last piece of w, continued by the first piece of x, counts, then w followed by x has the
+-- components before that piece, its component, and the components after it
 values-piece : (w x : List ℕ) (k : ℕ) → IsLastStart w k → Counts (drop k w) (first_piece x)
     → values (w ++ x) ≡ values (take k w)
     ++ value_of_piece (drop k w ++ first_piece x) ∷ later_values (drop k w ++ x)
 values-piece w x zero start h =
     let first = values-first (w ++ x) (w ++ first_piece x)
-    (first_piece-behind w x start.no_slash) h.counts in
+    (first_piece-after w x start.no_slash) h.counts in
     rw values-nil first.0
 values-piece w x (suc k) start h =
     let f = take (suc k) w in
     let p = drop (suc k) w in
     let first = values-first (p ++ x) (p ++ first_piece x)
-    (first_piece-behind p x start.no_slash) h.counts in
+    (first_piece-after p x start.no_slash) h.counts in
     let ends = take-past_slash w (suc k) (omega arith) start.in_range
     (start.after_slash (omega arith)) in
-    let behind : values (f ++ (p ++ x)) ≡ values f ++ inner_values (p ++ x) =
+    let after : values (f ++ (p ++ x)) ≡ values f ++ inner_values (p ++ x) =
     rw ends (values-past_slash (take (suc k - 1) w) (p ++ x)) in
     ap values (ap (λ u. u ++ x) (sym (take-append-drop (suc k) w)) ∙ append_assoc f p x)
-    ∙ behind ∙ ap (λ v. values f ++ v) (sym first.1 ∙ first.0)
+    ∙ after ∙ ap (λ v. values f ++ v) (sym first.1 ∙ first.0)
 
--- at n stands a byte that is neither a slash nor a dot
+-- s has a byte at n, which is neither a slash nor a dot
 abbrev IsInName : List ℕ → ℕ → Type 0
 IsInName s n = (piece_rank s n ≡ 0 → ⊥) × (piece_rank s n ≡ 47 → ⊥)
 
--- the bytes at the first difference tell the order, if they are such bytes or more than a dot
--- stands before them in their pieces
-apart-behind : (a b : List ℕ) (n : ℕ) → n ≡ common_prefix_len eqb a b
+-- the bytes at the first difference decide the order, if they are neither slashes nor dots, or more
+-- than a dot comes before them in their pieces
+apart-after : (a b : List ℕ) (n : ℕ) → n ≡ common_prefix_len eqb a b
     → (piece_rank a n ≡ piece_rank b n → ⊥)
-    → ((k : ℕ) → begins_piece a k ≡ true → k ≤ n → n ≤ k + 1 → (k < n → get_or a k 0 ≡ 46)
+    → ((k : ℕ) → is_piece_start a k ≡ true → k ≤ n → n ≤ k + 1 → (k < n → get_or a k 0 ≡ 46)
     → IsInName a n × IsInName b n)
     → AreApart a b (nat_cmp (piece_rank a n) (piece_rank b n))
-apart-behind a b n is differs in_name =
+apart-after a b n is differs in_name =
     let w = take n a in
     let start = last_start w in
     let k = start.0 in
     let p = drop k w in
     let range = common_prefix_len-le eqb a b in
     let size : length w ≡ n = length-take-le n a (omega (arith, is, range)) in
-    let begins : begins_piece a k ≡ true =
+    let begins : is_piece_start a k ≡ true =
     grind (arith, start.1.after_slash, start.1.in_range, get_or-take n a (k - 1) 0) in
     let dot : k < n → get_or p 0 46 ≡ 46 → get_or a k 0 ≡ 46 =
     λ l e. grind (arith, get_or-drop k w 0 46, get_or-take n a k 46, get_or_default a k 46 0) in
@@ -135,19 +140,20 @@ apart-behind a b n is differs in_name =
     (rw (head_rank-drop a n, head_rank-drop b n) differs)))
     differs
 
--- both strings go on at n with bytes of names that differ
+-- strings are apart if both have bytes at n that differ and are neither slashes nor dots
 pub apart-here : (a b : List ℕ) (n : ℕ) → n ≡ common_prefix_len eqb a b
     → (piece_rank a n ≡ 0 → ⊥) → (piece_rank a n ≡ 47 → ⊥)
     → (piece_rank b n ≡ 0 → ⊥) → (piece_rank b n ≡ 47 → ⊥)
     → AreApart a b (nat_cmp (piece_rank a n) (piece_rank b n))
 apart-here a b n is end_a dot_a end_b dot_b =
-    apart-behind a b n is (λ e. end_a (ranks_end a b n is e))
+    apart-after a b n is (λ e. end_a (ranks_end a b n is e))
     (λ k _ _ _ _. ((end_a, dot_a), (end_b, dot_b)))
 
--- before n stand bytes of a piece that is more than a dot
+-- strings are apart if the piece at their first difference n has bytes before n that are more than
+-- one dot
 pub apart-inside : (a b : List ℕ) (n : ℕ) → n ≡ common_prefix_len eqb a b
-    → begins_piece a n ≡ false → (get_or a (n - 1) 0 ≡ 46 → begins_piece a (n - 1) ≡ false)
+    → is_piece_start a n ≡ false → (get_or a (n - 1) 0 ≡ 46 → is_piece_start a (n - 1) ≡ false)
     → (piece_rank a n ≡ piece_rank b n → ⊥)
     → AreApart a b (nat_cmp (piece_rank a n) (piece_rank b n))
 apart-inside a b n is inside no_dot differs =
-    apart-behind a b n is differs (λ k begins l near dot. absurd (grind arith))
+    apart-after a b n is differs (λ k begins l near dot. absurd (grind arith))

@@ -1,4 +1,4 @@
--- What two strings both begin with, and their values behind it.
+-- The common prefix of two strings, and the components after it.
 use Rattle.std.proofs.Common.{◌≡◌, ℕ, zero, suc, ◌+◌, ◌-◌, ◌<◌, ◌≤◌, Equal, Ordering, eqb, List, []}
 use Rattle.std.proofs.Common.{◌∷◌, ◌++◌, length, get_or, take, map, refl, sym, ap, ap₂, ◌∙◌, arith}
 use Rattle.std.proofs.Common.{append_assoc, eqb-true, length-append, take_all}
@@ -17,7 +17,7 @@ use Rattle.unix_path.proofs.lemmas.parts.PieceLemmas.{inner_parts-nil}
 use Rattle.unix_path.proofs.lemmas.parts.PlaceLemmas.{values-inner_parts}
 use Rattle.unix_path.proofs.lemmas.filler.TrimLemmas.{parts-append, parts-slash}
 
--- a string's values are those of its leading part and its inner values
+-- a string's components are its leading part and its inner components
 pub values-leading : (s : List ℕ)
     → values s ≡ map (λ (p : Part). p.value) (leading_part s) ++ inner_values s
 unfolding values parts
@@ -26,7 +26,8 @@ values-leading s = map-append (λ (p : Part). p.value) (leading_part s) (inner_p
 pub inner_values-nil : inner_values [] ≡ []
 inner_values-nil = ap (map (λ (p : Part). p.value)) (inner_parts-nil 0)
 
--- a string has the values before any slash but its first byte, and then the inner values behind it
+-- cut at a slash that is not its first byte, a string has the components before the slash, and then
+-- the inner components after it
 pub values-slash : (a b : List ℕ) → 0 < length a
     → values (a ++ slash ∷ b) ≡ values a ++ inner_values b
 unfolding values
@@ -37,7 +38,8 @@ values-slash a b l =
     ∙ map-append (λ (p : Part). p.value) (parts a) (inner_parts n b)
     ∙ ap (λ vs. map (λ (p : Part). p.value) (parts a) ++ vs) (values-inner_parts n b)
 
--- behind a string that ends in a slash the inner parts follow its parts
+-- a string that ends in a slash, followed by b, has its components and then the inner components of
+-- b, with their positions
 pub parts-past_slash : (f b : List ℕ)
     → parts ((f ++ slash ∷ []) ++ b)
     ≡ parts (f ++ slash ∷ []) ++ inner_parts (length (f ++ slash ∷ [])) b
@@ -47,7 +49,8 @@ parts-past_slash f b =
     ∙ ap (λ n. parts g ++ inner_parts n b) {x = 0 + length f + 1} {y = length g}
     (omega (arith, length-append f (slash ∷ [])))
 
--- behind a string that ends in a slash the inner values follow its values
+-- a string that ends in a slash, followed by b, has its components and then the inner components of
+-- b
 pub values-past_slash : (f b : List ℕ)
     → values ((f ++ slash ∷ []) ++ b) ≡ values (f ++ slash ∷ []) ++ inner_values b
 unfolding values
@@ -57,7 +60,7 @@ values-past_slash f b =
     ∙ map-append (λ (p : Part). p.value) (parts g) (inner_parts (length g) b)
     ∙ ap (λ vs. map (λ (p : Part). p.value) (parts g) ++ vs) (values-inner_parts (length g) b)
 
--- elements that two lists both begin with change nothing in their order
+-- a common prefix of two lists doesn't change their order
 pub slice_cmp-common : {A : Type 0} {R : A → A → Ordering} → IsTotalOrder R → (v w x : List A)
     → slice_cmp R (v ++ w) (v ++ x) ≡ slice_cmp R w x
 slice_cmp-common order [] w x = refl
@@ -65,22 +68,23 @@ slice_cmp-common {R = R} order (y ∷ v) w x =
     ap (λ o. ordering_then o (slice_cmp R (v ++ w) (v ++ x))) (tied_itself order y)
     ∙ slice_cmp-common order v w x
 
--- nor do such values
+-- a common prefix of two lists of components doesn't change their order
 pub values_cmp-common : (v w x : List Value) → values_cmp (v ++ w) (v ++ x) ≡ values_cmp w x
 values_cmp-common = slice_cmp-common value_cmp-total
 
--- two strings with the same bytes up to a slash are in the order of the inner values behind it
+-- two strings with the same bytes up to a slash are in the order of the inner components after it
 pub values_cmp-slash : (f a b : List ℕ)
     → values_cmp (values (f ++ slash ∷ a)) (values (f ++ slash ∷ b))
     ≡ values_cmp (inner_values a) (inner_values b)
 values_cmp-slash f a b =
     let g = f ++ slash ∷ [] in
-    let behind : (t : List ℕ) → values (f ++ slash ∷ t) ≡ values g ++ inner_values t =
+    let after : (t : List ℕ) → values (f ++ slash ∷ t) ≡ values g ++ inner_values t =
     λ t. ap values (sym (append_assoc f (slash ∷ []) t)) ∙ values-past_slash f t in
-    ap₂ values_cmp (behind a) (behind b)
+    ap₂ values_cmp (after a) (after b)
     ∙ values_cmp-common (values g) (inner_values a) (inner_values b)
 
--- the first n bytes of a string, of which the last is a slash, are the n - 1 before it, and it
+-- if the last of the first n bytes of a string is a slash, these bytes are the first n - 1 bytes
+-- and the slash
 pub take-past_slash : (s : List ℕ) (n : ℕ) → 0 < n → n ≤ length s → get_or s (n - 1) 0 ≡ slash
     → take n s ≡ take (n - 1) s ++ slash ∷ []
 take-past_slash s n some l is =
@@ -88,13 +92,13 @@ take-past_slash s n some l is =
     ap (λ k. take k s) {x = n} {y = i + 1} (omega arith) ∙ take_more s i 0 (omega arith)
     ∙ ap (λ b. take i s ++ b ∷ []) is
 
--- equal strings tie
+-- equal strings are equal in the order
 pub values_cmp-equal_strings : (a b : List ℕ) → a ≡ b → Equal ≡ values_cmp (values a) (values b)
 values_cmp-equal_strings a b e =
     sym (ap (λ t. values_cmp (values a) (values t)) (sym e)
     ∙ tied_itself values_cmp-total (values a))
 
--- two strings have the same first bytes as far as their common prefix goes
+-- two strings have the same bytes within their common prefix
 pub take-common : (a b : List ℕ) (n : ℕ) → n ≤ common_prefix_len eqb a b → take n a ≡ take n b
 take-common [] [] n l = refl
 take-common [] (y ∷ b) zero l = refl

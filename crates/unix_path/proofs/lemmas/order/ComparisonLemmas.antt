@@ -1,4 +1,4 @@
--- Strings of which one is empty, in their order.
+-- The order of two strings of which at least one is empty.
 use Rattle.std.proofs.Common.{◌≡◌, ℕ, ◌<◌, List, [], ◌∷◌, length, map, sym, ap, ap₂, ◌∙◌, arith}
 use Rattle.std.proofs.Common.{Less, Greater}
 use Rattle.std.proofs.lemmas.List.{nil_from_length}
@@ -9,13 +9,13 @@ use Rattle.unix_path.proofs.lemmas.rests.SplitLemmas.{splits_first}
 use Rattle.unix_path.specs.Order.{values_cmp}
 use Rattle.unix_path.specs.Parts.{Value, values}
 
--- the values of s are `first` and `others`
+-- the components of s are `first` and `others`
 pub record SomeValue (s : List ℕ) : Type 0 where
   pub first : Value
   pub others : List Value
   pub is : values s ≡ first ∷ others
 
--- a string that is not empty has a value
+-- a string that is not empty has a component
 pub some_value : (s : List ℕ) → 0 < length s → SomeValue s
 unfolding values
 some_value s l =
@@ -26,7 +26,7 @@ some_value s l =
       is = ap (map (λ p. p.value)) h.is;
     }
 
--- two strings of which one is empty are in the order of their lengths
+-- two strings of which at least one is empty are in the order of their lengths
 pub values_cmp-end : (s t : List ℕ) → (0 < length s → length t ≡ 0)
     → nat_cmp (length s) (length t) ≡ values_cmp (values s) (values t)
 values_cmp-end [] [] h = sym (ap₂ values_cmp values-nil values-nil)

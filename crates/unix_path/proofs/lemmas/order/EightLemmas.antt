@@ -1,4 +1,5 @@
--- The writes of eight bytes that a part feeds a hasher: its bytes first, and the mark in the last.
+-- The writes of eight bytes that a component feeds to a hasher: its bytes first, and the terminator
+-- in the last write.
 use Rattle.std.proofs.Common.{◌≡◌, ℕ, suc, ◌/◌, ◌<◌, ◌≤◌, List, [], ◌∷◌, ◌++◌}
 use Rattle.std.proofs.Common.{length, get_or, take, drop, map, refl, sym, ap, ap₂, ◌∙◌, arith}
 use Rattle.std.proofs.Common.{length-append, length-drop, zero, rules, Fits, w8, w64}
@@ -9,35 +10,36 @@ use Rattle.std.specs.Simd.{first_chunks}
 use Rattle.std.proofs.lemmas.List.{take-append-le, drop-append-le, length-take-le}
 use Rattle.std.proofs.lemmas.List.FromFn.{fill_by_all}
 use Rattle.std.proofs.lemmas.Nat.{le_bytes_8}
-use Rattle.unix_path.specs.Hashed.{end_mark, in_eights}
+use Rattle.unix_path.specs.Hashed.{terminator, in_eights}
 
--- of eight bytes or more the first eight are fed, and then the others
+-- of at least eight bytes, the first eight are fed, and then the rest
 pub in_eights-more : (s : List ℕ) → 8 ≤ length s
-    → in_eights (s ++ end_mark) ≡ take 8 s ∷ in_eights (drop 8 s ++ end_mark)
+    → in_eights (s ++ terminator) ≡ take 8 s ∷ in_eights (drop 8 s ++ terminator)
 unfolding in_eights
 in_eights-more s h =
-    let t = s ++ end_mark in
-    let rest = drop 8 s ++ end_mark in
+    let t = s ++ terminator in
+    let rest = drop 8 s ++ terminator in
     let count : length t / 8 ≡ suc (length rest / 8) =
-    omega (arith, length-append s end_mark, length-append (drop 8 s) end_mark, length-drop 8 s) in
+    omega (arith, length-append s terminator, length-append (drop 8 s) terminator, length-drop 8 s)
+    in
     ap (λ n. first_chunks 8 n t) count
-    ∙ ap₂ (λ p r. p ∷ first_chunks 8 (length rest / 8) r) (take-append-le 8 s end_mark h)
-    (drop-append-le 8 s end_mark h)
+    ∙ ap₂ (λ p r. p ∷ first_chunks 8 (length rest / 8) r) (take-append-le 8 s terminator h)
+    (drop-append-le 8 s terminator h)
 
--- fewer than eight bytes are fed with the mark, in one write
+-- fewer than eight bytes are fed with the terminator, in one write
 pub in_eights-last : (s : List ℕ) → length s < 8
-    → in_eights (s ++ end_mark) ≡ take 8 (s ++ end_mark) ∷ []
+    → in_eights (s ++ terminator) ≡ take 8 (s ++ terminator) ∷ []
 unfolding in_eights
 in_eights-last s h =
-    let t = s ++ end_mark in
-    let count : length t / 8 ≡ 1 = omega (arith, length-append s end_mark) in
+    let t = s ++ terminator in
+    let count : length t / 8 ≡ 1 = omega (arith, length-append s terminator) in
     ap (λ n. first_chunks 8 n t) count
 
 -- each number of s is a byte
 abbrev pub AreBytes : List ℕ → Type 0
 AreBytes s = (i : ℕ) → Fits w8 (get_or s i 0)
 
--- two strings of bytes, one after the other, are a string of bytes
+-- two strings of bytes, concatenated, are a string of bytes
 AreBytes-append : (s t : List ℕ) → AreBytes s → AreBytes t → AreBytes (s ++ t)
 AreBytes-append [] t h k i = k i
 AreBytes-append (x ∷ s) t h k zero = h 0
@@ -50,17 +52,17 @@ AreBytes-take (suc n) [] h i = omega arith
 AreBytes-take (suc n) (x ∷ s) h zero = omega (arith, h 0)
 AreBytes-take (suc n) (x ∷ s) h (suc i) = AreBytes-take n s (λ i. h (suc i)) i
 
--- a number that is read from the k bytes of s and the mark has the first eight of these as its
--- bytes
+-- a number that is read from the k bytes of s and the terminator has the first eight of these bytes
+-- as its own bytes
 pub le_bytes-last : (s : List ℕ) (k n : ℕ) → length s ≡ k → AreBytes s
-    → n ≡ from_le_bytes w64 (take 8 (map (λ i. get_or s i 0) (range_with_len 0 k) ++ end_mark))
-    → le_bytes 8 n ≡ take 8 (s ++ end_mark)
+    → n ≡ from_le_bytes w64 (take 8 (map (λ i. get_or s i 0) (range_with_len 0 k) ++ terminator))
+    → le_bytes 8 n ≡ take 8 (s ++ terminator)
 unfolding le_bytes
 le_bytes-last s k n e fits d =
     let read : s ≡ map (λ i. get_or s i 0) (range_with_len 0 k) =
     fill_by_all (λ i. get_or s i 0) s k 0 e (λ i l. refl) in
-    let marked : AreBytes end_mark = search rules in
-    le_bytes_8 (take 8 (s ++ end_mark)) n
-    (length-take-le 8 (s ++ end_mark) (omega (arith, length-append s end_mark)))
-    (AreBytes-take 8 (s ++ end_mark) (AreBytes-append s end_mark fits marked))
-    (d ∙ ap (λ t. from_le_bytes w64 (take 8 (t ++ end_mark))) (sym read))
+    let marked : AreBytes terminator = search rules in
+    le_bytes_8 (take 8 (s ++ terminator)) n
+    (length-take-le 8 (s ++ terminator) (omega (arith, length-append s terminator)))
+    (AreBytes-take 8 (s ++ terminator) (AreBytes-append s terminator fits marked))
+    (d ∙ ap (λ t. from_le_bytes w64 (take 8 (t ++ terminator))) (sym read))

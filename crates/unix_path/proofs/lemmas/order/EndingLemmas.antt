@@ -1,59 +1,62 @@
--- The last bytes of two strings tell whether both end in the same part.
+-- The last bytes of two strings show whether both end in the same component.
 use Rattle.std.proofs.Common.{◌≡◌, ℕ, ◌-◌, ◌<◌, ◌≤◌, true, List, [], ◌∷◌, ◌++◌, length, get_or}
 use Rattle.std.proofs.Common.{take, drop, map, sym, ap, ◌∙◌, subst, arith, get_or-drop, length-drop}
 use Rattle.std.specs.List.{position_or_len}
 use Rattle.std.proofs.lemmas.List.{map-append}
 use Rattle.std.proofs.lemmas.List.Sums.{fails_before_first}
 use Rattle.unix_path.specs.Parts.{Part, is_slash, parts, value_bytes, values}
-use Rattle.unix_path.specs.Prefixes.{Ends}
-use Rattle.unix_path.specs.Steps.{begins_piece, EndsInPiece, SameEnd, SharesEnd}
+use Rattle.unix_path.specs.Prefixes.{IsSuffixOf}
+use Rattle.unix_path.specs.Steps.{is_piece_start, EndsInPiece, HasCommonSuffix, SharesSuffix}
 use Rattle.unix_path.proofs.lemmas.steps.LastLemmas.{last_part, last_start, IsLastStart}
 use Rattle.unix_path.proofs.lemmas.lists.SuffixLemmas.{ends_last}
 use Rattle.unix_path.proofs.lemmas.parts.ValueLemmas.{first_value, value_bytes-first}
 
--- the byte before the last n is one of the last k
+-- the byte before the last n bytes is one of the last k bytes, if n is less than k
 from_end : (s : List ℕ) (n k : ℕ) → n < k → k ≤ length s
     → get_or s (length s - 1 - n) 0 ≡ get_or (drop (length s - k) s) (k - 1 - n) 0
 from_end s n k more inside = grind (arith, get_or-drop)
 
--- if two strings end in more than n bytes alike, the same byte stands before the last n of both
-pub same_end_byte : (a b : List ℕ) (n k : ℕ) → SameEnd a b k → n < k
+-- if a common suffix of two strings has more than n bytes, both have the same byte before their
+-- last n bytes
+pub same_end_byte : (a b : List ℕ) (n k : ℕ) → HasCommonSuffix a b k → n < k
     → get_or a (length a - 1 - n) 0 ≡ get_or b (length b - 1 - n) 0
 same_end_byte a b n k h more =
     from_end a n k more h.in_first ∙ ap (λ w. get_or w (k - 1 - n) 0) h.same
     ∙ sym (from_end b n k more h.in_second)
 
--- and it is no slash
-pub same_end_no_slash : (a b : List ℕ) (n k : ℕ) → SameEnd a b k → n < k
+-- if a common suffix of two strings without a slash has more than n bytes, the byte before the last
+-- n bytes is not a slash
+pub same_end_no_slash : (a b : List ℕ) (n k : ℕ) → HasCommonSuffix a b k → n < k
     → get_or a (length a - 1 - n) 0 ≡ 47 → ⊥
 same_end_no_slash a b n k h more slash =
     let is = from_end a n k more h.in_first in
     let none = fails_before_first is_slash (drop (length a - k) a) (k - 1 - n) 0 in
     grind (arith, slash, is, none, h.no_slash)
 
--- what stands before the last bytes if a longer end is the same
+-- the byte before the last n bytes, if a common suffix is longer
 pub ruleset longer_ends = (same_end_byte, same_end_no_slash)
 
--- bytes without a slash, before which a piece begins, are the last piece
+-- the last k bytes are the last piece if they contain no slash and a piece begins with them
 last_at : (s : List ℕ) (k : ℕ) → k ≤ length s
     → position_or_len is_slash (drop (length s - k) s) ≡ k
-    → begins_piece s (length s - k) ≡ true → IsLastStart s (length s - k)
+    → is_piece_start s (length s - k) ≡ true → IsLastStart s (length s - k)
 last_at s k inside none begins = record {
   in_range = omega arith;
   after_slash = λ some. grind (arith, begins, some);
   no_slash = omega (arith, none, length-drop (length s - k) s);
 }
 
--- a piece begins where the last one does
-begins_last : (s : List ℕ) (start : ℕ) → IsLastStart s start → begins_piece s start ≡ true
+-- where the last piece begins, a piece begins
+begins_last : (s : List ℕ) (start : ℕ) → IsLastStart s start → is_piece_start s start ≡ true
 begins_last s start h = grind (arith, h.after_slash)
 
--- the last piece of a string that ends in it has a byte
+-- a last piece that is the last component of its string is not empty
 starts_inside : (s : List ℕ) (start : ℕ) → IsLastStart s start → EndsInPiece s → start < length s
 starts_inside s start h ends =
     grind (arith, h.in_range, h.after_slash, ends.some, ends.no_slash)
 
--- and is the last value
+-- if the last piece of a string is its last component, the components are those before the piece,
+-- and then the component of the piece
 last_is : (s : List ℕ) (start : ℕ) → IsLastStart s start → EndsInPiece s
     → values s ≡ values (take start s) ++ first_value (drop start s) ∷ []
 unfolding values
@@ -62,10 +65,11 @@ last_is s start h ends =
     ap (map (λ (p : Part). p.value)) all
     ∙ map-append (λ (p : Part). p.value) (parts (take start s)) _
 
--- if a piece begins in both before the same end, the last parts are the same
-pub shares_last : (a b : List ℕ) (k : ℕ) → EndsInPiece a → EndsInPiece b → SameEnd a b k
-    → begins_piece a (length a - k) ≡ true → begins_piece b (length b - k) ≡ true
-    → SharesEnd (values a) (values b) (values (take (length a - k) a))
+-- if a piece begins in both strings where their common suffix begins, the last components are the
+-- same
+pub shares_last : (a b : List ℕ) (k : ℕ) → EndsInPiece a → EndsInPiece b → HasCommonSuffix a b k
+    → is_piece_start a (length a - k) ≡ true → is_piece_start b (length b - k) ≡ true
+    → SharesSuffix (values a) (values b) (values (take (length a - k) a))
     (values (take (length b - k) b))
 shares_last a b k first second h begins_a begins_b =
     let none_b = ap (position_or_len is_slash) (sym h.same) ∙ h.no_slash in
@@ -76,10 +80,11 @@ shares_last a b k first second h begins_a begins_b =
           ∙ ap (λ p. values (take (length b - k) b) ++ first_value p ∷ []) (sym h.same);
     }
 
--- if the last parts are the same, a piece begins in both before the longest common end
-pub ends_longest : (a b : List ℕ) (k : ℕ) → EndsInPiece a → EndsInPiece b → SameEnd a b k
-    → ((n : ℕ) → SameEnd a b n → n ≤ k) → Ends (values b) (values a)
-    → (begins_piece a (length a - k) ≡ true) × (begins_piece b (length b - k) ≡ true)
+-- if the components of a end with the components of b, a piece begins in both strings where their
+-- longest common suffix begins
+pub ends_longest : (a b : List ℕ) (k : ℕ) → EndsInPiece a → EndsInPiece b → HasCommonSuffix a b k
+    → ((n : ℕ) → HasCommonSuffix a b n → n ≤ k) → IsSuffixOf (values b) (values a)
+    → (is_piece_start a (length a - k) ≡ true) × (is_piece_start b (length b - k) ≡ true)
 ends_longest a b k first second h longest ends =
     let d = (last_start a).0 in
     let e = (last_start b).0 in
@@ -92,7 +97,7 @@ ends_longest a b k first second h longest ends =
     let n = length a - d in
     let size : n ≡ length b - e =
     omega (arith, ap length pieces, length-drop d a, length-drop e b) in
-    let same : SameEnd a b n = record {
+    let same : HasCommonSuffix a b n = record {
       in_first = omega arith;
       in_second = omega (arith, size);
       same = grind (arith, pieces, size, at_a.in_range, at_b.in_range);
@@ -103,9 +108,9 @@ ends_longest a b k first second h longest ends =
     let is : n ≡ k = omega (arith, longest n same, none) in
     let start_a : d ≡ length a - k = omega (arith, is, at_a.in_range) in
     let start_b : e ≡ length b - k = omega (arith, is, size, at_b.in_range) in (
-      subst (λ i. begins_piece a i ≡ true) start_a (begins_last a d at_a),
-      subst (λ i. begins_piece b i ≡ true) start_b (begins_last b e at_b),
+      subst (λ i. is_piece_start a i ≡ true) start_a (begins_last a d at_a),
+      subst (λ i. is_piece_start b i ≡ true) start_b (begins_last b e at_b),
     )
 
--- so what stands before the longest common end tells whether the last parts are the same
+-- the byte before the longest common suffix shows whether the last components are the same
 pub ruleset last_parts = (shares_last, ends_longest)

@@ -1,4 +1,4 @@
--- Equal values, and equal lists of values, tie in the order.
+-- Equal components, and equal lists of components, are equal in the order.
 use Rattle.std.proofs.Common.{◌≡◌, true, List, Decides, sym, ap, ◌∙◌}
 use Rattle.std.specs.Cmp.{Equal-is}
 use Rattle.std.specs.Ordering.{is_eq}
@@ -11,7 +11,7 @@ pub values_cmp-same : (v w : List Value) → v ≡ w → is_eq (values_cmp v w) 
 values_cmp-same v w e =
     ap is_eq (ap (values_cmp v) (sym e) ∙ tied_itself values_cmp-total v)
 
--- the test of two values says whether they are equal
+-- `same_value` of two components is true if and only if they are equal
 pub same_value-Decides : (v w : Value) → Decides (same_value v w) (v ≡ w)
 same_value-Decides v w = (
   λ e. value_cmp-equal v w ((Equal-is (value_cmp v w)).0 e),

@@ -1,4 +1,4 @@
--- The order of two strings by the kinds of their first parts.
+-- The order of two strings by the kinds of their first components.
 use Rattle.std.proofs.Common.{◌≡◌, ℕ, zero, suc, ◌+◌, ◌<◌, ◌≤◌, true, false, eqb, List, [], ◌∷◌}
 use Rattle.std.proofs.Common.{cond, length, get_or, map, refl, sym, ap, ap₂, ◌∙◌, arith}
 use Rattle.std.specs.Cmp.Lexicographic.{slice_cmp}
@@ -9,8 +9,8 @@ use Rattle.std.proofs.lemmas.Cmp.{tied_itself, nat_cmp_total}
 use Rattle.unix_path.specs.Order.{rank, value_cmp, values_cmp}
 use Rattle.unix_path.specs.Pairs.{first_rank}
 use Rattle.unix_path.specs.Parts.{Part, Value, value_bytes, values}
-use Rattle.unix_path.specs.Prefixes.{Begins}
-use Rattle.unix_path.specs.Scan.{begins_with_parent, is_filler}
+use Rattle.unix_path.specs.Prefixes.{IsPrefixOf}
+use Rattle.unix_path.specs.Scan.{starts_with_parent_dir, is_filler}
 use Rattle.unix_path.specs.Steps.{piece_rank, AreApart, DiffersAtStart}
 use Rattle.unix_path.proofs.lemmas.order.ApartLemmas.{apart-values, ranks_end}
 use Rattle.unix_path.proofs.lemmas.order.DifferLemmas.{head_rank-drop, slice_cmp-heads}
@@ -21,9 +21,9 @@ use Rattle.unix_path.proofs.lemmas.parts.PieceLemmas.{first_piece, first_piece-o
 use Rattle.unix_path.proofs.lemmas.lists.PrefixLemmas.{begins_tail}
 use Rattle.unix_path.proofs.lemmas.parts.ValueLemmas.{first_value, value_bytes-first}
 
--- the kind of the first value, told by three bytes
+-- the kind of the first component, determined by three bytes
 pub first_rank_of : (s : List ℕ) → first_rank (values s) ≡ cond (eqb (length s) 0) 0
-    (cond (eqb (get_or s 0 0) 47) 1 (cond (is_filler s 0) 2 (cond (begins_with_parent s) 3 4)))
+    (cond (eqb (get_or s 0 0) 47) 1 (cond (is_filler s 0) 2 (cond (starts_with_parent_dir s) 3 4)))
 unfolding values
 first_rank_of [] = ap first_rank values-nil
 first_rank_of (b ∷ s) =
@@ -36,7 +36,7 @@ first_rank_of (b ∷ s) =
       first_value-name (b ∷ s),
     )
 
--- paths whose first values are of different kinds are in the order of these
+-- paths whose first components are of different kinds are in the order of these kinds
 pub values_cmp-ranks : (v w : List Value) → is_ne (nat_cmp (first_rank v) (first_rank w)) ≡ true
     → nat_cmp (first_rank v) (first_rank w) ≡ values_cmp v w
 values_cmp-ranks [] [] differs = absurd (false≢true differs)
@@ -44,18 +44,19 @@ values_cmp-ranks [] (w ∷ ws) differs = grind arith
 values_cmp-ranks (v ∷ vs) [] differs = grind arith
 values_cmp-ranks (v ∷ vs) (w ∷ ws) differs = grind arith
 
--- values of one kind are in the order of their bytes
+-- components of the same kind are in the order of their bytes
 same_kind : (v w : Value) → rank v ≡ rank w
     → value_cmp v w ≡ slice_cmp nat_cmp (value_bytes v) (value_bytes w)
 same_kind v w same = rw (same, tied_itself nat_cmp_total (rank w)) refl
 
--- a string that begins with no slash has the value of its first piece first
+-- the first component of a string that begins with a byte other than a slash is the component of
+-- its first piece
 values-name : (s : List ℕ) → 0 < length s → eqb (get_or s 0 0) 47 ≡ false
     → (others : List Value) × (values s ≡ first_value (first_piece s) ∷ others)
 unfolding values
 values-name s some other = (_, ap (map (λ (p : Part). p.value)) (parts-name s some other))
 
--- the first pieces are in the order of the bytes at n, which stand first or behind one byte
+-- the first pieces of two strings are in the order of the bytes at n, which is 0 or 1
 first_piece-cmp : (x y : ℕ) (a b : List ℕ) (n : ℕ) → n ≤ 1 → (0 < n → x ≡ y)
     → eqb x 47 ≡ false → eqb y 47 ≡ false
     → (piece_rank (x ∷ a) n ≡ piece_rank (y ∷ b) n → ⊥)
@@ -82,7 +83,7 @@ no_root x y a b n is dot same =
     let first : eqb x 47 ≡ false = grind (arith, first_rank_of (x ∷ a), first_rank_of (y ∷ b)) in
     (first, grind (arith, first_rank_of (x ∷ a), first_rank_of (y ∷ b)))
 
--- first parts of the same kind are in the order of the bytes at the first difference
+-- first components of the same kind are in the order of the bytes at the first difference
 first_parts-same : (a b : List ℕ) (n : ℕ) → n ≡ common_prefix_len eqb a b → DiffersAtStart a b n
     → first_rank (values a) ≡ first_rank (values b) → 0 < length b
     → AreApart a b (nat_cmp (piece_rank a n) (piece_rank b n))
@@ -104,7 +105,8 @@ first_parts-same (x ∷ a) (y ∷ b) n is start same some =
     ∙ ap₂ (slice_cmp nat_cmp) (value_bytes-first p) (value_bytes-first q)
     ∙ first_piece-cmp x y a b n start.near equal other.0 other.1 differs) differs
 
--- so two paths are in that order, also if both are empty
+-- two paths that differ at their start, with first components of the same kind, are in the order of
+-- the bytes at the first difference, even if both are empty
 pub first_parts-cmp : (a b : List ℕ) (n : ℕ) → n ≡ common_prefix_len eqb a b → DiffersAtStart a b n
     → is_ne (nat_cmp (first_rank (values a)) (first_rank (values b))) ≡ false
     → nat_cmp (piece_rank a n) (piece_rank b n) ≡ values_cmp (values a) (values b)
@@ -114,15 +116,16 @@ first_parts-cmp (x ∷ a) [] n is start same =
 first_parts-cmp a (y ∷ b) n is start same =
     (first_parts-same a (y ∷ b) n is start (grind arith) (omega arith)).order_is
 
--- the second path doesn't begin the first, if it isn't empty
+-- if two paths differ at their start, and the second isn't empty, the first doesn't start with the
+-- second
 pub first_parts-apart : (a b : List ℕ) (n : ℕ) → n ≡ common_prefix_len eqb a b
-    → DiffersAtStart a b n → 0 < length b → Begins (values b) (values a) → ⊥
+    → DiffersAtStart a b n → 0 < length b → IsPrefixOf (values b) (values a) → ⊥
 first_parts-apart a b n is start some begins =
     let same = same_first (values b) (values a) (λ e. grind (arith, first_rank_of b)) begins in
     let apart = first_parts-same a b n is start same some in
     apart.no_prefix begins
   where
-    same_first : (v w : List Value) → (first_rank v ≡ 0 → ⊥) → Begins v w
+    same_first : (v w : List Value) → (first_rank v ≡ 0 → ⊥) → IsPrefixOf v w
         → first_rank w ≡ first_rank v
     same_first [] w some h = absurd (some refl)
     same_first (x ∷ v) [] some h = let e = h.1 in cc

@@ -1,4 +1,4 @@
--- Where two paths can be cut, and what that tells of them.
+-- Where two paths can be cut, and what that shows about them.
 use Rattle.std.proofs.Common.{◌≡◌, ℕ, suc, ◌+◌, ◌-◌, ◌≤◌, ◌<◌, ◌⊎◌, true, false, eqb, ltb, List, []}
 use Rattle.std.proofs.Common.{◌∷◌, ◌++◌, length, get_or, take, drop, map, refl, sym, ap, ap₂, arith}
 use Rattle.std.proofs.Common.{◌∙◌, subst, ⊎_elim, append-nil, eqb-true, length-take-le, ltb-false}
@@ -10,7 +10,7 @@ use Rattle.std.proofs.lemmas.List.{drop_all, get_or_past, map-append}
 use Rattle.std.proofs.lemmas.List.Sums.{common_prefix_len-le}
 use Rattle.unix_bytes.proofs.lemmas.vectors.CommonLemmas.{common_prefix_len-same}
 use Rattle.unix_path.proofs.lemmas.order.ApartLemmas.{ranks_end}
-use Rattle.unix_path.proofs.lemmas.order.BehindLemmas.{more-apart}
+use Rattle.unix_path.proofs.lemmas.order.AfterCutLemmas.{more-apart}
 use Rattle.unix_bytes.proofs.lemmas.lists.ListLemmas.{by_test}
 use Rattle.unix_path.proofs.lemmas.order.CommonPrefixLemmas.{parts-past_slash, take-common}
 use Rattle.unix_path.proofs.lemmas.order.CommonPrefixLemmas.{take-past_slash}
@@ -19,31 +19,32 @@ use Rattle.unix_path.proofs.lemmas.order.KindLemmas.{first_parts-apart}
 use Rattle.unix_path.proofs.lemmas.parts.PieceLemmas.{inner_parts-nil, inner_parts-slash}
 use Rattle.unix_path.proofs.lemmas.parts.PlaceLemmas.{values-inner_parts}
 use Rattle.unix_path.proofs.lemmas.filler.TrimLemmas.{parts-append, parts-slash}
-use Rattle.unix_path.specs.Pairs.{Compared, Tells, kind_rank}
+use Rattle.unix_path.specs.Pairs.{Compared, DifferenceShows, kind_rank}
 use Rattle.unix_path.specs.Parts.{Part, inner_parts, parts, slash, values}
-use Rattle.unix_path.specs.Prefixes.{Begins}
-use Rattle.unix_path.specs.Steps.{begins_piece, piece_rank, IsAlike, SharesFirst}
+use Rattle.unix_path.specs.Prefixes.{IsPrefixOf}
+use Rattle.unix_path.specs.Steps.{is_piece_start, piece_rank, IsCommonPrefixLen, SharesPrefix}
 use Rattle.unix_path.specs.contracts.pair.KindOrd.TheImpl as the_order
 use Rattle.unix_path.specs.declared.pair.Comparison.{Comparison}
-use Rattle.unix_path.specs.declared.pair.Comparison.TheVariants.{Differ, StartsWith, IsPrefix}
+use Rattle.unix_path.specs.declared.pair.Comparison.TheVariants.{Differs, StartsWith, IsPrefix}
 use Rattle.unix_path.specs.declared.pair.Difference.{Difference}
-use Rattle.unix_path.specs.declared.pair.Difference.TheVariants.{InParts, InFirstParts, Behind}
+use Rattle.unix_path.specs.declared.pair.Difference.TheVariants.{Decided, FirstComponents}
+use Rattle.unix_path.specs.declared.pair.Difference.TheVariants.{CutBefore}
 use Rattle.unix_path.specs.declared.pair.Kind.{Kind}
 use Rattle.unix_path.specs.declared.pair.Kind.TheVariants.{Nothing, RootDir, CurDir, ParentDir}
 use Rattle.unix_path.specs.declared.pair.Kind.TheVariants.{Name}
 
--- no slash stands before a place at which no piece begins, and that isn't 0
-pub inside_piece : (s : List ℕ) (i : ℕ) → begins_piece s i ≡ false → 0 < i
+-- an index at which no piece begins is not 0
+pub inside_piece : (s : List ℕ) (i : ℕ) → is_piece_start s i ≡ false → 0 < i
 inside_piece s i e = omega (arith, eqb-false i 0 (or_parts (eqb i 0) _ e).0)
 
--- a piece of s begins or ends at n, where s can be cut
+-- s can be cut at n: a piece begins or ends there
 abbrev pub CanCut : List ℕ → ℕ → Type 0
-CanCut s n = (begins_piece s n ≡ true) ⊎ (piece_rank s n ≡ 0)
+CanCut s n = (is_piece_start s n ≡ true) ⊎ (piece_rank s n ≡ 0)
 
--- the parts of a string cut just after one of its slashes are those of both sides
-parts-behind : (s : List ℕ) (n : ℕ) → 0 < n → n ≤ length s → get_or s (n - 1) 0 ≡ slash
+-- a string cut just after one of its slashes has the components of both sides
+parts-after : (s : List ℕ) (n : ℕ) → 0 < n → n ≤ length s → get_or s (n - 1) 0 ≡ slash
     → parts s ≡ parts (take n s) ++ inner_parts n (drop n s)
-parts-behind s n some l is =
+parts-after s n some l is =
     let f = take (n - 1) s in
     let common = take-past_slash s n some l is in
     ap parts (sym (take-append-drop n s) ∙ ap (λ t. t ++ drop n s) common)
@@ -51,28 +52,28 @@ parts-behind s n some l is =
     ∙ ap (λ t. parts t ++ inner_parts (length t) (drop n s)) (sym common)
     ∙ ap (λ k. parts (take n s) ++ inner_parts k (drop n s)) (length-take-le n s l)
 
--- so are those of a string cut at a slash
+-- a string cut at a slash has the components of both sides
 parts-before : (s : List ℕ) (n : ℕ) → 0 < n → n < length s → get_or s n slash ≡ slash
     → parts s ≡ parts (take n s) ++ inner_parts n (drop n s)
 parts-before s n some l is =
     let f = take n s in
     let t = drop (suc n) s in
     let size = length-take-le n s (omega arith) in
-    let behind : drop n s ≡ slash ∷ t = drop-cons s n slash l ∙ ap (λ b. b ∷ t) is in
-    ap parts (sym (ap (λ u. f ++ u) (sym behind) ∙ take-append-drop n s))
+    let after : drop n s ≡ slash ∷ t = drop-cons s n slash l ∙ ap (λ b. b ∷ t) is in
+    ap parts (sym (ap (λ u. f ++ u) (sym after) ∙ take-append-drop n s))
     ∙ parts-append f t
     ∙ ap (λ ps. ps ++ inner_parts (0 + length f + 1) t) (parts-slash f (omega (arith, size)))
     ∙ ap (λ k. parts f ++ inner_parts k t) {x = 0 + length f + 1} {y = n + 1}
     (omega (arith, size))
-    ∙ ap (λ ps. parts f ++ ps) (sym (ap (inner_parts n) behind ∙ inner_parts-slash n t))
+    ∙ ap (λ ps. parts f ++ ps) (sym (ap (inner_parts n) after ∙ inner_parts-slash n t))
 
--- where a string can be cut, its parts are those of both sides
+-- a string cut where it can be cut has the components of both sides
 parts-cut : (s : List ℕ) (n : ℕ) → 0 < n → n ≤ length s → CanCut s n
     → parts s ≡ parts (take n s) ++ inner_parts n (drop n s)
 parts-cut s n some inside = ⊎_elim
     (λ begins.
     let no : eqb n 0 ≡ false = ne_eqb n 0 (λ e. omega (arith, some, e)) in
-    parts-behind s n some inside (eqb-true (get_or s (n - 1) 0) 47 (rw no at begins)))
+    parts-after s n some inside (eqb-true (get_or s (n - 1) 0) 47 (rw no at begins)))
     (λ ends. by_test (ltb n (length s))
     (λ e. parts-before s n some (ltb-true n (length s) e) (rank_end s n ends))
     (λ e.
@@ -80,14 +81,15 @@ parts-cut s n some inside = ⊎_elim
     sym (ap₂ (λ t u. parts t ++ inner_parts n u) (take_all n s end) (drop_all n s end)
     ∙ ap (λ ps. parts s ++ ps) (inner_parts-nil n) ∙ append-nil (parts s))))
 
--- both strings have k bytes, behind which they have what follows the same values
+-- both strings have at least k bytes, and if k is not 0, their rests after the first k bytes come
+-- after the same components
 pub record CutsAt (a b : List ℕ) (k : ℕ) : Type 0 where
   pub in_first : k ≤ length a
   pub in_second : k ≤ length b
-  pub shares : 0 < k → SharesFirst a b (drop k a) (drop k b)
+  pub shares : 0 < k → SharesPrefix a b (drop k a) (drop k b)
 
--- so it is if both can be cut there, and are alike before it
-pub cuts : (a b : List ℕ) (n k : ℕ) → IsAlike a b n → k ≤ n → CanCut a k → CanCut b k
+-- `CutsAt` holds at an index of the common prefix where both strings can be cut
+pub cuts : (a b : List ℕ) (n k : ℕ) → IsCommonPrefixLen a b n → k ≤ n → CanCut a k → CanCut b k
     → CutsAt a b k
 unfolding values
 cuts a b n k alike l first second =
@@ -110,15 +112,17 @@ cuts a b n k alike l first second =
       };
     }
 
--- at the first difference, if a piece ends in both there
-pub cuts-ends : (a b : List ℕ) (n : ℕ) → IsAlike a b n → piece_rank a n ≡ piece_rank b n
+-- `CutsAt` holds at the first difference, if a piece of both strings ends there
+pub cuts-ends : (a b : List ℕ) (n : ℕ) → IsCommonPrefixLen a b n → piece_rank a n ≡ piece_rank b n
     → CutsAt a b n
 cuts-ends a b n alike same =
     let end = ranks_end a b n alike same in
     cuts a b n n alike (omega arith) (inr end) (inr (sym same ∙ end))
 
--- or where a piece begins in one of them, and so in both
-pub cuts-begins : (a b : List ℕ) (n k : ℕ) → IsAlike a b n → k ≤ n → begins_piece a k ≡ true
+-- `CutsAt` holds at an index of the common prefix where a piece begins in the first string, and so
+-- in both strings
+pub cuts-begins : (a b : List ℕ) (n k : ℕ) → IsCommonPrefixLen a b n → k ≤ n → is_piece_start a k
+    ≡ true
     → CutsAt a b k
 cuts-begins a b n k alike l begins = cuts a b n k alike l (inl begins) (inl (by_test (eqb k 0)
     (λ e. rw e refl)
@@ -128,33 +132,36 @@ cuts-begins a b n k alike l begins = cuts a b n k alike l (inl begins) (inl (by_
     let same = common_prefix_len-same a b (k - 1) (omega (arith, alike, l, some)) in
     rw e (ap (λ b. eqb b 47) (sym same) ∙ here))))
 
--- if all bytes of b begin a, which can be cut there, what follows them is left of it
-pub shares-written : (a b : List ℕ) (n : ℕ) → IsAlike a b n → 0 < length b → length b ≤ n
-    → CanCut a (length b) → SharesFirst a b (drop (length b) a) []
+-- if a starts with the bytes of b, and can be cut after them, the bytes after them are the rest of
+-- a after b
+pub shares-written : (a b : List ℕ) (n : ℕ) → IsCommonPrefixLen a b n → 0 < length b → length b ≤ n
+    → CanCut a (length b) → SharesPrefix a b (drop (length b) a) []
 shares-written a b n alike some all first =
     let ends : CanCut b (length b) = inr (rw (get_or_past b (length b) 47 (omega arith)) refl) in
-    subst (SharesFirst a b (drop (length b) a)) (drop-length b)
+    subst (SharesPrefix a b (drop (length b) a)) (drop-length b)
     ((cuts a b n (length b) alike all first ends).shares some)
 
--- where the first difference gives no cut, the second doesn't begin the first
-pub apart-unless : (a : Bor (List ℕ)) (b : List ℕ) (n : ℕ) (said : Difference) → IsAlike a.now b n
-    → Tells a b n said → ((x y : Bor (List ℕ)) → said ≡ Behind x y → ⊥) → 0 < length b
-    → Begins (values b) (values a.now) → ⊥
-apart-unless a b n (InParts order) alike h other some = h.no_prefix
-apart-unless a b n InFirstParts alike h other some =
+-- unless the paths can be cut before their first difference, the first doesn't start with the
+-- second, if that isn't empty
+pub apart-unless : (a : Bor (List ℕ)) (b : List ℕ) (n : ℕ) (said : Difference)
+    → IsCommonPrefixLen a.now b n
+    → DifferenceShows a b n said → ((x y : Bor (List ℕ)) → said ≡ CutBefore x y → ⊥) → 0 < length b
+    → IsPrefixOf (values b) (values a.now) → ⊥
+apart-unless a b n (Decided order) alike h other some = h.no_prefix
+apart-unless a b n FirstComponents alike h other some =
     first_parts-apart a.now b n alike h some
-apart-unless a b n (Behind x y) alike h other some = absurd (other x y refl)
+apart-unless a b n (CutBefore x y) alike h other some = absurd (other x y refl)
 
--- a comparison tells whether the second begins the first
+-- unless a comparison is `StartsWith`, the first path doesn't start with the second
 pub no_prefix-unless : (s t : List ℕ) (a : Bor (List ℕ)) (b : List ℕ) (said : Comparison)
-    → Compared a b said → SharesFirst s t a.now b
-    → ((left : Bor (List ℕ)) → said ≡ StartsWith left → ⊥)
-    → Begins (values t) (values s) → ⊥
-no_prefix-unless s t a b (Differ order) h cut other = (h s t cut).no_prefix
-no_prefix-unless s t a b (StartsWith left) h cut other = absurd (other left refl)
+    → Compared a b said → SharesPrefix s t a.now b
+    → ((rest_bytes : Bor (List ℕ)) → said ≡ StartsWith rest_bytes → ⊥)
+    → IsPrefixOf (values t) (values s) → ⊥
+no_prefix-unless s t a b (Differs order) h cut other = (h s t cut).no_prefix
+no_prefix-unless s t a b (StartsWith rest_bytes) h cut other = absurd (other rest_bytes refl)
 no_prefix-unless s t a b IsPrefix h cut other = (more-apart (h s t cut)).no_prefix
 
--- kinds are in the order of their places
+-- kinds are in the order of their ranks
 pub kinds-cmp : (x y : Kind)
     → the_order.ghosts.cmp x y ≡ nat_cmp (kind_rank x) (kind_rank y)
 kinds-cmp Nothing Nothing = refl

@@ -1,69 +1,70 @@
--- What a path has left behind another one, without the filler behind its last part.
+-- The rest of a path after another, without trailing filler.
 use Rattle.std.proofs.Common.{◌≡◌, ℕ, ◌+◌, ◌-◌, ◌≤◌, ◌<◌, false, List, [], ◌++◌, length, take, map}
 use Rattle.std.proofs.Common.{sym, ap, subst, ◌∙◌, arith, take_all}
 use Rattle.std.specs.Borrow.{Bor}
 use Rattle.std.proofs.lemmas.List.{nil_from_length}
 use Rattle.unix_path.specs.Parts.{Part, parts, values}
-use Rattle.unix_path.specs.Places.{EndsAt, IsTail}
-use Rattle.unix_path.specs.Prefixes.{Begins, stripped_of}
+use Rattle.unix_path.specs.Slices.{EndsAt, IsTail}
+use Rattle.unix_path.specs.Prefixes.{IsPrefixOf, stripped_of}
 use Rattle.unix_path.specs.Rest.{rest}
 use Rattle.unix_path.specs.Scan.{is_filler, is_trailing, EndsInPart}
-use Rattle.unix_path.specs.Steps.{SharesFirst}
-use Rattle.unix_path.proofs.lemmas.order.BehindLemmas.{rest-left}
+use Rattle.unix_path.specs.Steps.{SharesPrefix}
+use Rattle.unix_path.proofs.lemmas.order.AfterCutLemmas.{rest-rest_bytes}
 use Rattle.unix_path.proofs.lemmas.parts.PartLemmas.{values-nil}
 use Rattle.unix_path.proofs.lemmas.rests.RestLemmas.{rest-rest}
 use Rattle.unix_path.proofs.lemmas.steps.SpanLemmas.{rest-trimmed}
 use Rattle.unix_path.proofs.lemmas.filler.TrimLemmas.{EndsInPart-drop, EndsInPart-take}
 
--- the first n bytes of s have all its parts, and end in one
+-- the first n bytes of s have all its components, and end in a component
 pub record Trims (s : List ℕ) (n : ℕ) : Type 0 where
   pub in_range : n ≤ length s
   pub same : parts (take n s) ≡ parts (take (length s) s)
   pub ends : 0 < n → is_trailing s (n - 1) ≡ false
 
--- so they are what is left of it
+-- if the first n bytes have all components of s and end in a component, they are the rest of s if
+-- no component is removed
 pub rest-trims : (s : List ℕ) (n : ℕ) → Trims s n → (rest s 0 0 ≡ take n s) × EndsInPart (take n s)
 rest-trims s n h =
     let ends = EndsInPart-take s n h.in_range h.ends in
     let same = h.same ∙ ap parts (take_all (length s) s (omega arith)) in
     (rest-trimmed s n h.in_range same ends, ends)
 
--- and have all its values
+-- the first n bytes, as `Trims` describes them, have the values of s
 pub values-trims : (s : List ℕ) (n : ℕ) → Trims s n → values (take n s) ≡ values s
 unfolding values
 values-trims s n h = ap (map (λ (p : Part). p.value))
     (h.same ∙ ap parts (take_all (length s) s (omega arith)))
 
--- the empty path begins every path
-pub begins-empty : (s base : List ℕ) → length base ≡ 0 → Begins (values base) (values s)
+-- every path starts with the empty path
+pub begins-empty : (s base : List ℕ) → length base ≡ 0 → IsPrefixOf (values base) (values s)
 begins-empty s base none =
     let no_values = ap values (nil_from_length base none) ∙ values-nil in
     (values s, ap (λ vs. vs ++ values s) no_values)
 
--- and leaves it whole
+-- stripping the empty path from a path leaves the path without trailing filler
 pub stripped-whole : (s base : List ℕ) (n : ℕ) → Trims s n → length base ≡ 0
     → take n s ≡ stripped_of s base
 stripped-whole s base n h none =
     let no_values = ap values (nil_from_length base none) ∙ values-nil in
     sym (ap (λ vs. rest s (length vs) 0) no_values ∙ (rest-trims s n h).0)
 
--- what they have behind the values of the base is what is stripped of s
-pub stripped-is : (s base : List ℕ) (n : ℕ) (left whole : Bor (List ℕ)) → Trims s n
-    → whole.now ≡ take n s → IsTail left whole → SharesFirst whole.now base left.now []
-    → is_filler left.now 0 ≡ false → left.now ≡ stripped_of s base
-stripped-is s base n left whole h is tail shares busy =
+-- what follows the components of the base in s is the rest of s after the base
+pub stripped-is : (s base : List ℕ) (n : ℕ) (rest_bytes whole : Bor (List ℕ)) → Trims s n
+    → whole.now ≡ take n s → IsTail rest_bytes whole → SharesPrefix whole.now base rest_bytes.now []
+    → is_filler rest_bytes.now 0 ≡ false → rest_bytes.now ≡ stripped_of s base
+stripped-is s base n rest_bytes whole h is tail shares not_filler =
     let k = length (values base) in
     let trimmed = rest-trims s n h in
-    let ends : EndsInPart left.now = subst EndsInPart (sym tail.bytes)
-    (EndsInPart-drop whole.now (length whole.now - length left.now) (omega arith)
+    let ends : EndsInPart rest_bytes.now = subst EndsInPart (sym tail.bytes)
+    (EndsInPart-drop whole.now (length whole.now - length rest_bytes.now) (omega arith)
     (subst EndsInPart (sym is) trimmed.1)) in
-    sym (rest-left shares busy ends) ∙ ap (λ r. rest r k 0) (is ∙ sym trimmed.0)
+    sym (rest-rest_bytes shares not_filler ends) ∙ ap (λ r. rest r k 0) (is ∙ sym trimmed.0)
     ∙ rest-rest s 0 0 k 0
     ∙ ap (λ i. rest s i (0 + 0)) {x = 0 + k} {y = k} (omega arith)
 
--- and ends where the last part does
-pub stripped-end : (path left whole : Bor (List ℕ)) (n : ℕ) → Trims path.now n
-    → whole.now ≡ take n path.now → whole.ref_ptr.1 ≡ path.ref_ptr.1 → IsTail left whole
-    → EndsAt left path (length (rest path.now 0 0))
-stripped-end path left whole n h is begins tail =
+-- the rest of a path after a base ends where the last component of the path ends
+pub stripped-end : (path rest_bytes whole : Bor (List ℕ)) (n : ℕ) → Trims path.now n
+    → whole.now ≡ take n path.now → whole.ref_ptr.1 ≡ path.ref_ptr.1 → IsTail rest_bytes whole
+    → EndsAt rest_bytes path (length (rest path.now 0 0))
+stripped-end path rest_bytes whole n h is begins tail =
     omega (arith, tail.place, begins, ap length is, ap length (rest-trims path.now n h).0)

@@ -11,12 +11,12 @@ use Rattle.unix_path.proofs.lemmas.parts.PieceLemmas.{slice_split-first}
 use Rattle.unix_path.specs.Parts.{CurDir, RootDir, inner_parts, cur_dir, is_slash, leading_part}
 use Rattle.unix_path.specs.Parts.{parts_of_pieces}
 
--- how many bytes these pieces have, with a slash behind each
+-- how many bytes these pieces have, with a slash after each
 width : List (List ℕ) → ℕ
 width [] = 0
 width (p ∷ ps) = length p + 1 + width ps
 
--- the parts of two lists of pieces follow one another
+-- the components of two lists of pieces are those of the first list and then those of the second
 parts_of_pieces-append : (at : ℕ) (ps qs : List (List ℕ))
     → parts_of_pieces at (ps ++ qs)
     ≡ parts_of_pieces at ps ++ parts_of_pieces (at + width ps) qs
@@ -30,7 +30,7 @@ parts_of_pieces-append at (p ∷ ps) qs =
     {y = at + (length p + 1 + width ps)} (omega arith))
     ∙ sym (append_assoc (parts_of_piece at p) _ _)
 
--- a byte more in the first piece makes the pieces a byte wider
+-- one byte more in the first piece makes the pieces one byte wider
 width-onto_first : (x : ℕ) (ps : List (List ℕ)) → 0 < length ps
     → width (onto_first x ps) ≡ 1 + width ps
 unfolding width
@@ -41,7 +41,7 @@ width-onto_first x (p ∷ ps) l = omega arith
 some_piece : (s : List ℕ) → 0 < length (slice_split is_slash s)
 some_piece s = omega (arith, length-slice_split is_slash s)
 
--- the pieces of a string, with a slash behind each, are a byte longer than the string
+-- the pieces of a string, with a slash after each, are one byte longer than the string
 width-slice_split : (s : List ℕ) → width (slice_split is_slash s) ≡ length s + 1
 unfolding width
 width-slice_split [] = refl
@@ -55,13 +55,14 @@ width-slice_split (x ∷ s) = by_test (eqb x 47)
           (some_piece s),
     ))
 
--- a byte put onto the first piece of two lists is put onto that of the first list, if it has one
+-- a byte prepended to the first piece of two lists is prepended to the first list, if it has a
+-- piece
 onto_first-append : (x : ℕ) (ps qs : List (List ℕ)) → 0 < length ps
     → onto_first x (ps ++ qs) ≡ onto_first x ps ++ qs
 onto_first-append x [] qs l = absurd (omega arith)
 onto_first-append x (p ∷ ps) qs l = refl
 
--- cut at any slash, the pieces of both sides follow one another
+-- a string cut at a slash has the pieces before the slash and then the pieces after it
 pub slice_split-append : (x y : List ℕ)
     → slice_split is_slash (x ++ 47 ∷ y) ≡ slice_split is_slash x ++ slice_split is_slash y
 slice_split-append [] y = refl
@@ -74,7 +75,8 @@ slice_split-append (b ∷ x) y = by_test (eqb b 47)
     ∙ onto_first-append b (slice_split is_slash x) (slice_split is_slash y) (some_piece x)
     ∙ ap (λ ps. ps ++ slice_split is_slash y) (sym (slice_split-cons_no is_slash b x e)))
 
--- cut at any slash, the parts of both sides follow one another
+-- a string cut at a slash has the inner components before the slash and then the inner components
+-- after it
 pub inner_parts-append : (at : ℕ) (x y : List ℕ)
     → inner_parts at (x ++ 47 ∷ y) ≡ inner_parts at x ++ inner_parts (at + length x + 1) y
 unfolding inner_parts

@@ -1,4 +1,4 @@
--- The parts of a whole string, by what stands first.
+-- The components of a whole string, by its first byte.
 use Rattle.std.proofs.Common.{◌≡◌, ℕ, ◌+◌, ◌-◌, ◌<◌, Bool, true, false, cond, eqb, List, [], ◌∷◌}
 use Rattle.std.proofs.Common.{◌++◌, length, get_or, take, drop, map, eqb-true, refl, sym, ap, ap₂}
 use Rattle.std.proofs.Common.{◌∙◌, arith, take_all, zero-add}
@@ -18,19 +18,19 @@ use Rattle.unix_path.proofs.lemmas.parts.ValueLemmas.{first_value}
 abbrev root : Part
 root = record { start = 0; end = 1; value = RootDir }
 
--- a string that begins with a slash has the root as its first part
+-- a string that begins with a slash has the root as its first component
 pub parts-root : (s : List ℕ) → get_or s 0 0 ≡ 47
     → parts s ≡ record { start = 0; end = 1; value = RootDir } ∷ inner_parts 1 (drop 1 s)
 unfolding parts leading_part
 parts-root [] e = absurd (omega arith)
 parts-root (b ∷ s) e = ap (λ b. parts (b ∷ s)) e ∙ ap (λ ps. root ∷ ps) (inner_parts-slash 0 s)
 
--- whether a string is rooted is told by byte 0, if it has one
+-- byte 0, if there is one, determines whether a string is rooted
 pub is_rooted-at : (s : List ℕ) → is_rooted s ≡ eqb (get_or s 0 0) 47
 is_rooted-at [] = refl
 is_rooted-at (b ∷ s) = refl
 
--- a string that begins with no slash has a leading part exactly if its first piece is `.`
+-- a string that doesn't begin with a slash has a leading part if and only if its first piece is `.`
 pub leading_part-name : (s : List ℕ) → eqb (get_or s 0 0) 47 ≡ false
     → leading_part s ≡ cond (bytes_eq (first_piece s) cur_dir)
     (record { start = 0; end = 1; value = CurDir } ∷ []) []
@@ -38,13 +38,13 @@ unfolding leading_part
 leading_part-name s e =
     rw (is_rooted-at s ∙ e) refl
 
--- a string that is not empty and begins with no slash doesn't have an empty first piece
+-- a string that is not empty and doesn't begin with a slash doesn't have an empty first piece
 pub nonempty_first_piece : (s : List ℕ) → 0 < length s → eqb (get_or s 0 0) 47 ≡ false
     → bytes_eq (first_piece s) [] ≡ false
 nonempty_first_piece [] l e = absurd (omega arith)
 nonempty_first_piece (b ∷ s) l e = ap (λ p. bytes_eq p []) (first_piece-other b s e)
 
--- a string that begins with another byte than a slash has its first piece as its first part
+-- a string that begins with a byte other than a slash has its first piece as its first component
 pub parts-name : (s : List ℕ) → 0 < length s → eqb (get_or s 0 0) 47 ≡ false
     → parts s ≡ record {
       start = 0;
@@ -84,11 +84,11 @@ pub parts-nil : parts [] ≡ []
 unfolding parts leading_part inner_parts
 parts-nil = refl
 
--- a string without bytes has no parts
+-- a string without bytes has no components
 pub parts-none : (s : List ℕ) → length s ≡ 0 → parts s ≡ []
 parts-none s e = ap parts (nil_from_length s e) ∙ parts-nil
 
--- a path of a byte or more has a value
+-- a path of at least one byte has a component
 pub some_values : (s : List ℕ) → 0 < length s
     → (v : Value) × (vs : List Value) × (values s ≡ v ∷ vs)
 unfolding values
@@ -96,18 +96,18 @@ some_values s l = by_test (eqb (get_or s 0 0) 47)
     (λ e. (_, _, ap (map (λ (p : Part). p.value)) (parts-root s (eqb-true _ 47 e))))
     (λ e. (_, _, ap (map (λ (p : Part). p.value)) (parts-name s l e)))
 
--- a path without a value has no byte
+-- a path without components has no bytes
 pub values-none : (s : List ℕ) → values s ≡ [] → s ≡ []
 values-none [] none = refl
 values-none (b ∷ s) none = let some = some_values (b ∷ s) (omega arith) in cc (some.2)
 
--- whether the first value is the root
+-- true if the first component is the root
 abbrev pub root_first : List Value → Bool
 root_first [] = false
 root_first (RootDir ∷ vs) = true
 root_first (_ ∷ vs) = false
 
--- the first value is the root exactly if byte 0 is a slash
+-- the first component is the root if and only if byte 0 is a slash
 pub root_first-values : (s : List ℕ) → root_first (values s) ≡ is_rooted s
 unfolding values
 root_first-values [] = ap (λ ps. root_first (map (λ p. p.value) ps)) parts-nil

@@ -1,4 +1,4 @@
--- The first piece of a string, and what stands after it.
+-- The first piece of a string, and what follows it.
 use Rattle.std.proofs.Common.{◌≡◌, ℕ, ◌+◌, true, false, cond, eqb, List, [], ◌∷◌, ◌++◌, length, ◌<◌}
 use Rattle.std.proofs.Common.{take, drop, refl, sym, ap, ap₂, subst, ◌∙◌, arith, get_or, eqb-true}
 use Rattle.std.specs.List.{before_first, slice_split, onto_first, position_or_len}
@@ -11,19 +11,19 @@ pub inner_parts-nil : (at : ℕ) → inner_parts at [] ≡ []
 unfolding inner_parts
 inner_parts-nil at = refl
 
--- an empty first piece doesn't count
+-- a slash at the beginning adds no inner component
 pub inner_parts-slash : (at : ℕ) (s : List ℕ) → inner_parts at (47 ∷ s) ≡ inner_parts (at + 1) s
 unfolding inner_parts
 inner_parts-slash at s = ap
     (λ n. parts_of_pieces n (slice_split is_slash s)) {x = at + 0 + 1}
     {y = at + 1} (omega arith)
 
--- a piece that is a `.` doesn't count
+-- a string that is only a `.` has no inner component
 pub inner_parts-dot : (at : ℕ) → inner_parts at (46 ∷ []) ≡ []
 unfolding inner_parts
 inner_parts-dot at = refl
 
--- a first piece that is a `.` doesn't count
+-- a `.` at the beginning, before a slash, adds no inner component
 pub inner_parts-dot_slash : (at : ℕ) (s : List ℕ)
     → inner_parts at (46 ∷ 47 ∷ s) ≡ inner_parts (at + 1) (47 ∷ s)
 unfolding inner_parts
@@ -31,11 +31,11 @@ inner_parts-dot_slash at s =
     ap (λ n. parts_of_pieces n (slice_split is_slash s)) {x = at + 1 + 1}
     {y = at + 1 + 0 + 1} (omega arith)
 
--- what stands before the first slash
+-- the bytes before the first slash
 abbrev pub first_piece : List ℕ → List ℕ
 first_piece = before_first is_slash
 
--- the pieces behind the slash that a string begins with; none if it is empty
+-- the pieces after the slash that a string begins with; none if it is empty
 abbrev later_pieces : List ℕ → List (List ℕ)
 later_pieces [] = []
 later_pieces (b ∷ s) = slice_split is_slash s
@@ -57,14 +57,14 @@ position_or_len-other x xs e = rw e refl
 pub first_piece-slash : (x : ℕ) (s : List ℕ) → eqb x 47 ≡ true → first_piece (x ∷ s) ≡ []
 first_piece-slash x s e = ap (λ n. take n (x ∷ s)) (position_or_len-slash x s e)
 
--- a string that begins with another byte than a slash has it first in its first piece
+-- a string that begins with a byte other than a slash has that byte first in its first piece
 pub first_piece-other : (x : ℕ) (s : List ℕ) → eqb x 47 ≡ false
     → first_piece (x ∷ s) ≡ x ∷ first_piece s
 first_piece-other x s e =
     ap (λ n. take n (x ∷ s)) (position_or_len-other x s e)
     ∙ take-suc_cons (position_or_len is_slash s) x s
 
--- the pieces are the first one and those that follow it
+-- the pieces are the first piece and the pieces that follow it
 pub slice_split-first : (s : List ℕ)
     → slice_split is_slash s ≡ first_piece s ∷ later_pieces (drop (position_or_len is_slash s) s)
 slice_split-first [] = refl
@@ -94,7 +94,7 @@ no_slash_head (b ∷ s) e l =
     by_test (eqb b 47) (λ slash. absurd (omega (arith, sym (position_or_len-slash b s slash) ∙ e)))
     (λ no. no)
 
--- the first piece ends where the first slash stands
+-- the first piece ends at the first slash
 pub length-first_piece : (s : List ℕ) → length (first_piece s) ≡ position_or_len is_slash s
 length-first_piece [] = refl
 length-first_piece (x ∷ xs) = by_test (eqb x 47)
@@ -102,12 +102,12 @@ length-first_piece (x ∷ xs) = by_test (eqb x 47)
     (λ e. ap length (first_piece-other x xs e)
     ∙ omega (arith, length-first_piece xs, position_or_len-other x xs e))
 
--- the part of a piece that stands at `at`, if it counts
+-- the component of a piece at index `at`, if it counts
 abbrev pub parts_of_piece : ℕ → List ℕ → List Part
 parts_of_piece at p = cond (counts p)
     (record { start = at; end = at + length p; value = value_of_piece p } ∷ []) []
 
--- the parts of the pieces behind a slash are those of the string that begins with it
+-- the components of the pieces after a slash are the components of the string that begins with it
 parts_of_pieces-later_pieces : (at : ℕ) (s : List ℕ) → IsCut s
     → parts_of_pieces (at + 1) (later_pieces s) ≡ inner_parts at s
 unfolding inner_parts
@@ -115,7 +115,7 @@ parts_of_pieces-later_pieces at [] h = refl
 parts_of_pieces-later_pieces at (b ∷ s) h =
     sym (ap (λ b. inner_parts at (b ∷ s)) h ∙ inner_parts-slash at s)
 
--- the inner parts are that of the first piece, if it counts, and those behind it
+-- the inner components are the component of the first piece, if it counts, and those after it
 pub inner_parts-first : (at : ℕ) (s : List ℕ)
     → inner_parts at s
     ≡ parts_of_piece at (first_piece s) ++ inner_parts (at + position_or_len is_slash s)

@@ -1,4 +1,5 @@
--- If a string is moved, the places of its parts move with it, and the values stay.
+-- If a string is moved, the positions of its components move with it, and the components stay the
+-- same.
 use Rattle.std.proofs.Common.{◌≡◌, ℕ, ◌+◌, List, [], ◌∷◌, length, map, refl, ap, ap₂, ◌∙◌, arith}
 use Rattle.std.specs.List.{slice_split}
 use Rattle.unix_bytes.proofs.lemmas.lists.ListLemmas.{by_test}
@@ -6,11 +7,11 @@ use Rattle.unix_path.specs.Parts.{Part, inner_parts, counts, is_slash, parts_of_
 use Rattle.unix_path.specs.Parts.{value_of_piece}
 use Rattle.unix_path.specs.Rest.{last_end}
 
--- the part p, moved by d places
+-- the component p, moved by d bytes
 abbrev pub part_at : ℕ → Part → Part
 part_at d p = record { start = p.start + d; end = p.end + d; value = p.value }
 
--- if pieces are moved by d, so are their parts
+-- if pieces are moved by d, so are their components
 parts_of_pieces-add : (at d : ℕ) (ps : List (List ℕ))
     → parts_of_pieces (at + d) ps ≡ map (part_at d) (parts_of_pieces at ps)
 parts_of_pieces-add at d [] = refl
@@ -23,37 +24,37 @@ parts_of_pieces-add at d (p ∷ ps) =
     first next))
     (λ e. rw e next)
 
--- if a string is moved by d, so are its inner parts
+-- if a string is moved by d, so are its inner components
 pub inner_parts-add : (at d : ℕ) (s : List ℕ)
     → inner_parts (at + d) s ≡ map (part_at d) (inner_parts at s)
 unfolding inner_parts
 inner_parts-add at d s = parts_of_pieces-add at d (slice_split is_slash s)
 
--- parts that are moved keep their values
+-- without their positions, components that are moved stay the same
 pub values-part_at : (d : ℕ) (ps : List Part)
     → map (λ p. p.value) (map (part_at d) ps) ≡ map (λ p. p.value) ps
 values-part_at d [] = refl
 values-part_at d (p ∷ ps) = ap (λ vs. p.value ∷ vs) (values-part_at d ps)
 
--- the values don't depend on where the string stands
+-- without their positions, the components don't depend on where the string is
 pub values-inner_parts : (at : ℕ) (s : List ℕ)
     → map (λ p. p.value) (inner_parts at s) ≡ map (λ p. p.value) (inner_parts 0 s)
 values-inner_parts at s =
     ap (λ n. map (λ p. p.value) (inner_parts n s)) {x = at} {y = 0 + at} (omega arith)
     ∙ ap (map (λ p. p.value)) (inner_parts-add 0 at s) ∙ values-part_at at (inner_parts 0 s)
 
--- the end of the last of these parts, or 0 if there is none
+-- the end of the last of these components, or 0 if there is none
 abbrev pub parts_end : List Part → ℕ
 parts_end [] = 0
 parts_end (p ∷ ps) = last_end p ps
 
--- if parts are moved by d, so is the end of the last
+-- if components are moved by d, so is the end of the last
 pub last_end-part_at : (d : ℕ) (p : Part) (ps : List Part)
     → last_end (part_at d p) (map (part_at d) ps) ≡ last_end p ps + d
 last_end-part_at d p [] = refl
 last_end-part_at d p (q ∷ qs) = last_end-part_at d q qs
 
--- parts that are moved by j and then by i are moved by i + j
+-- components that are moved by j and then by i are moved by i + j
 pub part_at-part_at : (i j : ℕ) (ps : List Part)
     → map (part_at i) (map (part_at j) ps) ≡ map (part_at (i + j)) ps
 part_at-part_at i j [] = refl
@@ -64,7 +65,7 @@ part_at-part_at i j (p ∷ ps) =
     (λ s e. record { start = s; end = e; value = p.value } ∷ map (part_at i) (map (part_at j) ps))
     start end ∙ ap (λ ps. part_at (i + j) p ∷ ps) (part_at-part_at i j ps)
 
--- parts that are moved by 0 stay where they are
+-- components that are moved by 0 are unchanged
 pub part_at-zero : (ps : List Part) → map (part_at 0) ps ≡ ps
 part_at-zero [] = refl
 part_at-zero (p ∷ ps) =

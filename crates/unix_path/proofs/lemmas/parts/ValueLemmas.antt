@@ -1,4 +1,4 @@
--- The value of a piece, its bytes and its name.
+-- The component of a piece, its bytes and its name.
 use Rattle.std.proofs.Common.{◌≡◌, ℕ, if◌then◌else◌, List, Some, refl, sym, ap}
 use Rattle.std.specs.Str.{bytes_eq}
 use Rattle.std.proofs.lemmas.Option.{same_Some, none-some}
@@ -8,30 +8,30 @@ use Rattle.unix_path.specs.Names.{name_of}
 use Rattle.unix_path.specs.Parts.{Value, RootDir, CurDir, ParentDir, Normal, cur_dir, parent_dir}
 use Rattle.unix_path.specs.Parts.{value_bytes, value_of_piece}
 
--- the value of a piece at the beginning of a string, where a `.` counts
+-- the component of a piece at the beginning of a string, where a `.` counts
 abbrev pub first_value : List ℕ → Value
 first_value bytes = if bytes_eq bytes cur_dir then CurDir else value_of_piece bytes
 
--- the value of a piece has the piece's bytes
+-- the component of a piece has the bytes of the piece
 pub value_bytes-piece : (p : List ℕ) → value_bytes (value_of_piece p) ≡ p
 value_bytes-piece p = by_test (bytes_eq p parent_dir)
     (λ e. rw e (sym ((bytes_eq-Decides p parent_dir).0 e))) (λ e. rw e refl)
 
--- so has that of a first piece
+-- the component of a first piece has the bytes of the piece
 pub value_bytes-first : (p : List ℕ) → value_bytes (first_value p) ≡ p
 value_bytes-first p = by_test (bytes_eq p cur_dir)
     (λ e. rw e (sym ((bytes_eq-Decides p cur_dir).0 e))) (λ e. rw e (value_bytes-piece p))
 
--- no piece is the root
+-- the component of a piece is not the root
 pub no_root_piece : (p : List ℕ) → value_of_piece p ≡ RootDir → ⊥
 no_root_piece p =
     by_test (bytes_eq p parent_dir) (λ e. rw e (λ h. cc)) (λ e. rw e (λ h. cc))
 
--- nor is a first piece
+-- the component of a first piece is not the root
 pub no_root_first : (p : List ℕ) → first_value p ≡ RootDir → ⊥
 no_root_first p = by_test (bytes_eq p cur_dir) (λ e. rw e (λ h. cc)) (λ e. rw e (no_root_piece p))
 
--- a value that has a name is that name
+-- a component that has a name consists of that name
 pub name_of-some : (v : Value) (name : List ℕ) → name_of v ≡ Some name → v ≡ Normal name
 name_of-some RootDir name e = absurd (none-some name e)
 name_of-some CurDir name e = absurd (none-some name e)

@@ -1,4 +1,4 @@
--- What is left between the first parts and the last.
+-- The rest between the first components and the last.
 use Rattle.std.proofs.Common.{◌≡◌, ℕ, ◌+◌, ◌-◌, ◌≤◌, ltb, List, [], length, take, drop, map, sym}
 use Rattle.std.proofs.Common.{ap, ap₂, ◌∙◌, arith, take_all, length-drop, drop-drop, ltb-true, ◌∷◌}
 use Rattle.std.proofs.Common.{ltb-false, length-take-le, ◌++◌, length-append}
@@ -13,7 +13,7 @@ use Rattle.unix_path.specs.Parts.{parts}
 use Rattle.unix_path.specs.Rest.{rest, span_of}
 use Rattle.unix_path.specs.Scan.{EndsInPart}
 
--- if w stands at i in s, and v at j in w, then v stands at i + j in s
+-- if w is at index i in s, and v is at j in w, then v is at i + j in s
 pub stands_in : (s w v : List ℕ) (i j : ℕ) → take (length w) (drop i s) ≡ w
     → take (length v) (drop j w) ≡ v → take (length v) (drop (i + j) s) ≡ v
 stands_in s w v i j outer inner = by_test (ltb j (length w))
@@ -35,15 +35,15 @@ stands_in s w v i j outer inner = by_test (ltb j (length w))
 abbrev pub middle : {X : Type 0} → ℕ → ℕ → List X → List X
 middle k m xs = take (length xs - (k + m)) (drop k xs)
 
--- what is left of s after its first k and last m parts
+-- the rest of s after its first k and before its last m components
 pub record Middle (s : List ℕ) (k m : ℕ) : Type 0 where
   pub at : ℕ
-  pub left : List ℕ
-  pub stands : StandsAt s at left
-  pub is : middle k m (parts s) ≡ map (part_at at) (parts left)
-  pub ends : EndsInPart left
+  pub rest_bytes : List ℕ
+  pub stands : StandsAt s at rest_bytes
+  pub is : middle k m (parts s) ≡ map (part_at at) (parts rest_bytes)
+  pub ends : EndsInPart rest_bytes
 
--- whatever number of parts is taken off both ends, the string that is left stands in s
+-- however many components are removed at both ends, the rest is within s
 unfoldable pub middle_of : (s : List ℕ) (k m : ℕ) → Middle s k m
 middle_of s k m =
     let trim = trims_end s in
@@ -70,7 +70,7 @@ middle_of s k m =
     let fewer : length (parts s) - (k + m) ≡ length (parts u) - m = omega arith in
     record {
       at = i;
-      left = w;
+      rest_bytes = w;
       stands = ap (λ k. take k (drop i s)) size_w
           ∙ sym (take-take taken.len (n - i) (drop i s) (omega arith))
           ∙ ap (take taken.len) (sym from);
@@ -79,18 +79,18 @@ middle_of s k m =
       ends = taken.ends;
     }
 
--- the rest is what is left of s
-pub rest-middle : (s : List ℕ) (k m : ℕ) (h : Middle s k m) → rest s k m ≡ h.left
+-- `rest` is the rest that `Middle` describes
+pub rest-middle : (s : List ℕ) (k m : ℕ) (h : Middle s k m) → rest s k m ≡ h.rest_bytes
 unfolding rest
-rest-middle s k m h = ap (span_of s) h.is ∙ span_at s h.left h.at h.stands h.ends
+rest-middle s k m h = ap (span_of s) h.is ∙ span_at s h.rest_bytes h.at h.stands h.ends
 
--- a function of each element may be taken before or after some are left out
+-- a function of each element may be applied before or after some are removed
 pub map-middle : {X Y : Type 0} (f : X → Y) (k m : ℕ) (xs : List X)
     → middle k m (map f xs) ≡ map f (middle k m xs)
 map-middle f k m xs = ap₂ (λ n ys. take (n - (k + m)) ys) (length-map xs f) (drop-map f k xs)
     ∙ take-map f (length xs - (k + m)) (drop k xs)
 
--- elements that are left out in two steps may be left out at once
+-- elements that are removed in two steps may be removed at once
 pub middle-middle : {X : Type 0} (k m i j : ℕ) (xs : List X)
     → middle i j (middle k m xs) ≡ middle (k + i) (m + j) xs
 middle-middle k m i j xs =
@@ -117,7 +117,7 @@ middle-middle k m i j xs =
     ∙ take_all (length (take (n - (k + m)) ys) - (i + j)) [] (omega arith)
     ∙ sym (ap (λ x. take x (drop (k + i) xs)) zero_left))
 
--- a list with one more element behind it, without its last, is the list
+-- a list with an element appended, without its last, is the list
 pub middle-push : {X : Type 0} (xs : List X) (y : X) → middle 0 1 (xs ++ y ∷ []) ≡ xs
 middle-push xs y =
     let n : length (xs ++ y ∷ []) - (0 + 1) ≡ length xs =

@@ -1,4 +1,4 @@
--- What a rest leaves, and what is left of that.
+-- The components of a rest, and the rest of a rest.
 use Rattle.std.proofs.Common.{◌≡◌, ℕ, zero, suc, ◌+◌, ◌-◌, ◌≤◌, ltb, List, length, take, drop}
 use Rattle.std.proofs.Common.{map, refl, sym, ap, ◌∙◌, arith, length-drop, ltb-true, ltb-false}
 use Rattle.std.proofs.lemmas.List.{length-map}
@@ -11,25 +11,25 @@ use Rattle.unix_path.proofs.lemmas.rests.SplitLemmas.{drops_to, splits_first}
 use Rattle.unix_path.specs.Parts.{parts, values}
 use Rattle.unix_path.specs.Rest.{rest}
 
--- the values of a rest are the path's, without the first k and the last m
+-- the components of a rest are the path's, without the first k and the last m
 pub values-rest : (s : List ℕ) (k m : ℕ) → values (rest s k m) ≡ middle k m (values s)
 unfolding values
 values-rest s k m =
     let h = middle_of s k m in
     ap (λ w. map (λ p. p.value) (parts w)) (rest-middle s k m h)
-    ∙ sym (values-part_at h.at (parts h.left)) ∙ ap (map (λ p. p.value)) (sym h.is)
+    ∙ sym (values-part_at h.at (parts h.rest_bytes)) ∙ ap (map (λ p. p.value)) (sym h.is)
     ∙ sym (map-middle (λ p. p.value) k m (parts s))
 
--- the rest of a rest is the rest after the parts that both take
+-- the rest of a rest is the rest without the components removed in both steps
 pub rest-rest : (s : List ℕ) (k m i j : ℕ) → rest (rest s k m) i j ≡ rest s (k + i) (m + j)
 rest-rest s k m i j =
     let h = middle_of s k m in
-    let w = h.left in
+    let w = h.rest_bytes in
     let g = middle_of w i j in
-    let v = g.left in
+    let v = g.rest_bytes in
     let together : Middle s (k + i) (m + j) = record {
       at = h.at + g.at;
-      left = v;
+      rest_bytes = v;
       stands = stands_in s w v h.at g.at h.stands g.stands;
       is = sym (middle-middle k m i j (parts s)) ∙ ap (middle i j) h.is
           ∙ map-middle (part_at h.at) i j (parts w) ∙ ap (map (part_at h.at)) g.is
@@ -39,7 +39,7 @@ rest-rest s k m i j =
     ap (λ w. rest w i j) (rest-middle s k m h) ∙ rest-middle w i j g
     ∙ sym (rest-middle s (k + i) (m + j) together)
 
--- a string has no more parts than bytes
+-- a string has no more components than bytes
 few_parts : (n : ℕ) (t : List ℕ) → length t ≤ n → length (parts t) ≤ length t
 few_parts zero t l = omega (arith, ap length (parts-none t (omega arith)))
 few_parts (suc n) t l = by_test (ltb 0 (length t))
@@ -58,22 +58,22 @@ few_parts (suc n) t l = by_test (ltb 0 (length t))
     ))
     (λ e. omega (arith, ap length (parts-none t (omega (arith, ltb-false _ _ e)))))
 
--- a path has no more values than bytes
+-- a path has no more components than bytes
 pub length-values : (s : List ℕ) → length (values s) ≤ length s
 unfolding values
 length-values s = omega
     (arith, length-map (parts s) (λ p. p.value), few_parts (length s) s (omega arith))
 
--- if nothing is taken in front, what is left stands at place 0
+-- if no leading component is removed, the rest is at index 0
 pub middle_of-at : (s : List ℕ) (m : ℕ) → (middle_of s 0 m).at ≡ 0
 unfolding middle_of drops_to
 middle_of-at s m = refl
 
--- if nothing is taken in front, what is left begins s
+-- if no leading component is removed, the rest is a prefix of s
 pub take-rest : (s : List ℕ) (m : ℕ) → take (length (rest s 0 m)) s ≡ rest s 0 m
 take-rest s m =
     let h = middle_of s 0 m in
     let is = rest-middle s 0 m h in
     ap (λ w. take (length w) s) is
-    ∙ ap (λ i. take (length h.left) (drop i s)) (sym (middle_of-at s m))
+    ∙ ap (λ i. take (length h.rest_bytes) (drop i s)) (sym (middle_of-at s m))
     ∙ h.stands ∙ sym is

@@ -1,4 +1,4 @@
--- The root can only be the first part.
+-- The root can only be the first component.
 use Rattle.std.proofs.Common.{◌≡◌, ◌↔◌, ℕ, ◌+◌, ◌<◌, Bool, true, false, eqb, ltb, List, [], ◌∷◌}
 use Rattle.std.proofs.Common.{◌++◌, length, get_or, drop, map, cond, refl, sym, ap, subst, ◌∙◌}
 use Rattle.std.proofs.Common.{arith, eqb-true, length-append, ltb-true, ltb-false}
@@ -8,14 +8,14 @@ use Rattle.std.proofs.lemmas.List.{nil_from_length}
 use Rattle.unix_path.specs.Parts.{Value, RootDir, CurDir, ParentDir, Normal, is_slash}
 use Rattle.unix_path.specs.Parts.{parent_dir, counts, parts_of_pieces, value_of_piece}
 use Rattle.unix_path.specs.Parts.{inner_parts, values, is_rooted}
-use Rattle.unix_path.specs.Prefixes.{Begins}
+use Rattle.unix_path.specs.Prefixes.{IsPrefixOf}
 use Rattle.unix_path.proofs.lemmas.parts.ValueLemmas.{first_value}
 use Rattle.unix_bytes.proofs.lemmas.lists.ListLemmas.{by_test}
 use Rattle.unix_path.proofs.lemmas.parts.PieceLemmas.{first_piece}
 use Rattle.unix_path.proofs.lemmas.parts.PartLemmas.{values-nil, parts-root, parts-name, root_first}
 use Rattle.unix_path.proofs.lemmas.parts.PartLemmas.{root_first-values}
 
--- none of the values is the root
+-- none of the components is the root
 abbrev pub NoRoot : List Value → Type 0
 NoRoot [] = Unit {0}
 NoRoot (RootDir ∷ vs) = ⊥
@@ -23,29 +23,29 @@ NoRoot (CurDir ∷ vs) = NoRoot vs
 NoRoot (ParentDir ∷ vs) = NoRoot vs
 NoRoot (Normal name ∷ vs) = NoRoot vs
 
--- with a piece in front, values without a root are still without one
+-- a list without the root has no root after the component of a piece is prepended
 no_root_cons : (p : List ℕ) (vs : List Value) → NoRoot vs → NoRoot (value_of_piece p ∷ vs)
 no_root_cons p vs h = by_test (bytes_eq p parent_dir) (λ e. rw e h) (λ e. rw e h)
 
--- none of the values of pieces is the root
+-- none of the components of pieces is the root
 no_root_pieces : (at : ℕ) (ps : List (List ℕ)) → NoRoot (map (λ p. p.value) (parts_of_pieces at ps))
 no_root_pieces at [] = tt
 no_root_pieces at (p ∷ ps) =
     let next = no_root_pieces (at + length p + 1) ps in
     by_test (counts p) (λ e. rw e (no_root_cons p _ next)) (λ e. rw e next)
 
--- none of the inner values is the root
+-- none of the inner components is the root
 no_root_inner : (at : ℕ) (s : List ℕ) → NoRoot (map (λ p. p.value) (inner_parts at s))
 unfolding inner_parts
 no_root_inner at s = no_root_pieces at (slice_split is_slash s)
 
--- the first value is v, and no other is the root
+-- the first component is v, and no other is the root
 pub record BeginsBy (s : List ℕ) (v : Value) : Type 0 where
   pub more : List Value
   pub is : values s ≡ v ∷ more
   pub no_root : NoRoot more
 
--- a string that begins with a slash has the root as its first value
+-- a string that begins with a slash has the root as its first component
 begins_by_root : (s : List ℕ) → eqb (get_or s 0 0) 47 ≡ true → BeginsBy s RootDir
 unfolding values
 begins_by_root s e = record {
@@ -54,7 +54,7 @@ begins_by_root s e = record {
   no_root = no_root_inner 1 (drop 1 s);
 }
 
--- a string that begins with another byte than a slash has the value of its first piece first
+-- a string that begins with a byte other than a slash has the component of its first piece first
 begins_by_name : (s : List ℕ) → 0 < length s → eqb (get_or s 0 0) 47 ≡ false
     → BeginsBy s (first_value (first_piece s))
 unfolding values
@@ -66,29 +66,29 @@ begins_by_name s l e =
       no_root = no_root_inner n (drop n s);
     }
 
--- values of which the first is the root begin with it
-Begins-root : (vs : List Value) → root_first vs ≡ true → Begins (RootDir ∷ []) vs
-Begins-root [] e = absurd (let d : false ≡ true = e in cc)
-Begins-root (RootDir ∷ vs) e = (vs, refl)
-Begins-root (v ∷ vs) e = absurd (let d : false ≡ true = e in cc)
+-- a list whose first component is the root starts with the root
+IsPrefixOf-root : (vs : List Value) → root_first vs ≡ true → IsPrefixOf (RootDir ∷ []) vs
+IsPrefixOf-root [] e = absurd (let d : false ≡ true = e in cc)
+IsPrefixOf-root (RootDir ∷ vs) e = (vs, refl)
+IsPrefixOf-root (v ∷ vs) e = absurd (let d : false ≡ true = e in cc)
 
--- a path with a root is one whose values begin with the root
-pub rooted-Begins : (s : List ℕ) (r : Bool) → r ≡ is_rooted s
-    → r ≡ true ↔ Begins (RootDir ∷ []) (values s)
-rooted-Begins s r e = (
-  λ rooted. Begins-root (values s) (root_first-values s ∙ sym e ∙ rooted),
+-- a path is rooted if and only if its components begin with the root
+pub rooted-IsPrefixOf : (s : List ℕ) (r : Bool) → r ≡ is_rooted s
+    → r ≡ true ↔ IsPrefixOf (RootDir ∷ []) (values s)
+rooted-IsPrefixOf s r e = (
+  λ rooted. IsPrefixOf-root (values s) (root_first-values s ∙ sym e ∙ rooted),
   λ h. e ∙ sym (root_first-values s) ∙ sym (ap root_first h.1),
 )
 
--- 1 if the first value is the root, else 0
+-- 1 if the first component is the root, and otherwise 0
 abbrev pub root_count : List Value → ℕ
 root_count vs = cond (root_first vs) 1 0
 
--- the number of roots among a path's values tells whether it is rooted
+-- the number of roots among a path's components shows whether it is rooted
 pub root_count-values : (s : List ℕ) → cond (is_rooted s) 1 0 ≡ root_count (values s)
 root_count-values s = ap (λ c. cond c 1 0) (sym (root_first-values s))
 
--- if none of the values is the root, the last is not
+-- if none of the components is the root, the last is not
 no_root_last : (vs : List Value) (v : Value) → NoRoot (vs ++ v ∷ []) → v ≡ RootDir → ⊥
 no_root_last [] v h r = subst (λ v. NoRoot (v ∷ [])) r h
 no_root_last (RootDir ∷ vs) v h r = h
@@ -96,7 +96,7 @@ no_root_last (CurDir ∷ vs) v h r = no_root_last vs v h r
 no_root_last (ParentDir ∷ vs) v h r = no_root_last vs v h r
 no_root_last (Normal name ∷ vs) v h r = no_root_last vs v h r
 
--- if no value behind v is the root, nothing stands before a last value that is
+-- if no component after v is the root, but the last component is, nothing comes before it
 before_last_root : (v w : Value) (more vs : List Value) → NoRoot more → v ∷ more ≡ vs ++ w ∷ []
     → w ≡ RootDir → length vs ≡ 0
 before_last_root v w more [] h e r = refl
@@ -104,7 +104,7 @@ before_last_root v w more (x ∷ vs) h e r =
     let tail : more ≡ vs ++ w ∷ [] = cc in
     absurd (no_root_last vs w (subst NoRoot tail h) r)
 
--- if the root is the last value, it is the only one
+-- if the root is the last component, it is the only component
 pub root_last : (s : List ℕ) (vs : List Value) → values s ≡ vs ++ RootDir ∷ [] → length vs ≡ 0
 root_last s vs e = by_test (ltb 0 (length s))
     (λ some. by_test (eqb (get_or s 0 0) 47)

@@ -1,15 +1,15 @@
--- Slices that lie in others.
+-- Slices that lie within other slices.
 use Rattle.std.proofs.Common.{◌≡◌, ◌≤◌, ◌+◌, ◌-◌, List, ℕ, length, take, drop, ◌∙◌, refl}
 use Rattle.std.proofs.Common.{ap, arith, drop-drop, length-drop}
 use Rattle.std.proofs.lemmas.List.{take_rest}
 use Rattle.std.specs.Borrow.{Bor}
-use Rattle.unix_path.specs.Places.{IsTail, LiesIn}
+use Rattle.unix_path.specs.Slices.{IsTail, LiesIn}
 
--- a slice lies in itself
+-- a slice is within itself
 pub LiesIn-itself : (slice : Bor (List ℕ)) → LiesIn slice slice
 LiesIn-itself slice = record { block = refl; start = omega arith; end = omega arith }
 
--- the end of a slice's end is its end
+-- a suffix of a suffix of a slice is a suffix of the slice, in the same memory
 pub IsTail-trans : (part middle whole : Bor (List ℕ)) → IsTail part middle → IsTail middle whole
     → IsTail part whole
 IsTail-trans part middle whole h k =
@@ -17,25 +17,25 @@ IsTail-trans part middle whole h k =
     let n = length middle.now in
     let l = length whole.now in
     record {
-      short = omega (arith, h.short, k.short);
+      len_bound = omega (arith, h.len_bound, k.len_bound);
       bytes = h.bytes ∙ ap (drop (n - m)) k.bytes ∙ drop-drop (n - m) (l - n) whole.now
           ∙ ap (λ i. drop i whole.now) {x = l - n + (n - m)} {y = l - m}
-          (omega (arith, h.short, k.short));
+          (omega (arith, h.len_bound, k.len_bound));
       block = h.block ∙ k.block;
       place = h.place ∙ k.place;
     }
 
--- a slice is its own end
+-- a slice is a suffix of itself
 pub IsTail-itself : (slice : Bor (List ℕ)) → IsTail slice slice
 IsTail-itself slice = record {
-  short = omega arith;
+  len_bound = omega arith;
   bytes = ap (λ i. drop i slice.now) {x = 0} {y = length slice.now - length slice.now}
       (omega arith);
   block = refl;
   place = refl;
 }
 
--- a slice from one of its places on is its end
+-- a slice from an index to the end is a suffix
 pub IsTail-from : (part whole : Bor (List ℕ)) (n : ℕ) → n ≤ length whole.now
     → part.now ≡ take (length whole.now - n) (drop n whole.now)
     → part.ref_ptr.0 ≡ whole.ref_ptr.0 → part.ref_ptr.1 ≡ whole.ref_ptr.1 + n
@@ -45,7 +45,7 @@ IsTail-from part whole n inside bytes block place =
     let size : length part.now ≡ length whole.now - n =
     ap length is ∙ length-drop n whole.now in
     record {
-      short = omega (arith, size);
+      len_bound = omega (arith, size);
       bytes = is ∙ ap (λ i. drop i whole.now) {x = n} {y = length whole.now - length part.now}
           (omega (arith, size, inside));
       block = block;

@@ -1,4 +1,4 @@
--- A string without its first parts, or without its last.
+-- A string without its first components, or without its last components.
 use Rattle.std.proofs.Common.{◌≡◌, ℕ, zero, suc, ◌+◌, ◌-◌, ◌≤◌, ◌<◌, false, eqb, ltb, List, [], ◌∷◌}
 use Rattle.std.proofs.Common.{◌++◌, length, get_or, take, drop, map, sym, ap, subst, ◌∙◌, arith}
 use Rattle.std.proofs.Common.{eqb-true, take_all, length-drop, drop-drop, ltb-true, ltb-false}
@@ -6,7 +6,7 @@ use Rattle.std.proofs.Common.{length-append, length-take-le}
 use Rattle.std.specs.List.{position_or_len}
 use Rattle.std.proofs.lemmas.List.{take-append-le, drop-map, length-take, take-take}
 use Rattle.unix_bytes.proofs.lemmas.lists.ListLemmas.{by_test}
-use Rattle.unix_path.proofs.lemmas.filler.FillerLemmas.{parts-busy, skips_filler}
+use Rattle.unix_path.proofs.lemmas.filler.FillerLemmas.{parts-not_filler, skips_filler}
 use Rattle.unix_path.proofs.lemmas.steps.LastLemmas.{last_part, last_start, root_alone}
 use Rattle.unix_path.proofs.lemmas.parts.PartLemmas.{parts-name, parts-nil, parts-none, parts-root}
 use Rattle.unix_path.proofs.lemmas.parts.PieceLemmas.{length-first_piece, position_or_len-other}
@@ -17,7 +17,8 @@ use Rattle.unix_path.proofs.lemmas.parts.ValueLemmas.{first_value}
 use Rattle.unix_path.specs.Parts.{Part, RootDir, Value, inner_parts, is_slash, parts}
 use Rattle.unix_path.specs.Scan.{EndsInPart}
 
--- the first part is `first`, and the others stand `len` places further on
+-- the first component is `first`, and the other components are those of t without its first `len`
+-- bytes
 pub record SplitsFirst (t : List ℕ) : Type 0 where
   pub first : Part
   pub len : ℕ
@@ -25,7 +26,7 @@ pub record SplitsFirst (t : List ℕ) : Type 0 where
   pub in_range : len ≤ length t
   pub is : parts t ≡ first ∷ map (part_at len) (parts (drop len t))
 
--- a first part that ends at e is followed by filler, and then by the other parts
+-- a first component that ends at e is followed by filler, and then by the other components
 splits_at : (t : List ℕ) (e : ℕ) (v : Value) → 0 < e → e ≤ length t
     → parts t ≡ record { start = 0; end = e; value = v } ∷ inner_parts e (drop e t) → SplitsFirst t
 splits_at t e v some l is =
@@ -40,17 +41,18 @@ splits_at t e v some l is =
       is = is ∙ ap (λ ps. record { start = 0; end = e; value = v } ∷ ps)
           (filler.same e ∙ ap (λ n. inner_parts n (drop d (drop e t))) {x = e + d} {y = 0 + (e + d)}
           (omega arith) ∙ inner_parts-add 0 (e + d) (drop d (drop e t))
-          ∙ ap (map (part_at (e + d))) (sym (parts-busy (drop d (drop e t)) filler.busy))
+          ∙ ap (map (part_at (e + d)))
+          (sym (parts-not_filler (drop d (drop e t)) filler.not_filler))
           ∙ ap (λ u. map (part_at (e + d)) (parts u)) u);
     }
 
--- a first piece that begins with no slash has a byte
+-- the first piece of a string that begins with a byte other than a slash is not empty
 some_first : (t : List ℕ) → 0 < length t → eqb (get_or t 0 0) 47 ≡ false
     → 0 < position_or_len is_slash t
 some_first [] l e = absurd (omega arith)
 some_first (b ∷ t) l e = omega (arith, position_or_len-other b t e)
 
--- a string that is not empty has a first part
+-- a string that is not empty has a first component
 pub splits_first : (t : List ℕ) → 0 < length t → SplitsFirst t
 splits_first t l = by_test (eqb (get_or t 0 0) 47)
     (λ e. splits_at t 1 _ (omega arith) (omega arith) (parts-root t (eqb-true _ 47 e)))
@@ -58,13 +60,13 @@ splits_first t l = by_test (eqb (get_or t 0 0) 47)
     (omega (arith, length-first_piece t, length-take (position_or_len is_slash t) t))
     (parts-name t l e))
 
--- the parts after the first k are those of an end of t
+-- the components after the first k are the components of a suffix of t
 pub record DropsTo (t : List ℕ) (k : ℕ) : Type 0 where
   pub at : ℕ
   pub in_range : at ≤ length t
   pub is : drop k (parts t) ≡ map (part_at at) (parts (drop at t))
 
--- the parts after the first k stand in an end of the string, for any k
+-- for any k, the components after the first k are the components of a suffix of the string
 unfoldable pub drops_to : (t : List ℕ) (k : ℕ) → DropsTo t k
 drops_to t zero = record { at = 0; in_range = omega arith; is = sym (part_at-zero (parts t)) }
 drops_to t (suc k) = by_test (ltb 0 (length t))
@@ -89,7 +91,7 @@ drops_to t (suc k) = by_test (ltb 0 (length t))
           ∙ sym (ap (map (part_at 0)) nil);
     })
 
--- the last part, and the parts before it
+-- the last component, and the components before it
 pub record SplitsLast (t : List ℕ) : Type 0 where
   pub last : Part
   pub len : ℕ
@@ -97,7 +99,7 @@ pub record SplitsLast (t : List ℕ) : Type 0 where
   pub is : parts t ≡ parts (take len t) ++ last ∷ []
   pub ends : EndsInPart (take len t)
 
--- a string that is not empty and ends in a part has a last part
+-- a string that is not empty and ends in a component has a last component
 splits_last : (t : List ℕ) → 0 < length t → EndsInPart t → SplitsLast t
 splits_last t l ends =
     let start = last_start t in
@@ -130,14 +132,14 @@ splits_last t l ends =
       ends = λ l. absurd (omega arith);
     })
 
--- the parts before the last m are those of a beginning of t
+-- the components before the last m are the components of a prefix of t
 pub record TakesTo (t : List ℕ) (m : ℕ) : Type 0 where
   pub len : ℕ
   pub in_range : len ≤ length t
   pub is : take (length (parts t) - m) (parts t) ≡ parts (take len t)
   pub ends : EndsInPart (take len t)
 
--- the parts before the last m are those of a beginning of the string, for any m
+-- for any m, the components before the last m are the components of a prefix of the string
 pub takes_to : (t : List ℕ) (m : ℕ) → EndsInPart t → TakesTo t m
 takes_to t zero ends =
     let all : take (length t) t ≡ t = take_all (length t) t (omega arith) in

@@ -1,4 +1,4 @@
--- The last piece of a string, and its last part.
+-- The last piece of a string, and its last component.
 use Rattle.std.proofs.Common.{◌≡◌, ℕ, zero, suc, ◌+◌, ◌-◌, ◌<◌, true, false, eqb, List, [], ◌∷◌}
 use Rattle.std.proofs.Common.{◌++◌, length, get_or, take, drop, refl, sym, ap, ap₂, ◌∙◌, arith, ◌≤◌}
 use Rattle.std.proofs.Common.{eqb-true, take_all, append-nil, get_or-drop}
@@ -24,8 +24,8 @@ pub record IsLastStart (s : List ℕ) (start : ℕ) : Type 0 where
   pub after_slash : 0 < start → get_or s (start - 1) 0 ≡ 47
   pub no_slash : position_or_len is_slash (drop start s) ≡ length (drop start s)
 
--- a string whose last piece stands behind a slash is what is before the slash, the slash and the
--- piece
+-- a string whose last piece comes after a slash consists of the bytes before the slash, the slash
+-- and the piece
 split_last : (s : List ℕ) (start : ℕ) → IsLastStart s start → 0 < start
     → s ≡ take (start - 1) s ++ 47 ∷ drop start s
 split_last s start h some =
@@ -45,7 +45,7 @@ whole_first s e = (
       (position_or_len is_slash s) s (omega (arith, e)),
 )
 
--- a string that is one piece, which counts, has one inner part
+-- a string that is a single piece, and neither empty nor `.`, has a single inner component
 inner_parts_one : (at : ℕ) (y : List ℕ) → position_or_len is_slash y ≡ length y
     → bytes_eq y [] ≡ false
     → bytes_eq y cur_dir ≡ false
@@ -57,7 +57,7 @@ inner_parts_one at y e some no_dot =
     ∙ ap (λ ps. parts_of_piece at y ++ ps) (inner_parts-nil _) ∙ append-nil (parts_of_piece at y)
     ∙ rw (some, no_dot) refl
 
--- a last piece that counts and stands behind a slash is the last part
+-- a last piece that counts and comes after a slash is the last component
 last_after_slash : (s : List ℕ) (start : ℕ) → IsLastStart s start → 0 < start
     → bytes_eq (drop start s) [] ≡ false → bytes_eq (drop start s) cur_dir ≡ false
     → parts s ≡ parts (take start s) ++ record
@@ -80,7 +80,7 @@ last_after_slash s start h some named no_dot =
     ∙ ap₂ (λ a b. record { start = a; end = b; value = value_of_piece y } ∷ []) from to in
     ap parts is ∙ parts-append x y ∙ ap₂ ◌++◌ (sym (ap parts before)) one
 
--- the last piece of a string that ends in a part counts, if a slash stands before it
+-- the last piece of a string that ends in a component counts, if a slash comes before it
 pub last_counts : (s : List ℕ) (start : ℕ) → IsLastStart s start → 0 < start → start < length s
     → EndsInPart s → (bytes_eq (drop start s) [] ≡ false)
     × (bytes_eq (drop start s) cur_dir ≡ false)
@@ -103,7 +103,7 @@ last_counts s start h some l ends =
           (λ e. e),
     )
 
--- the last piece of a string that ends in a part is its last part, behind those before it
+-- the last piece of a string that ends in a component is its last component, after those before it
 pub last_part : (s : List ℕ) (start : ℕ) → IsLastStart s start → start < length s → EndsInPart s
     → (at : ℕ) × (parts s ≡ parts
     (take start s) ++ record { start = at; end = length s; value = first_value (drop start s) }
@@ -132,7 +132,7 @@ last_part s (suc k) h l ends =
           ∷ []) v,
     )
 
--- a string that ends in a part and in a slash is the root alone
+-- a string that ends in a component and in a slash is only the root
 pub root_alone : (s : List ℕ) → 0 < length s → EndsInPart s → get_or s (length s - 1) 0 ≡ 47
     → parts s ≡ record { start = 0; end = length s; value = RootDir } ∷ []
 root_alone [] l ends e = absurd (omega arith)
@@ -144,7 +144,7 @@ root_alone (b ∷ c ∷ s) l ends e =
     rw (lt-ltb 0 (length t - 1) (omega arith), e) refl in
     absurd (both_ways _ (ends l) hit)
 
--- with one more byte in front, the last piece begins one place further on, or with that byte
+-- if a byte is prepended to a string, the last piece begins one byte further on, or with that byte
 start_more : (b : ℕ) (s : List ℕ) (k : ℕ) → IsLastStart s k → (j : ℕ) × IsLastStart (b ∷ s) j
 start_more b s zero h = by_test (eqb b 47)
     (λ e. (
@@ -175,7 +175,7 @@ start_more b s (suc k) h =
       },
     )
 
--- every string has a last piece, which begins somewhere
+-- every string has a last piece, which begins at some index
 pub last_start : (s : List ℕ) → (k : ℕ) × IsLastStart s k
 last_start [] = (
   0,

@@ -1,4 +1,4 @@
--- The last part of a string, by what it ends with.
+-- The last component of a string, by its last bytes.
 use Rattle.std.proofs.Common.{◌≡◌, ℕ, zero, suc, ◌+◌, ◌-◌, ◌<◌, true, false, ◌||◌, ◌≤◌, take, subst}
 use Rattle.std.proofs.Common.{eqb, ltb, List, [], ◌∷◌, length, get_or, drop, refl, sym, ap}
 use Rattle.std.proofs.Common.{ap₂, ◌∙◌, ⊎_elim, arith, eqb-true, lt-ltb, ltb-true}
@@ -11,30 +11,30 @@ use Rattle.unix_path.proofs.lemmas.steps.LastLemmas.{last_counts}
 pub use Rattle.unix_path.proofs.lemmas.steps.LastLemmas.{IsLastStart}
 use Rattle.unix_bytes.proofs.lemmas.lists.ListLemmas.{by_test}
 use Rattle.unix_path.specs.Parts.{CurDir, ParentDir, Normal, cur_dir, parent_dir, parts}
-use Rattle.unix_path.specs.Scan.{ends_with_parent, EndsInPart, is_trailing}
+use Rattle.unix_path.specs.Scan.{ends_with_parent_dir, EndsInPart, is_trailing}
 use Rattle.unix_path.specs.Steps.{TakesLast}
 use Rattle.unix_path.proofs.lemmas.parts.ValueLemmas.{first_value}
 use Rattle.unix_path.proofs.lemmas.steps.StepLemmas.{takes_last}
 
--- the last piece of a string that ends in a part and isn't `.` is no `.`
+-- a string that ends in a component and isn't `.` has a last piece other than `.`
 no_dot_piece : (s : List ℕ) (start : ℕ) → IsLastStart s start → start < length s → EndsInPart s
     → bytes_eq s cur_dir ≡ false → bytes_eq (drop start s) cur_dir ≡ false
 no_dot_piece s zero h l ends no_dot = no_dot
 no_dot_piece s (suc k) h l ends no_dot = (last_counts s (suc k) h (omega arith) l ends).1
 
--- a last piece of two bytes is the whole string or stands behind a slash
-begins_piece : (s : List ℕ) (start : ℕ) → IsLastStart s start → length s ≡ start + 2
+-- a last piece of two bytes is the whole string or comes after a slash
+is_piece_start : (s : List ℕ) (start : ℕ) → IsLastStart s start → length s ≡ start + 2
     → (eqb (length s) 2 || eqb (get_or s (length s - 3) 0) 47) ≡ true
-begins_piece s zero h n = rw n refl
-begins_piece s (suc k) h n =
+is_piece_start s zero h n = rw n refl
+is_piece_start s (suc k) h n =
     let slash : get_or s (length s - 3) 0 ≡ 47 =
     ap (λ i. get_or s i 0) {x = length s - 3} {y = suc k - 1} (omega (arith, n))
     ∙ h.after_slash (omega arith) in
     by_test (eqb (length s) 2) (λ e. rw e refl) (λ e. rw (e, slash) refl)
 
--- the last piece is no `..` if `ends_with_parent` is false
+-- the last piece isn't `..` if `ends_with_parent_dir` is false
 no_parent_piece : (s : List ℕ) (start : ℕ) → IsLastStart s start → start < length s
-    → ends_with_parent s ≡ false → bytes_eq (drop start s) parent_dir ≡ false
+    → ends_with_parent_dir s ≡ false → bytes_eq (drop start s) parent_dir ≡ false
 no_parent_piece s start h l no_parent =
     by_test (bytes_eq (drop start s) parent_dir)
     (λ e.
@@ -46,35 +46,35 @@ no_parent_piece s start h l no_parent =
     let before : get_or s (length s - 2) 0 ≡ 46 =
     ap (λ i. get_or s i 0) {x = length s - 2} {y = start + 0} (omega (arith, n))
     ∙ sym (get_or-drop start s 0 0) ∙ ap (λ t. get_or t 0 0) two in
-    let hit : ends_with_parent s ≡ true =
-    rw (last, before, begins_piece s start h n, lt-ltb 1 (length s) (omega (arith, n))) refl in
+    let hit : ends_with_parent_dir s ≡ true =
+    rw (last, before, is_piece_start s start h n, lt-ltb 1 (length s) (omega (arith, n))) refl in
     absurd (both_ways _ no_parent hit))
     (λ e. e)
 
--- the last piece of a string that ends in a part is a name, unless it is `.` or `..`
+-- the last piece of a string that ends in a component is a name, unless it is `.` or `..`
 pub last_name : (s : List ℕ) (start : ℕ) → IsLastStart s start → start < length s → EndsInPart s
-    → bytes_eq s cur_dir ≡ false → ends_with_parent s ≡ false
+    → bytes_eq s cur_dir ≡ false → ends_with_parent_dir s ≡ false
     → first_value (drop start s) ≡ Normal (drop start s)
 last_name s start h l ends no_dot no_parent =
     rw (no_dot_piece s start h l ends no_dot, no_parent_piece s start h l no_parent) refl
 
--- it is taken, and then the filler before it
+-- removing a last piece that is a name, and then the filler before it, removes the last component
 pub takes_last_name : (s : List ℕ) (start n : ℕ) → IsLastStart s start → start < length s
-    → EndsInPart s → bytes_eq s cur_dir ≡ false → ends_with_parent s ≡ false → n ≤ start
+    → EndsInPart s → bytes_eq s cur_dir ≡ false → ends_with_parent_dir s ≡ false → n ≤ start
     → parts (take n s) ≡ parts (take start s) → (0 < n → is_trailing s (n - 1) ≡ false)
     → TakesLast s (take n s) (Normal (drop start s))
 takes_last_name s start n h l ends no_dot no_parent before same trimmed =
     subst (TakesLast s (take n s)) (last_name s start h l ends no_dot no_parent)
     (takes_last s start n h l ends before same trimmed)
 
--- a string that ends with `..` has two bytes at least
-pub length-with_parent : (s : List ℕ) → ends_with_parent s ≡ true → 1 < length s
+-- a string that ends with `..` has at least two bytes
+pub length-with_parent : (s : List ℕ) → ends_with_parent_dir s ≡ true → 1 < length s
 length-with_parent s e =
     let all = and_parts (eqb (get_or s (length s - 1) 0) 46) _ e in
     ltb-true _ _ (and_parts (ltb 1 (length s)) _ all.1).0
 
--- the last piece of a string that ends with `..` is that, and begins two bytes before the end
-pub starts_parent : (s : List ℕ) → ends_with_parent s ≡ true
+-- the last piece of a string that ends with `..` is `..`, and begins two bytes before the end
+pub starts_parent : (s : List ℕ) → ends_with_parent_dir s ≡ true
     → IsLastStart s (length s - 2) × (first_value (drop (length s - 2) s) ≡ ParentDir)
 starts_parent s e =
     let n = length s in
@@ -101,7 +101,7 @@ starts_parent s e =
       ap first_value is,
     )
 
--- the last piece of `.` is that, and begins at place 0
+-- the last piece of `.` is `.`, and begins at index 0
 pub starts_dot : (s : List ℕ) → bytes_eq s cur_dir ≡ true
     → IsLastStart s 0 × (first_value (drop 0 s) ≡ CurDir)
 starts_dot s e =

@@ -1,4 +1,4 @@
--- The first part of a string, by what it begins with.
+-- The first component of a string, by its first bytes.
 use Rattle.std.proofs.Common.{◌≡◌, ℕ, ◌+◌, ◌≤◌, ◌<◌, true, false, ◌&&◌, eqb, List, [], ◌∷◌, length}
 use Rattle.std.proofs.Common.{get_or, take, drop, refl, sym, ap, ap₂, ◌∙◌, ⊎_elim, arith, eqb-true}
 use Rattle.std.proofs.Common.{drop-drop, length-drop, map}
@@ -6,8 +6,9 @@ use Rattle.std.specs.List.{position_or_len}
 use Rattle.std.specs.Str.{bytes_eq}
 use Rattle.std.proofs.lemmas.Bool.{or_parts, and_parts, both_ways}
 use Rattle.unix_bytes.proofs.lemmas.lists.ListLemmas.{by_test}
-use Rattle.unix_path.proofs.lemmas.filler.FillerLemmas.{busy_parts, first_piece_dot, filler_from}
-use Rattle.unix_path.proofs.lemmas.filler.FillerLemmas.{is_filler-drop, parts-busy}
+use Rattle.unix_path.proofs.lemmas.filler.FillerLemmas.{not_filler_parts, first_piece_dot}
+use Rattle.unix_path.proofs.lemmas.filler.FillerLemmas.{filler_from}
+use Rattle.unix_path.proofs.lemmas.filler.FillerLemmas.{is_filler-drop, parts-not_filler}
 use Rattle.unix_path.proofs.lemmas.parts.PartLemmas.{parts-name}
 use Rattle.unix_path.proofs.lemmas.parts.PieceLemmas.{first_piece, first_piece-other}
 use Rattle.unix_path.proofs.lemmas.parts.PieceLemmas.{position_or_len-other, position_or_len-slash}
@@ -15,17 +16,17 @@ use Rattle.unix_path.proofs.lemmas.steps.StepLemmas.{takes_first}
 use Rattle.unix_path.specs.Parts.{Value, CurDir, ParentDir, Normal, parent_dir, Part}
 use Rattle.unix_path.specs.Parts.{inner_parts, is_slash, parts, values}
 use Rattle.unix_path.proofs.lemmas.parts.PlaceLemmas.{values-inner_parts}
-use Rattle.unix_path.specs.Scan.{begins_with_parent, is_filler}
+use Rattle.unix_path.specs.Scan.{starts_with_parent_dir, is_filler}
 use Rattle.unix_path.specs.CommonDir.{inner_values}
 use Rattle.unix_path.specs.Steps.{StepsFirst}
 use Rattle.unix_path.proofs.lemmas.parts.ValueLemmas.{first_value}
 
--- the first piece of an empty string, or of one that begins with a slash, has no byte
+-- the first piece of a string that is empty or begins with a slash has no byte
 position_or_len-cut : (s : List ℕ) → get_or s 0 47 ≡ 47 → position_or_len is_slash s ≡ 0
 position_or_len-cut [] e = refl
 position_or_len-cut (b ∷ s) e = position_or_len-slash b s (rw e refl)
 
--- a `.` that a slash or the end follows is the first part
+-- a `.` at the beginning, followed by a slash or the end, is the first component
 parts-leading_dot : (s : List ℕ) → get_or s 0 47 ≡ 47
     → parts (46 ∷ s) ≡ record { start = 0; end = 1; value = CurDir } ∷ inner_parts 1 s
 parts-leading_dot s e =
@@ -35,7 +36,7 @@ parts-leading_dot s e =
     ∙ ap (λ n. record { start = 0; end = n; value = first_value (take n (46 ∷ s)) }
     ∷ inner_parts n (drop n (46 ∷ s))) one
 
--- a `..` that a slash or the end follows is the first part
+-- a `..` at the beginning, followed by a slash or the end, is the first component
 parts-two_dots : (s : List ℕ) → get_or s 0 47 ≡ 47
     → parts (46 ∷ 46 ∷ s) ≡ record { start = 0; end = 2; value = ParentDir } ∷ inner_parts 2 s
 parts-two_dots s e =
@@ -47,7 +48,7 @@ parts-two_dots s e =
     ∙ ap (λ n. record { start = 0; end = n; value = first_value (take n (46 ∷ 46 ∷ s)) }
     ∷ inner_parts n (drop n (46 ∷ 46 ∷ s))) two
 
--- a string that begins with a `.` that counts has it as its first part
+-- a string that begins with a leading `.` has it as its first component
 pub parts-dot_first : (s : List ℕ) → 0 < length s → is_filler s 0 ≡ true
     → eqb (get_or s 0 0) 47 ≡ false
     → parts s ≡ record { start = 0; end = 1; value = CurDir } ∷ inner_parts 1 (drop 1 s)
@@ -64,8 +65,8 @@ one_byte_no_parent : (b : ℕ) → (eqb b 46 && false) ≡ true → ⊥
 one_byte_no_parent b e =
     by_test (eqb b 46) (λ h. both_ways _ (rw h refl) e) (λ h. both_ways _ (rw h refl) e)
 
--- a string that begins with `..` has it as its first part
-pub parts-parent_first : (s : List ℕ) → begins_with_parent s ≡ true
+-- a string that begins with `..` has it as its first component
+pub parts-parent_first : (s : List ℕ) → starts_with_parent_dir s ≡ true
     → parts s ≡ record { start = 0; end = 2; value = ParentDir } ∷ inner_parts 2 (drop 2 s)
 parts-parent_first [] e = cc
 parts-parent_first (b ∷ []) e = absurd (one_byte_no_parent b e)
@@ -75,75 +76,75 @@ parts-parent_first (b ∷ c ∷ s) e =
     ap₂ (λ b c. parts (b ∷ c ∷ s)) (eqb-true b 46 first.0) (eqb-true c 46 second.0)
     ∙ parts-two_dots s (eqb-true _ 47 second.1)
 
--- and its values are that and those of what follows it
-pub values-parent_first : (s : List ℕ) → begins_with_parent s ≡ true
+-- the components of a string that begins with `..` are `..` and the inner components after it
+pub values-parent_first : (s : List ℕ) → starts_with_parent_dir s ≡ true
     → values s ≡ ParentDir ∷ inner_values (drop 2 s)
 unfolding values
 values-parent_first s e = ap (map (λ (p : Part). p.value)) (parts-parent_first s e)
     ∙ ap (λ vs. ParentDir ∷ vs) (values-inner_parts 2 (drop 2 s))
 
--- a string that begins with `..` has two bytes at least
-pub length-parent_first : (s : List ℕ) → begins_with_parent s ≡ true → 2 ≤ length s
+-- a string that begins with `..` has at least two bytes
+pub length-parent_first : (s : List ℕ) → starts_with_parent_dir s ≡ true → 2 ≤ length s
 length-parent_first [] e = cc
 length-parent_first (b ∷ []) e = absurd (one_byte_no_parent b e)
 length-parent_first (b ∷ c ∷ s) e = omega arith
 
--- a string that begins with no filler doesn't begin with a slash
-pub busy_no_slash : (s : List ℕ) → is_filler s 0 ≡ false → eqb (get_or s 0 0) 47 ≡ false
-busy_no_slash s e = (or_parts (eqb (get_or s 0 0) 47) _ e).0
+-- a string that doesn't begin with filler doesn't begin with a slash
+pub not_filler_no_slash : (s : List ℕ) → is_filler s 0 ≡ false → eqb (get_or s 0 0) 47 ≡ false
+not_filler_no_slash s e = (or_parts (eqb (get_or s 0 0) 47) _ e).0
 
--- whether the first piece is `..`, by its first three bytes
+-- the first three bytes determine whether the first piece is `..`
 first_piece_parent : (s : List ℕ) → eqb (get_or s 0 0) 47 ≡ false
-    → bytes_eq (first_piece s) parent_dir ≡ begins_with_parent s
+    → bytes_eq (first_piece s) parent_dir ≡ starts_with_parent_dir s
 first_piece_parent [] e = refl
 first_piece_parent (b ∷ s) e =
     ap (λ p. bytes_eq p parent_dir) (first_piece-other b s e)
     ∙ ap (λ t. eqb b 46 && t) (first_piece_dot s)
 
--- a first piece that counts and isn't `..` is a name
+-- a first piece that is neither empty nor `.` nor `..` is a name
 pub first_value-name : (s : List ℕ) → 0 < length s → is_filler s 0 ≡ false
-    → begins_with_parent s ≡ false → first_value (first_piece s) ≡ Normal (first_piece s)
-first_value-name s l busy e =
-    let is = busy_parts s l busy in
+    → starts_with_parent_dir s ≡ false → first_value (first_piece s) ≡ Normal (first_piece s)
+first_value-name s l not_filler e =
+    let is = not_filler_parts s l not_filler in
     let no_parent : bytes_eq (first_piece s) parent_dir ≡ false =
     first_piece_parent s is.0 ∙ e in
     rw (is.1, no_parent) refl
 
--- the first part ends at e and has the value v, and the filler behind it ends at n
+-- the first component is v and ends at e, and the filler after it ends at n
 pub record IsFirst (t : List ℕ) (e n : ℕ) (v : Value) : Type 0 where
   pub in_range : n ≤ length t
   pub parts_are : parts t ≡ record { start = 0; end = e; value = v } ∷ inner_parts n (drop n t)
-  pub busy : n < length t → is_filler t n ≡ false
+  pub not_filler : n < length t → is_filler t n ≡ false
 
--- so it is if filler of d bytes stands behind it
+-- `IsFirst` holds if the first component ends at e, and d bytes of filler follow it
 pub is_first : (t : List ℕ) (e d : ℕ) (v : Value) → e ≤ length t
     → parts t ≡ record { start = 0; end = e; value = v } ∷ inner_parts e (drop e t)
     → d ≤ length (drop e t)
     → inner_parts e (drop e t) ≡ inner_parts (e + d) (drop d (drop e t))
     → (d < length (drop e t) → is_filler (drop e t) d ≡ false) → IsFirst t e (e + d) v
-is_first t e d v l first m filler busy =
+is_first t e d v l first m filler not_filler =
     let is = drop-drop d e t in
     let size = length-drop e t in
     record {
       in_range = omega arith;
       parts_are = first ∙ ap (λ ps. record { start = 0; end = e; value = v } ∷ ps)
           (filler ∙ ap (inner_parts (e + d)) is);
-      busy = λ more. sym (is_filler-drop t (e + d)) ∙ ap (λ u. is_filler u 0) (sym is)
-          ∙ is_filler-drop (drop e t) d ∙ busy (omega arith);
+      not_filler = λ more. sym (is_filler-drop t (e + d)) ∙ ap (λ u. is_filler u 0) (sym is)
+          ∙ is_filler-drop (drop e t) d ∙ not_filler (omega arith);
     }
 
--- a step over it takes that part
+-- a step over n bytes takes the first component
 pub steps_first : (t : List ℕ) (e n : ℕ) (v : Value) → IsFirst t e n v → StepsFirst t n v
 unfolding values
 steps_first t e n v h =
     let u = drop n t in
     let next : 0 < length u → is_filler u 0 ≡ false =
-    λ some. is_filler-drop t n ∙ h.busy (omega (arith, length-drop n t)) in
+    λ some. is_filler-drop t n ∙ h.not_filler (omega (arith, length-drop n t)) in
     record {
       in_range = h.in_range;
       value = ap (map (λ p. p.value)) h.parts_are
           ∙ ap (λ vs. v ∷ vs) (values-inner_parts n u
-          ∙ ap (map (λ p. p.value)) (sym (parts-busy u next)));
+          ∙ ap (map (λ p. p.value)) (sym (parts-not_filler u next)));
       takes = λ ends. takes_first t e n v ends h.in_range h.parts_are next;
-      busy = next;
+      not_filler = next;
     }

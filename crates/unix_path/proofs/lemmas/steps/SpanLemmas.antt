@@ -1,4 +1,4 @@
--- Where the parts of a string begin and end.
+-- Where the components of a string begin and end.
 use Rattle.std.proofs.Common.{◌≡◌, ℕ, ◌+◌, ◌-◌, ◌≤◌, ◌<◌, eqb, ltb, List, [], ◌∷◌, ◌++◌, length}
 use Rattle.std.proofs.Common.{get_or, take, drop, map, refl, sym, ap, ap₂, ◌∙◌, arith, eqb-true}
 use Rattle.std.proofs.Common.{take_all, ltb-true, ltb-false, length-take-le, subst, length-append}
@@ -12,7 +12,7 @@ use Rattle.unix_path.specs.Parts.{Part, Value, parts}
 use Rattle.unix_path.specs.Rest.{last_end, rest, span_of}
 use Rattle.unix_path.specs.Scan.{EndsInPart}
 
--- some parts with one more behind them end where that one does
+-- after a component is appended, the components end where the appended component ends
 last_end-append : (p : Part) (ps : List Part) (q : Part) → last_end p (ps ++ q ∷ []) ≡ q.end
 last_end-append p [] q = refl
 last_end-append p (r ∷ ps) q = last_end-append r ps q
@@ -21,7 +21,7 @@ pub parts_end-append : (ps : List Part) (q : Part) → parts_end (ps ++ q ∷ []
 parts_end-append [] q = refl
 parts_end-append (p ∷ ps) q = last_end-append p ps q
 
--- the last part of a string that ends in a part ends where the string does
+-- the last component of a string that ends in a component ends where the string does
 pub parts_end-whole : (s : List ℕ) → EndsInPart s → parts_end (parts s) ≡ length s
 parts_end-whole s ends =
     let at = last_start s in
@@ -39,7 +39,7 @@ parts_end-whole s ends =
     let size : length s ≡ 0 = omega (arith, ltb-false _ _ none) in
     ap parts_end (parts-none s size) ∙ sym size))
 
--- parts of which the first begins at place 0 span the string up to the end of the last
+-- components whose first begins at index 0 span the string up to the end of the last
 from_zero : (t : List ℕ) {all : List Part} {v : Value} {e : ℕ} {ps : List Part}
     → all ≡ record { start = 0; end = e; value = v } ∷ ps → span_of t all ≡ take (parts_end all) t
 from_zero t {v = v} {e = e} {ps = ps} is =
@@ -48,7 +48,7 @@ from_zero t {v = v} {e = e} {ps = ps} is =
     {y = last_end (record { start = 0; end = e; value = v }) ps} (omega arith)
     ∙ ap (λ ps. take (parts_end ps) t) (sym is)
 
--- all parts of a string span it from its first byte on
+-- all components of a string span it from its first byte to the end of the last component
 pub span-parts : (t s : List ℕ) → span_of t (parts s) ≡ take (parts_end (parts s)) t
 span-parts t s = by_test (ltb 0 (length s))
     (λ some. by_test (eqb (get_or s 0 0) 47)
@@ -58,21 +58,21 @@ span-parts t s = by_test (ltb 0 (length s))
     let is = parts-none s (omega (arith, ltb-false _ _ none)) in
     ap (span_of t) is ∙ ap (λ ps. take (parts_end ps) t) (sym is))
 
--- if no part is taken, what is left ends where the last part ends
+-- if no component is removed, the rest ends where the last component ends
 pub rest-whole : (s : List ℕ) → rest s 0 0 ≡ take (parts_end (parts s)) s
 unfolding rest
 rest-whole s = ap (span_of s) (take_all (length (parts s) - (0 + 0)) (parts s) (omega arith))
     ∙ span-parts s s
 
--- a beginning of a string that has all its parts and ends in one is what is left if no part is
--- taken
+-- a prefix of a string that has all its components and ends in one is the rest if no component is
+-- removed
 pub rest-trimmed : (s : List ℕ) (n : ℕ) → n ≤ length s → parts (take n s) ≡ parts s
     → EndsInPart (take n s) → rest s 0 0 ≡ take n s
 rest-trimmed s n l same ends = rest-whole s
     ∙ ap (λ k. take k s) (ap parts_end (sym same) ∙ parts_end-whole (take n s) ends
     ∙ length-take-le n s l)
 
--- before the last part the others are left
+-- the rest before the last component spans the components before it
 pub rest-last : (s : List ℕ) (ps : List Part) (p : Part) → parts s ≡ ps ++ p ∷ []
     → rest s 0 1 ≡ span_of s ps
 unfolding rest
@@ -84,17 +84,18 @@ rest-last s ps p e =
     ∙ ap (span_of s) (take-append-le (length ps) ps (p ∷ []) (omega arith)
     ∙ take_all (length ps) ps (omega arith))
 
--- a string that ends in a part is what is left of it
+-- a string that ends in a component is its own rest
 pub rest-ended : (s : List ℕ) → EndsInPart s → rest s 0 0 ≡ s
 rest-ended s ends =
     let all = take_all (length s) s (omega arith) in
     rest-trimmed s (length s) (omega arith) (ap parts all) (subst EndsInPart (sym all) ends) ∙ all
 
--- w stands in s from `at` on
+-- s contains w at index `at`
 abbrev pub StandsAt : List ℕ → ℕ → List ℕ → Type 0
 StandsAt s at w = take (length w) (drop at s) ≡ w
 
--- parts that span all of w span it in s, too, if w stands in s
+-- if components span all of w, and s contains w at index `at`, the components moved by `at` span w
+-- in s
 span_of-part_at : (s : List ℕ) (at : ℕ) (ps : List Part) (w : List ℕ)
     → span_of w ps ≡ take (parts_end ps) w → parts_end ps ≡ length w → StandsAt s at w
     → (ps ≡ [] → w ≡ []) → ((p : Part) (qs : List Part) → ps ≡ p ∷ qs → p.start ≡ 0)
@@ -106,7 +107,7 @@ span_of-part_at s at (p ∷ ps) w span end stands none first =
     omega (arith, last_end-part_at at p ps, first p ps refl) in
     ap₂ (λ n i. take n (drop i s)) size start ∙ stands
 
--- the first part of a string begins at its first byte
+-- the first component of a string begins at its first byte
 first_start : (s : List ℕ) (p : Part) (qs : List Part) → parts s ≡ p ∷ qs → p.start ≡ 0
 first_start s p qs e = by_test (ltb 0 (length s))
     (λ some. by_test (eqb (get_or s 0 0) 47)
@@ -119,7 +120,8 @@ first_start s p qs e = by_test (ltb 0 (length s))
     start_of : {p q : Part} {ps qs : List Part} → p ∷ ps ≡ q ∷ qs → p.start ≡ q.start
     start_of h = cc
 
--- if w stands in s, the parts of w span it there
+-- if s contains w at index `at`, and w ends in a component, the components of w moved by `at` span
+-- w in s
 pub span_at : (s w : List ℕ) (at : ℕ) → StandsAt s at w → EndsInPart w
     → span_of s (map (part_at at) (parts w)) ≡ w
 span_at s w at stands ends =
@@ -127,14 +129,14 @@ span_at s w at stands ends =
     span_of-part_at s at (parts w) w (span-parts w w) end stands
     (λ none. nil_from_length w (sym end ∙ ap parts_end none)) (first_start w)
 
--- the first `len` bytes of s have all its parts and end in one
+-- the first `len` bytes of s have all its components and end in a component
 pub record TrimsEnd (s : List ℕ) : Type 0 where
   pub len : ℕ
   pub in_range : len ≤ length s
   pub same : parts (take len s) ≡ parts s
   pub ends : EndsInPart (take len s)
 
--- every string can lose the filler at its end
+-- every string can be cut before the filler at its end
 pub trims_end : (s : List ℕ) → TrimsEnd s
 trims_end s =
     let trim = trims_to s (length s) (omega arith) in
@@ -146,7 +148,7 @@ trims_end s =
       ends = EndsInPart-take s trim.len trim.in_range trim.ends;
     }
 
--- a fresh cursor's rest ends where the last part ends
+-- if no component is removed, the length of the rest is the index where the last component ends
 pub length-rest_whole : (s : List ℕ) → length (rest s 0 0) ≡ parts_end (parts s)
 length-rest_whole s =
     let trim = trims_end s in

@@ -1,9 +1,9 @@
--- One part is taken, in front or behind.
+-- Removing one component, at either end.
 use Rattle.std.proofs.Common.{◌≡◌, ℕ, ◌-◌, ◌≤◌, ◌<◌, false, List, [], ◌∷◌, ◌++◌, length}
 use Rattle.std.proofs.Common.{get_or, take, drop, map, refl, sym, ap, ◌∙◌, arith, take_all}
 use Rattle.std.proofs.Common.{length-drop, length-take-le}
 use Rattle.std.proofs.lemmas.List.{map-append}
-use Rattle.unix_path.proofs.lemmas.filler.FillerLemmas.{inner_parts_busy, parts-busy}
+use Rattle.unix_path.proofs.lemmas.filler.FillerLemmas.{inner_parts_not_filler, parts-not_filler}
 use Rattle.unix_path.proofs.lemmas.steps.LastLemmas.{last_part, root_alone, IsLastStart}
 use Rattle.unix_path.proofs.lemmas.parts.PartLemmas.{parts-nil}
 use Rattle.unix_path.proofs.lemmas.parts.PieceLemmas.{inner_parts-nil}
@@ -16,49 +16,52 @@ use Rattle.unix_path.specs.Rest.{rest, span_of}
 use Rattle.unix_path.specs.Scan.{is_filler, is_trailing, EndsInPart}
 use Rattle.unix_path.specs.Steps.{TakesFirst, TakesLast}
 
--- after the first part the others are left
+-- the rest after the first component spans the components after it
 rest-first : (s : List ℕ) (p : Part) (ps : List Part) → parts s ≡ p ∷ ps
     → rest s 1 0 ≡ span_of s ps
 unfolding rest
 rest-first s p ps e = rw e (ap (span_of s) (take_all (length (p ∷ ps) - 1) ps (omega arith)))
 
--- the parts of u, which is t from place i on, span all of u
-span_busy : (t u : List ℕ) (i : ℕ) → drop i t ≡ u → i ≤ length t
+-- the components of u, which is t without its first i bytes, span all of u
+span_not_filler : (t u : List ℕ) (i : ℕ) → drop i t ≡ u → i ≤ length t
     → (0 < length u → is_filler u 0 ≡ false)
     → (0 < length u → parts_end (inner_parts i u) ≡ length t)
     → span_of t (inner_parts i u) ≡ u
-span_busy t [] i is l busy end = ap (span_of t) (inner_parts-nil i)
-span_busy t (b ∷ u) i is l busy end =
-    let first = inner_parts_busy i (b ∷ u) (omega arith) (busy (omega arith)) in
+span_not_filler t [] i is l not_filler end = ap (span_of t) (inner_parts-nil i)
+span_not_filler t (b ∷ u) i is l not_filler end =
+    let first = inner_parts_not_filler i (b ∷ u) (omega arith) (not_filler (omega arith)) in
     let reaches = end (omega arith) in
     let n : length (drop i t) ≡ length t - i = length-drop i t in
     ap (span_of t) first ∙ ap (λ n. take (n - i) (drop i t)) (sym (ap parts_end first) ∙ reaches)
     ∙ take_all (length t - i) (drop i t) (omega arith) ∙ is
 
--- the first part is taken, which ends at e, and the filler behind it, which ends at n
+-- removing the first n bytes removes the first component, if it ends at e and the filler after it
+-- ends at n
 pub takes_first : (t : List ℕ) (e n : ℕ) (v : Value) → EndsInPart t → n ≤ length t
     → parts t ≡ record { start = 0; end = e; value = v } ∷ inner_parts n (drop n t)
     → (0 < length (drop n t) → is_filler (drop n t) 0 ≡ false) → TakesFirst t (drop n t) v
 unfolding values
-takes_first t e n v ends l all busy =
+takes_first t e n v ends l all not_filler =
     let u = drop n t in
     let end : 0 < length u
-    → parts_end (inner_parts n u) ≡ length t = λ some. end_of n u some (busy some) e v
+    → parts_end (inner_parts n u) ≡ length t = λ some. end_of n u some (not_filler some) e v
     ∙ sym (ap parts_end all) ∙ parts_end-whole t ends in
     record {
       value = ap (map (λ p. p.value)) all
           ∙ ap (λ vs. v ∷ vs) (values-inner_parts n u
-          ∙ ap (map (λ p. p.value)) (sym (parts-busy u busy)));
-      rest = rest-first t _ _ all ∙ span_busy t u n refl l busy end;
+          ∙ ap (map (λ p. p.value)) (sym (parts-not_filler u not_filler)));
+      rest = rest-first t _ _ all ∙ span_not_filler t u n refl l not_filler end;
       ends = EndsInPart-drop t n l ends;
     }
   where
     end_of : (i : ℕ) (u : List ℕ) → 0 < length u → is_filler u 0 ≡ false → (e : ℕ) (v : Value)
         → parts_end (inner_parts i u) ≡ parts_end
         (record { start = 0; end = e; value = v } ∷ inner_parts i u)
-    end_of i u some busy e v = let first = inner_parts_busy i u some busy in rw first refl
+    end_of i u some not_filler e v =
+        let first = inner_parts_not_filler i u some not_filler in rw first refl
 
--- the last part is taken, and what is left ends in a part
+-- cutting t to its first n bytes removes the last component, if they have all other components and
+-- end in a component
 takes_last_to : (t : List ℕ) (n at to : ℕ) (v : Value) → n ≤ length t
     → parts t ≡ parts (take n t) ++ record { start = at; end = to; value = v } ∷ []
     → EndsInPart (take n t) → TakesLast t (take n t) v
@@ -73,7 +76,7 @@ takes_last_to t n at to v l all ends =
       ends = ends;
     }
 
--- the last piece is taken, and then the filler before it
+-- removing the last piece, and then the filler before it, removes the last component
 pub takes_last : (t : List ℕ) (start n : ℕ) → IsLastStart t start → start < length t → EndsInPart t
     → n ≤ start → parts (take n t) ≡ parts (take start t) → (0 < n → is_trailing t (n - 1) ≡ false)
     → TakesLast t (take n t) (first_value (drop start t))
@@ -84,7 +87,7 @@ takes_last t start n h l ends m same trimmed =
     { start = last.0; end = length t; value = first_value (drop start t) } ∷ []) (sym same))
     (EndsInPart-take t n (omega arith) trimmed)
 
--- the root is taken from a string that ends in a part and in a slash
+-- from a string that ends in a component and in a slash, the root is removed, and nothing remains
 pub takes_root : (t : List ℕ) → 0 < length t → EndsInPart t → get_or t (length t - 1) 0 ≡ 47
     → TakesLast t (take 0 t) RootDir
 takes_root t l ends e =

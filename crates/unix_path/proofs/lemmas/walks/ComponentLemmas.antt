@@ -1,4 +1,4 @@
--- Components and their values.
+-- The type `Component`, and components as values.
 use Rattle.std.proofs.Common.{◌≡◌, List, ℕ, [], ◌∷◌, ◌++◌, Some, None, refl, sym, ap, ◌∙◌}
 use Rattle.unix_bytes.specs.declared.bytes.UnixStr.{UnixStr}
 use Rattle.unix_path.specs.Views.{value_of}
@@ -10,7 +10,7 @@ use Rattle.unix_path.specs.declared.cursor.component.Component.{Component}
 use Rattle.unix_path.specs.declared.cursor.component.Component.TheVariants.{RootDir, CurDir}
 use Rattle.unix_path.specs.declared.cursor.component.Component.TheVariants.{ParentDir, Normal}
 
--- a component that is no `Normal` has no name
+-- a `Component` that is not `Normal` has no name
 name_of-other : (x : Component) → ((name : UnixStr) → x ≡ Normal name → ⊥)
     → None ≡ name_of (value_of x)
 name_of-other RootDir h = refl
@@ -18,21 +18,21 @@ name_of-other CurDir h = refl
 name_of-other ParentDir h = refl
 name_of-other (Normal name) h = absurd (h name refl)
 
--- the value of a component that isn't `RootDir` isn't the root
+-- a `Component` that isn't `RootDir` isn't the root as a value
 pub value_of-other : (x : Component) → (x ≡ RootDir → ⊥) → value_of x ≡ parts.RootDir → ⊥
 value_of-other RootDir h e = h refl
 value_of-other CurDir h e = cc
 value_of-other ParentDir h e = cc
 value_of-other (Normal name) h e = cc
 
--- the last component tells the file name
+-- the last component determines the file name
 pub file_name_of-normal : {x : Component} {name : UnixStr} (s w : List ℕ)
     → values s ≡ values w ++ value_of x ∷ [] → x ≡ Normal name
     → Some name.bytes.now ≡ file_name_of (values s)
 file_name_of-normal {x} s w last is =
     ap (λ x. name_of (value_of x)) (sym is) ∙ file_name_of-push s w (value_of x) last
 
--- if the last component is no `Normal`, there is no file name
+-- if the last component is not `Normal`, there is no file name
 pub file_name_of-other : (s w : List ℕ) (x : Component)
     → values s ≡ values w ++ value_of x ∷ [] → ((name : UnixStr) → x ≡ Normal name → ⊥)
     → None ≡ file_name_of (values s)

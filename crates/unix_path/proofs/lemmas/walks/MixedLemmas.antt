@@ -1,4 +1,4 @@
--- What calls at both ends of a walk, mixed in any order, give and leave.
+-- What calls at both ends of a walk, mixed in any order, return and leave.
 use Rattle.std.proofs.Common.{◌≡◌, ℕ, ◌+◌, List, [], ◌∷◌, ◌++◌, length, map, reverse, Option, None}
 use Rattle.std.proofs.Common.{Some, sym, ap, ap₂, ◌∙◌, arith, append-nil, append_assoc}
 use Rattle.std.proofs.Common.{length-append}
@@ -12,59 +12,60 @@ use Rattle.unix_path.proofs.lemmas.parts.PartLemmas.{values-none}
 use Rattle.unix_path.proofs.lemmas.rests.RestLemmas.{rest-rest}
 use Rattle.unix_path.specs.CallsMixed.{GivesMixed}
 
-module _ {S A V : Type 0} (shows : A → V) (left : S → List V) where
-  -- what a call in front gave and left is what was left before it
-  first_taken : (s t : S) (item : Option A) → YieldsFirstBy shows left s item t
-      → map shows (option_to_list item) ++ left t ≡ left s
+module _ {S A V : Type 0} (shows : A → V) (pending : S → List V) where
+  -- what a call of `next` returned, and what remains after it, is what remained before
+  first_taken : (s t : S) (item : Option A) → YieldsFirstBy shows pending s item t
+      → map shows (option_to_list item) ++ pending t ≡ pending s
   first_taken s t None h = h.1 ∙ sym h.0
   first_taken s t (Some x) h = sym h
 
-  -- what a call behind left and gave is what was left before it
-  last_taken : (s t : S) (item : Option A) → YieldsLastBy shows left s item t
-      → left t ++ reverse (map shows (option_to_list item)) ≡ left s
-  last_taken s t None h = append-nil (left t) ∙ h.1 ∙ sym h.0
+  -- what remains after a call of `next_back`, and what it returned, is what remained before
+  last_taken : (s t : S) (item : Option A) → YieldsLastBy shows pending s item t
+      → pending t ++ reverse (map shows (option_to_list item)) ≡ pending s
+  last_taken s t None h = append-nil (pending t) ∙ h.1 ∙ sym h.0
   last_taken s t (Some x) h = sym h
 
-module _ {S A V : Type 0} (shows : A → V) (left : S → List V)
+module _ {S A V : Type 0} (shows : A → V) (pending : S → List V)
     (next next_back : S → Option A → S → Type 0)
-    (first : (s t : S) (item : Option A) → next s item t → YieldsFirstBy shows left s item t)
-    (last : (s t : S) (item : Option A) → next_back s item t → YieldsLastBy shows left s item t)
+    (first : (s t : S) (item : Option A) → next s item t → YieldsFirstBy shows pending s item t)
+    (last : (s t : S) (item : Option A) → next_back s item t → YieldsLastBy shows pending s item t)
   where
-    -- however the calls are mixed, what was given at both ends and what is left are what was left
-    -- before
-    pub ends_meet : (old new : S) (front behind : List A)
-        → GivesMixed next next_back old front behind new
-        → map shows front ++ left new ++ reverse (map shows behind) ≡ left old
-    ends_meet old new front behind GivesMixed.start = append-nil (left old)
-    ends_meet old new front behind (GivesMixed.front {xs} {ys} {s} {t} item calls call) =
+    -- however the calls are mixed, the items that `next` returned, what remains, and the items that
+    -- `next_back` returned, in reverse, are what remained before
+    pub ends_meet : (old new : S) (front at_back : List A)
+        → GivesMixed next next_back old front at_back new
+        → map shows front ++ pending new ++ reverse (map shows at_back) ≡ pending old
+    ends_meet old new front at_back GivesMixed.start = append-nil (pending old)
+    ends_meet old new front at_back (GivesMixed.front {xs} {ys} {s} {t} item calls call) =
         let back = reverse (map shows ys) in
-        ap (λ f. f ++ left t ++ back) (map-append shows xs (option_to_list item))
+        ap (λ f. f ++ pending t ++ back) (map-append shows xs (option_to_list item))
         ∙ ap (λ l. l ++ back)
-        (append_assoc (map shows xs) (map shows (option_to_list item)) (left t)
-        ∙ ap (λ l. map shows xs ++ l) (first_taken shows left s t item (first s t item call)))
+        (append_assoc (map shows xs) (map shows (option_to_list item)) (pending t)
+        ∙ ap (λ l. map shows xs ++ l) (first_taken shows pending s t item (first s t item call)))
         ∙ ends_meet old s xs ys calls
-    ends_meet old new front behind (GivesMixed.behind {xs} {ys} {s} {t} item calls call) =
+    ends_meet old new front at_back (GivesMixed.at_back {xs} {ys} {s} {t} item calls call) =
         let begun = map shows xs in
         let back = reverse (map shows ys) in
         let given = reverse (map shows (option_to_list item)) in
-        ap (λ b. begun ++ left t ++ reverse b) (map-append shows ys (option_to_list item))
-        ∙ ap (λ b. begun ++ left t ++ b)
+        ap (λ b. begun ++ pending t ++ reverse b) (map-append shows ys (option_to_list item))
+        ∙ ap (λ b. begun ++ pending t ++ b)
         (reverse-append (map shows ys) (map shows (option_to_list item)))
-        ∙ sym (append_assoc (begun ++ left t) given back)
-        ∙ ap (λ l. l ++ back) (append_assoc begun (left t) given
-        ∙ ap (λ l. begun ++ l) (last_taken shows left s t item (last s t item call)))
+        ∙ sym (append_assoc (begun ++ pending t) given back)
+        ∙ ap (λ l. l ++ back) (append_assoc begun (pending t) given
+        ∙ ap (λ l. begun ++ l) (last_taken shows pending s t item (last s t item call)))
         ∙ ends_meet old s xs ys calls
 
--- as many parts as calls gave are taken, and no others
-module _ {S A V : Type 0} (shows : A → V) (left : S → List V) (bytes : S → List ℕ)
+-- for each item that a call returned, one component is removed, and no other component
+module _ {S A V : Type 0} (shows : A → V) (pending : S → List V) (bytes : S → List ℕ)
     (next next_back : S → Option A → S → Type 0)
-    (first : (s t : S) (item : Option A) → next s item t → YieldsFirstBy shows left s item t)
-    (last : (s t : S) (item : Option A) → next_back s item t → YieldsLastBy shows left s item t)
+    (first : (s t : S) (item : Option A) → next s item t → YieldsFirstBy shows pending s item t)
+    (last : (s t : S) (item : Option A) → next_back s item t → YieldsLastBy shows pending s item t)
     (first_rest : (s t : S) (item : Option A) → next s item t → bytes t ≡ rest (bytes s) 1 0)
     (last_rest : (s t : S) (item : Option A) → next_back s item t → bytes t ≡ rest (bytes s) 0 1)
-    (whole : (s : S) → bytes s ≡ rest (bytes s) 0 0) (none : (s : S) → left s ≡ [] → bytes s ≡ [])
+    (whole : (s : S) → bytes s ≡ rest (bytes s) 0 0)
+    (none : (s : S) → pending s ≡ [] → bytes s ≡ [])
   where
-    -- a call in front takes a part, or none if none is left
+    -- a call of `next` removes a component, or none if none remains
     after_first : (u : List ℕ) (m : ℕ) (xs : List A) (s t : S) (item : Option A)
         → bytes s ≡ rest u (length xs) m → next s item t
         → bytes t ≡ rest u (length (xs ++ option_to_list item)) m
@@ -76,7 +77,7 @@ module _ {S A V : Type 0} (shows : A → V) (left : S → List V) (bytes : S →
         ∙ ap₂ (rest u) (sym (length-append xs (x ∷ [])))
         (let zero : m + 0 ≡ m = omega arith in zero)
 
-    -- and so does a call behind
+    -- a call of `next_back` removes a component, or none if none remains
     after_last : (u : List ℕ) (k : ℕ) (ys : List A) (s t : S) (item : Option A)
         → bytes s ≡ rest u k (length ys) → next_back s item t
         → bytes t ≡ rest u k (length (ys ++ option_to_list item))
@@ -88,16 +89,17 @@ module _ {S A V : Type 0} (shows : A → V) (left : S → List V) (bytes : S →
         ∙ ap₂ (rest u) (let zero : k + 0 ≡ k = omega arith in zero)
         (sym (length-append ys (x ∷ [])))
 
-    -- what is left is the rest after as many parts at both ends as were given
-    pub rest_between : (old new : S) (front behind : List A)
-        → GivesMixed next next_back old front behind new
-        → bytes new ≡ rest (bytes old) (length front) (length behind)
-    rest_between old new front behind GivesMixed.start = whole old
-    rest_between old new front behind (GivesMixed.front {xs} {ys} {s} {t} item calls call) =
+    -- what remains is the rest without one leading component for each item that `next` returned,
+    -- and one trailing component for each item that `next_back` returned
+    pub rest_between : (old new : S) (front at_back : List A)
+        → GivesMixed next next_back old front at_back new
+        → bytes new ≡ rest (bytes old) (length front) (length at_back)
+    rest_between old new front at_back GivesMixed.start = whole old
+    rest_between old new front at_back (GivesMixed.front {xs} {ys} {s} {t} item calls call) =
         after_first (bytes old) (length ys) xs s t item (rest_between old s xs ys calls) call
-    rest_between old new front behind (GivesMixed.behind {xs} {ys} {s} {t} item calls call) =
+    rest_between old new front at_back (GivesMixed.at_back {xs} {ys} {s} {t} item calls call) =
         after_last (bytes old) (length xs) ys s t item (rest_between old s xs ys calls) call
 
--- without values a walk stands for no byte
+-- if no components remain, the rest of a walk has no bytes
 pub none-cursor_rest : (c : Components) → cursor_values c ≡ [] → cursor_rest c ≡ []
 none-cursor_rest c none = values-none (cursor_rest c) none

@@ -1,4 +1,4 @@
--- What stands between two places of a string, as its parts are taken.
+-- The range between two indices of a string, as its components are removed.
 use Rattle.std.proofs.Common.{◌≡◌, ℕ, ◌+◌, ◌-◌, ◌≤◌, ◌<◌, Bool, true, false, ◌&&◌, ◌||◌, eqb}
 use Rattle.std.proofs.Common.{ltb, List, [], ◌∷◌, ◌++◌, length, get_or, take, drop, map, refl, sym}
 use Rattle.std.proofs.Common.{ap, subst, ◌∙◌, arith, drop-drop, take-take, eqb-true}
@@ -22,25 +22,25 @@ use Rattle.unix_path.proofs.lemmas.steps.SpanLemmas.{parts_end-whole}
 use Rattle.unix_path.proofs.lemmas.parts.ValueLemmas.{first_value}
 use Rattle.unix_path.proofs.lemmas.parts.PlaceLemmas.{parts_end}
 
--- what stands from a to b, without its first n bytes, stands from a + n to b
+-- the range from a to b, without its first n bytes, is the range from a + n to b
 range-drop : (s : List ℕ) (a b n : ℕ) → n ≤ b - a
     → drop n (slice_range s a b) ≡ slice_range s (a + n) b
 range-drop s a b n l =
     ap (λ k. drop n (take k (drop a s))) {x = b - a} {y = n + (b - (a + n))} (omega arith)
     ∙ drop-take n (b - (a + n)) (drop a s) ∙ ap (take (b - (a + n))) (drop-drop n a s)
 
--- the first n bytes of what stands from a to b stand from a to a + n
+-- the first n bytes of the range from a to b are the range from a to a + n
 range-take : (s : List ℕ) (a b n : ℕ) → n ≤ b - a
     → take n (slice_range s a b) ≡ slice_range s a (a + n)
 range-take s a b n l =
     take-take n (b - a) (drop a s) l
     ∙ ap (λ k. take k (drop a s)) {x = n} {y = a + n - a} (omega arith)
 
--- what stands from 0 to n are the first n bytes
+-- the range from 0 to n is the first n bytes
 pub range-zero : (s : List ℕ) (n : ℕ) → slice_range s 0 n ≡ take n s
 range-zero s n = ap (λ k. take k s) {x = n - 0} {y = n} (omega arith)
 
--- whether a root or a `.` comes first
+-- true if a root or a `.` comes first
 abbrev lead_first : List Value → Bool
 lead_first (RootDir ∷ vs) = true
 lead_first (CurDir ∷ vs) = true
@@ -61,23 +61,23 @@ is_filler-first (b ∷ s) = by_test (eqb b 47)
         (λ e. rw e refl)
         (λ e. by_test (bytes_eq p parent_dir) (λ f. rw (e, f) refl) (λ f. rw (e, f) refl))
 
--- strings with the same parts begin alike
+-- two strings with the same components both begin with filler, or neither does
 pub is_filler-same : (s t : List ℕ) → parts s ≡ parts t → is_filler s 0 ≡ is_filler t 0
 unfolding values
 is_filler-same s t e = is_filler-first s ∙ ap (λ ps. lead_first (map (λ p. p.value) ps)) e
     ∙ sym (is_filler-first t)
 
-pub not_filler : (u : List ℕ) → (0 < length u → is_filler u 0 ≡ false) → false ≡ is_filler u 0
-not_filler [] h = refl
-not_filler (b ∷ u) h = sym (h (omega arith))
+pub first_not_filler : (u : List ℕ) → (0 < length u → is_filler u 0 ≡ false) → false ≡ is_filler u 0
+first_not_filler [] h = refl
+first_not_filler (b ∷ u) h = sym (h (omega arith))
 
--- the first part is taken: what is left begins n bytes further
+-- removing the first component from the range from a to b leaves the range from a + n to b
 pub record StepsForward (s : List ℕ) (a b n : ℕ) (v : Value) : Type 0 where
   pub in_order : a + n ≤ b
   pub takes : TakesFirst (slice_range s a b) (slice_range s (a + n) b) v
   pub lead : false ≡ is_filler (slice_range s (a + n) b) 0
 
--- a step over the first part of what stands from a to b moves a by n
+-- if the first component and the filler after it have n bytes, a step over them moves a by n
 pub steps_forward : (s : List ℕ) (a b n : ℕ) (v : Value) → a ≤ b → b ≤ length s
     → EndsInPart (slice_range s a b) → StepsFirst (slice_range s a b) n v → StepsForward s a b n v
 steps_forward s a b n v in_order in_range ends step =
@@ -87,11 +87,11 @@ steps_forward s a b n v in_order in_range ends step =
     record {
       in_order = omega arith;
       takes = subst (λ u. TakesFirst (slice_range s a b) u v) is (step.takes ends);
-      lead = not_filler (slice_range s (a + n) b)
-          (subst (λ u. 0 < length u → is_filler u 0 ≡ false) is step.busy);
+      lead = first_not_filler (slice_range s (a + n) b)
+          (subst (λ u. 0 < length u → is_filler u 0 ≡ false) is step.not_filler);
     }
 
--- a step over the first part of what is left of a walk moves the first of its places by n
+-- a step over the first component of the rest of a walk moves the first of its indices by n
 pub walks_forward : {t : List ℕ} (c : Components) (n : ℕ) (v : Value) → t ≡ cursor_rest c
     → StepsFirst t n v → StepsForward c.source.now c.start c.end n v
 unfolding cursor_rest IsWalk
@@ -99,13 +99,13 @@ walks_forward c n v e step =
     steps_forward c.source.now c.start c.end n v c.fields.in_order c.fields.in_range c.fields.ends
     (subst (λ t. StepsFirst t n v) e step)
 
--- the last part is taken: the first n bytes are left
+-- removing the last component from the range from a to b leaves its first n bytes
 pub record StepsBack (s : List ℕ) (a b n : ℕ) (v : Value) : Type 0 where
   pub in_order : a + n ≤ b
   pub takes : TakesLast (slice_range s a b) (slice_range s a (a + n)) v
   pub lead : (is_filler (slice_range s a b) 0 && ltb 0 n) ≡ is_filler (slice_range s a (a + n)) 0
 
--- a string that ends in a part and has none is empty
+-- a string without components is empty, if it has no trailing filler
 no_values : (u : List ℕ) → EndsInPart u → values u ≡ [] → length u ≡ 0
 unfolding values
 no_values u ends e =
@@ -121,8 +121,8 @@ lead_first-push (CurDir ∷ vs) v some = refl
 lead_first-push (ParentDir ∷ vs) v some = refl
 lead_first-push (Normal name ∷ vs) v some = refl
 
--- what is left before the last part begins with a root or a `.` that counts if all of it did,
--- unless nothing is left
+-- the rest before the last component begins with a root or a leading `.` if and only if the whole
+-- string does and the rest is not empty
 lead_before_last : (t u : List ℕ) (v : Value) (n : ℕ) → TakesLast t u v → length u ≡ n
     → (is_filler t 0 && ltb 0 n) ≡ is_filler u 0
 lead_before_last t u v n h size = by_test (ltb 0 n)
@@ -143,7 +143,7 @@ lead_before_last t u v n h size = by_test (ltb 0 n)
     and_false true = refl
     and_false false = refl
 
--- a step over the last part of what stands from a to b moves b to n bytes behind a
+-- a step over the last component of the range from a to b moves b to n bytes after a
 pub steps_back : (s : List ℕ) (a b n : ℕ) (v : Value) → a ≤ b → b ≤ length s
     → n ≤ length (slice_range s a b) → TakesLast (slice_range s a b) (take n (slice_range s a b)) v
     → StepsBack s a b n v
@@ -160,7 +160,8 @@ steps_back s a b n v in_order in_range l takes =
       lead = lead_before_last (slice_range s a b) (slice_range s a (a + n)) v n moved before;
     }
 
--- a step over the last part of what is left of a walk moves the second of its places
+-- a step over the last component of the rest of a walk moves the second of its indices to n bytes
+-- after the first
 pub walks_back : {t : List ℕ} (c : Components) (n : ℕ) (v : Value) → t ≡ cursor_rest c
     → n ≤ length t → TakesLast t (take n t) v → StepsBack c.source.now c.start c.end n v
 unfolding cursor_rest IsWalk
@@ -168,7 +169,8 @@ walks_back c n v e l takes =
     steps_back c.source.now c.start c.end n v c.fields.in_order c.fields.in_range
     (subst (λ t. n ≤ length t) e l) (subst (λ t. TakesLast t (take n t) v) e takes)
 
--- the last part of a fresh walk's rest u is the last part of s, and w is left before it
+-- if u is the rest of s when no component is removed, its last component is the last component of
+-- s, and the rest w of u before it is the rest of s before it
 pub has_last : {u w : List ℕ} (s : List ℕ) (before end : ℕ) (v : Value) → u ≡ rest s 0 0
     → values u ≡ values w ++ v ∷ [] → w ≡ rest u 0 1 → w ≡ take before s → length u ≡ end
     → before ≤ length s → HasLast s before end v

@@ -1,14 +1,15 @@
 use Rattle.std.proofs.Common.{◌≡◌, ◌∷◌, length, take, arith, true≢false}
-use Rattle.unix_path_c.specs.Ancestors.{ancestors_left}
-use Rattle.unix_path_c.proofs.lemmas.walks.AncestorLemmas.{ancestors_left-last}
-use Rattle.unix_path_c.proofs.lemmas.walks.AncestorLemmas.{ancestors_left-parent}
+use Rattle.unix_path_c.specs.Ancestors.{remaining_ancestors}
+use Rattle.unix_path_c.proofs.lemmas.walks.AncestorLemmas.{remaining_ancestors-last}
+use Rattle.unix_path_c.proofs.lemmas.walks.AncestorLemmas.{remaining_ancestors-parent}
 use Rattle.unix_path_c.proofs.ancestors.unix_path_next_ancestor.Goals as goal
 use Rattle.unix_path_c.proofs.ancestors.unix_path_next_ancestor.Goals.{In-Some, In-None}
 
-with_parent : (c : In-Some) → ancestors_left c.args.path.now c.args.next.now
+-- if there is a parent, the remaining ancestors are this one and then the ancestors of the parent
+with_parent : (c : In-Some) → remaining_ancestors c.args.path.now c.args.next.now
     ≡ take c.args.next.now c.args.path.now
-    ∷ ancestors_left c.args.path.now (length c.in-Some.parent.bytes.now)
-with_parent c = ancestors_left-parent c.args.path.now c.in-Some.parent.bytes.now
+    ∷ remaining_ancestors c.args.path.now (length c.in-Some.parent.bytes.now)
+with_parent c = remaining_ancestors-parent c.args.path.now c.in-Some.parent.bytes.now
     c.args.next.now c.if-length-path.false c.in-Some.ensures.value
 
 pub returns-in-Some-clause-ancestors : goal.returns-in-Some-clause-ancestors
@@ -18,9 +19,11 @@ pub returns-in-Some-clause-ended : goal.returns-in-Some-clause-ended
 returns-in-Some-clause-ended c =
     let step = with_parent c in (λ no. absurd (true≢false no), λ none. absurd (cc))
 
-without_parent : (c : In-None) → ancestors_left c.args.path.now c.args.next.now
-    ≡ take c.args.next.now c.args.path.now ∷ ancestors_left c.args.path.now 18446744073709551615
-without_parent c = ancestors_left-last c.args.path.now c.args.next.now 18446744073709551615
+-- if there is no parent, no ancestor remains after this one
+without_parent : (c : In-None) → remaining_ancestors c.args.path.now c.args.next.now
+    ≡ take c.args.next.now c.args.path.now
+    ∷ remaining_ancestors c.args.path.now 18446744073709551615
+without_parent c = remaining_ancestors-last c.args.path.now c.args.next.now 18446744073709551615
     c.if-length-path.false c.in-None.ensures.value (omega arith)
 
 pub returns-in-None-clause-ancestors : goal.returns-in-None-clause-ancestors

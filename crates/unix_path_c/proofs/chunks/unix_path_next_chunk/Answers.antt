@@ -1,20 +1,20 @@
 use Rattle.std.proofs.Common.{◌≡◌, ◌∷◌, ◌+◌, ◌≤◌, drop, length, refl, sym, ap, ◌∙◌, arith}
 use Rattle.std.proofs.Common.{length-drop}
-use Rattle.path_runs.proofs.lemmas.gaps.KeptLemmas.{slice_range-from}
-use Rattle.unix_bytes.specs.Chunks.{chunk_of, chunks_left, chunks_of}
-use Rattle.unix_path_c.proofs.lemmas.walks.ChunkLemmas.{chunks_left-past, first_chunk_at}
+use Rattle.path_runs.proofs.lemmas.gaps.FirstGapLemmas.{slice_range-from}
+use Rattle.unix_bytes.specs.Chunks.{chunk_of, remaining_chunks, chunks_of}
+use Rattle.unix_path_c.proofs.lemmas.walks.ChunkLemmas.{remaining_chunks-past, first_chunk_at}
 use Rattle.unix_path_c.proofs.lemmas.walks.ChunkLemmas.{first_chunk_fits}
 use Rattle.unix_path_c.proofs.chunks.unix_path_next_chunk.Goals as goal
 use Rattle.unix_path_c.proofs.chunks.unix_path_next_chunk.Goals.{In-Some}
 
--- the chunk that was taken is the first of what stands from `next` on
+-- the chunk that was removed is the first chunk of the bytes from `next` on
 taken : (c : In-Some) → chunks_of (drop c.args.next.now c.args.path.now)
-    ≡ chunk_of c.in-Some.first ∷ chunks_left c.next.new.self
+    ≡ chunk_of c.in-Some.first ∷ remaining_chunks c.next.new.self
 taken c = sym (ap chunks_of (c.from_bytes.ensures
     ∙ slice_range-from c.args.path.now c.args.next.now))
-    ∙ sym c.chunks.ensures.left ∙ c.in-Some.ensures.steps
+    ∙ sym c.chunks.ensures.pending ∙ c.in-Some.ensures.steps
 
--- and ends in the path
+-- the chunk that was removed ends in the path
 inside : (c : In-Some) → c.args.next.now + length c.in-Some.first.valid.now
     + length c.in-Some.first.broken.now ≤ length c.args.path.now
 inside c = omega (
@@ -26,7 +26,7 @@ inside c = omega (
 
 pub returns-then-start-path-clause-ended : goal.returns-then-start-path-clause-ended
 returns-then-start-path-clause-ended c = (
-  λ _. chunks_left-past c.args.path.now c.args.next.now c.if-start-path.true,
+  λ _. remaining_chunks-past c.args.path.now c.args.next.now c.if-start-path.true,
   λ _. refl,
 )
 

@@ -4,7 +4,7 @@ use Rattle.unix_path.proofs.lemmas.edits.EditLemmas.{with_extension_of-none, wit
 use Rattle.unix_path_c.proofs.joins.extension_layout.Goals as goal
 
 pub returns-in_default : goal.returns-in_default
-returns-in_default c = c.whole_layout.ensures
+returns-in_default c = c.unchanged_layout.ensures
     ∙ sym (with_extension_of-none c.args.path.bytes.now c.args.extension.now
     c.in_default.ensures.value)
 

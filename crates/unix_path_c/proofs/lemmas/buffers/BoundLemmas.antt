@@ -1,4 +1,4 @@
--- How many bytes an answer in a buffer has at most.
+-- Upper bounds of the lengths of results in a buffer.
 use Rattle.std.proofs.Common.{◌≤◌, ◌+◌, ℕ, List, [], ◌∷◌, ◌++◌, cond, eqb, length, take}
 use Rattle.std.proofs.Common.{Option, Some, None, is_some, unwrap_or, option_map, ◌≡◌, ◌*◌, ap}
 use Rattle.std.proofs.Common.{⊎_elim, arith, refl, length-append}
@@ -9,7 +9,7 @@ use Rattle.unix_path.specs.Edits.{before_name_of, dot_before, stem_end_of, with_
 use Rattle.unix_path.specs.Edits.{with_name_of}
 use Rattle.unix_path.specs.Extensions.{added_extension_of, name_end_of}
 use Rattle.unix_path.specs.Names.{file_name_of}
-use Rattle.unix_path.specs.Joins.{is_open}
+use Rattle.unix_path.specs.Joins.{needs_no_separator}
 use Rattle.unix_path.specs.Parts.{Value, slash, values}
 use Rattle.unix_path.specs.Rest.{rest}
 use Rattle.unix_bytes.proofs.lemmas.lists.ListLemmas.{by_test}
@@ -19,18 +19,18 @@ pub use Rattle.path_keys.proofs.lemmas.values.LengthLemmas.{length-key_of}
 use Rattle.path_runs.proofs.lemmas.spelling.LeanLemmas.{spelling_of-shortest}
 use Rattle.path_runs.specs.Spelling.{spelling_of}
 use Rattle.path_within.specs.Below.{below_of, names_below}
-use Rattle.path_within.specs.Way.{way_of}
-use Rattle.path_within.specs.Written.{opened}
+use Rattle.path_within.specs.RelativePaths.{relative_path_of}
+use Rattle.path_within.specs.WrittenBytes.{root_prefix}
 use Rattle.path_within.proofs.lemmas.below.BelowLemmas.{length-below}
 pub use Rattle.path_within.proofs.lemmas.below.BoundLemmas.{length-join_of, length-resolved}
-use Rattle.path_within.proofs.lemmas.ways.WayBoundLemmas.{length-way}
+use Rattle.path_within.proofs.lemmas.relative.RelativePathBoundLemmas.{length-relative_path}
 
--- a canonical spelling has no more bytes than the path
+-- a canonical form is never longer than the path
 pub length-spelling_of : (s : List ℕ) → length (spelling_of (values s)) ≤ length s
 length-spelling_of s = ⊎_elim (λ same. omega (arith, ap length same))
     (λ longer. omega (arith, longer)) (spelling_of-shortest s s refl)
 
--- what stands before a file name has no more bytes than the path
+-- what comes before a file name is never longer than the path
 length-before_name_of : (s : List ℕ) → length (before_name_of s) ≤ length s
 unfolding before_name_of
 length-before_name_of s = by_test (is_some (file_name_of (values s)))
@@ -42,15 +42,15 @@ length-before_name_of s = by_test (is_some (file_name_of (values s)))
     ))
     (λ e. omega (arith, ap (λ c. length (cond c (rest s 0 1) s)) e))
 
--- a path with another file name has at most one byte more than both
+-- a path with another file name is at most one byte longer than both together
 pub length-with_name_of : (s name : List ℕ)
     → length (with_name_of s name) ≤ length s + 1 + length name
 length-with_name_of s name =
     omega (arith, length-join_of (before_name_of s) name, length-before_name_of s)
 
--- what stands before the names of a join has at most one byte more than the root
-length-opened : (root : List ℕ) → length (opened root) ≤ length root + 1
-length-opened root = by_test (is_open root)
+-- the root prefix, which comes before the names of a join, is at most one byte longer than the root
+length-root_prefix : (root : List ℕ) → length (root_prefix root) ≤ length root + 1
+length-root_prefix root = by_test (needs_no_separator root)
     (λ e. omega (arith, length-append root [], ap (λ c. length (root ++ cond c [] (slash ∷ []))) e))
     (λ e. omega (
       arith,
@@ -58,13 +58,18 @@ length-opened root = by_test (is_open root)
       ap (λ c. length (root ++ cond c [] (slash ∷ []))) e,
     ))
 
--- a join below a root has at most one byte more than both
+-- a join below a root is at most one byte longer than both together
 pub length-below_of : (root s : List ℕ)
     → length (below_of root (names_below (values s))) ≤ length root + 1 + length s
 length-below_of root s =
-    omega (arith, length-below root s refl, length-append (opened root) s, length-opened root)
+    omega (
+      arith,
+      length-below root s refl,
+      length-append (root_prefix root) s,
+      length-root_prefix root,
+    )
 
--- and so has a path with an extension added at a place
+-- a path with an extension added at an index is at most one byte longer than both together
 added_fits : (s x : List ℕ) (end : Option ℕ)
     → length (added_extension_at s x end) ≤ length s + 1 + length x
 added_fits s x end = by_test (eqb (length x) 0) (λ e. rw e (omega arith)) (λ e. rw e (by end))
@@ -79,18 +84,19 @@ added_fits s x end = by_test (eqb (length x) 0) (λ e. rw e (omega arith)) (λ e
       length-take end s,
     )
 
+-- a path with an added extension is at most one byte longer than both together
 pub length-added_extension_of : (s x : List ℕ)
     → length (added_extension_of s x) ≤ length s + 1 + length x
 unfolding added_extension_of
 length-added_extension_of s x = added_fits s x (name_end_of s)
 
--- a dot before an extension is one byte at most
+-- a dot before an extension is at most one byte
 length-dot_before : (x : List ℕ) → length (dot_before x) ≤ 1
 length-dot_before x = by_test (eqb (length x) 0)
     (λ e. omega (arith, ap (λ c. length {A = ℕ} (cond c [] (46 ∷ []))) e))
     (λ e. omega (arith, ap (λ c. length {A = ℕ} (cond c [] (46 ∷ []))) e))
 
--- and so has a path with another extension
+-- a path with another extension after an index is at most one byte longer than both together
 extended_fits : (s x : List ℕ) (end : Option ℕ)
     → length (option_map_or (λ end. (take end s ++ dot_before x) ++ x) end s)
     ≤ length s + 1 + length x
@@ -103,11 +109,13 @@ extended_fits s x (Some end) = omega (
   length-dot_before x,
 )
 
+-- a path with another extension is at most one byte longer than both together
 pub length-with_extension_of : (s x : List ℕ)
     → length (with_extension_of s x) ≤ length s + 1 + length x
 unfolding with_extension_of
 length-with_extension_of s x = extended_fits s x (stem_end_of s)
 
+-- the bounds that the clauses `len_bound` of most calls state
 pub ruleset bounds = (
   length-lossy_of,
   length-key_of,
@@ -120,15 +128,17 @@ pub ruleset bounds = (
   length-with_extension_of,
 )
 
--- a way has at most three bytes for each two of the first path and one more, and those of the other
-pub way_bound : (from to : List ℕ) (n : ℕ)
-    → Some n ≡ option_map (λ steps. length (spelling_of steps)) (way_of (values from) (values to))
+-- a relative path has at most `3 * (from + 1) / 2 + to` bytes, where `from` and `to` are the
+-- lengths of both paths
+pub relative_path_bound : (from to : List ℕ) (n : ℕ)
+    → Some n ≡ option_map (λ steps. length (spelling_of steps))
+    (relative_path_of (values from) (values to))
     → 2 * n ≤ 3 * (length from + 1) + 2 * length to
-way_bound from to n is = found (way_of (values from) (values to)) refl is
+relative_path_bound from to n is = found (relative_path_of (values from) (values to)) refl is
   where
-    found : (way : Option (List Value)) → way_of (values from) (values to) ≡ way
-        → Some n ≡ option_map (λ steps. length (spelling_of steps)) way
+    found : (path : Option (List Value)) → relative_path_of (values from) (values to) ≡ path
+        → Some n ≡ option_map (λ steps. length (spelling_of steps)) path
         → 2 * n ≤ 3 * (length from + 1) + 2 * length to
-    found None way is = absurd (let e = is in cc)
-    found (Some steps) way is =
-        omega (arith, length-way from to steps way, ap (λ o. unwrap_or o 0) is)
+    found None path is = absurd (let e = is in cc)
+    found (Some steps) path is =
+        omega (arith, length-relative_path from to steps path, ap (λ o. unwrap_or o 0) is)

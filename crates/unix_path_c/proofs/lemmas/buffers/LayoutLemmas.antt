@@ -1,4 +1,4 @@
--- What a layout's stretches leave in a buffer.
+-- The contents of a buffer to which the runs of a layout were written.
 use Rattle.std.proofs.Common.{◌≡◌, ◌≤◌, ℕ, ◌+◌, List, ◌++◌, length, sym, ap, ap₂, ◌∙◌, arith}
 use Rattle.std.proofs.Common.{length-append}
 use Rattle.path_runs.specs.Buffer.{buffer_after}
@@ -6,7 +6,8 @@ use Rattle.path_runs.specs.Overlay.{overlay}
 use Rattle.path_runs.proofs.lemmas.lists.OverlayLemmas.{overlay-bytes_over, overlay-first}
 use Rattle.path_runs.proofs.lemmas.lists.OverlayLemmas.{buffer_after-fits}
 
--- three stretches, put one behind the other into a buffer that has room for all of them
+-- writing three runs one after the other to a buffer into which all of them fit has the same result
+-- as `buffer_after`
 pub buffer_after-three : {one two three : List ℕ} (old start separator end : List ℕ) (n : ℕ)
     → n ≡ length start + length separator → n + length end ≤ length old
     → one ≡ overlay 0 start old → two ≡ overlay (length start) separator one

@@ -1,5 +1,5 @@
--- The end of a key's range, put in a buffer by way of the key.
-use Rattle.std.proofs.Common.{◌≡◌, ◌<◌, ◌≤◌, ℕ, ◌+◌, ◌-◌, List, [], ◌++◌, length, drop, IfSome}
+-- The end of a key's range, written to a buffer by way of the key.
+use Rattle.std.proofs.Common.{◌≡◌, ◌<◌, ◌≤◌, ℕ, ◌+◌, ◌-◌, List, [], ◌++◌, length, drop, Some}
 use Rattle.std.proofs.Common.{slice_set, slice_index, sym, ap, ◌∙◌, subst, arith}
 use Rattle.std.proofs.lemmas.Bool.{cond-false, lt-leb}
 use Rattle.std.proofs.lemmas.List.{set-append_left, length-set, nil_from_length}
@@ -8,49 +8,52 @@ use Rattle.path_runs.specs.Buffer.{buffer_after}
 use Rattle.path_runs.specs.Overlay.{overlay}
 use Rattle.path_runs.proofs.lemmas.lists.OverlayLemmas.{overlay-first, buffer_after-fits}
 use Rattle.path_keys.specs.Keys.{key_of, IsKey}
-use Rattle.path_keys.specs.Ranges.{end_of}
+use Rattle.path_keys.specs.Ranges.{IsRangeEnd}
 use Rattle.path_keys.proofs.lemmas.values.KeyLemmas.{key_of-nil}
-use Rattle.path_keys.proofs.lemmas.values.RangeLemmas.{end_of-some}
+use Rattle.path_keys.proofs.lemmas.values.RangeLemmas.{range_end-some}
 
 -- a key with its last byte raised by one
 abbrev raised_end : List ℕ → List ℕ
 raised_end key = slice_set key (length key - 1) (slice_index key (length key - 1) + 1)
 
+-- a key with its last byte raised is as long as the key
 length-raised_end : (key : List ℕ) → length (raised_end key) ≡ length key
 length-raised_end key = length-set key (length key - 1) (slice_index key (length key - 1) + 1)
 
--- what holds of these bytes holds of the end of the key's range
-of_end : (P : List ℕ → Type 0) (key : List ℕ) → 0 < length key → P (raised_end key)
-    → IfSome (end_of key) P
-of_end P key some h = subst (λ end. IfSome end P) (sym (end_of-some key some)) h
+-- the end of a key's range, of so many bytes, is written to the beginning of the buffer if it fits
+abbrev pub WritesEnd : List ℕ → ℕ → List ℕ → List ℕ → Type 0
+WritesEnd key n old new = (end : List ℕ) × IsRangeEnd key (Some end) × (length end ≡ n)
+    × (new ≡ buffer_after end old)
 
-pub length-end : (key : List ℕ) → 0 < length key
-    → IfSome (end_of key) (λ end. length key ≡ length end)
-length-end key some = of_end (λ end. length key ≡ length end) key some (sym (length-raised_end key))
-
--- the key at the beginning of a buffer, with its last byte raised there
+-- the key at the beginning of a buffer becomes the end of its range if its last byte is raised
+-- there
 pub end_written : (key old new : List ℕ) → 0 < length key → length key ≤ length old
-    → new ≡ overlay 0 key old
-    → IfSome (end_of key) (λ end.
-    slice_set new (length key - 1) (slice_index key (length key - 1) + 1) ≡ buffer_after end old)
+    → new ≡ overlay 0 key old → WritesEnd key (length key) old
+    (slice_set new (length key - 1) (slice_index key (length key - 1) + 1))
 end_written key old new some fits e =
     let last = length key - 1 in
-    let b = slice_index key last + 1 in
-    of_end (λ end. slice_set new last b ≡ buffer_after end old) key some
-    (ap (λ out. slice_set out last b) (e ∙ overlay-first key old)
-    ∙ set-append_left key (drop (length key) old) last b (omega arith)
-    ∙ ap (λ n. raised_end key ++ drop n old) (sym (length-raised_end key))
-    ∙ sym (buffer_after-fits (raised_end key) old (omega (arith, length-raised_end key))))
+    let b = slice_index key last + 1 in (
+      raised_end key,
+      range_end-some key some,
+      length-raised_end key,
+      ap (λ out. slice_set out last b) (e ∙ overlay-first key old)
+          ∙ set-append_left key (drop (length key) old) last b (omega arith)
+          ∙ ap (λ n. raised_end key ++ drop n old) (sym (length-raised_end key))
+          ∙ sym (buffer_after-fits (raised_end key) old (omega (arith, length-raised_end key))),
+    )
 
--- a buffer without room for the end is left as it is
-pub end_without_room : (key old : List ℕ) → 0 < length key → length old < length key
-    → IfSome (end_of key) (λ end. old ≡ buffer_after end old)
-end_without_room key old some short =
-    of_end (λ end. old ≡ buffer_after end old) key some
-    (sym (cond-false _ _ _ (lt-leb (length (raised_end key)) (length old)
-    (omega (arith, length-raised_end key)))))
+-- a buffer that is too short for the end is unchanged
+pub end_not_written : (key old : List ℕ) → 0 < length key → length old < length key
+    → WritesEnd key (length key) old old
+end_not_written key old some len_bound = (
+  raised_end key,
+  range_end-some key some,
+  length-raised_end key,
+  sym (cond-false _ _ _ (lt-leb (length (raised_end key)) (length old)
+      (omega (arith, length-raised_end key)))),
+)
 
--- no bytes are the key of the empty path
+-- the empty byte string is the key of the empty path
 pub nil_is_key : (key : List ℕ) → length key ≡ 0 → IsKey key
 nil_is_key key none =
     subst IsKey (sym (nil_from_length key none)) ([], ap key_of values-nil ∙ key_of-nil)

@@ -1,9 +1,9 @@
--- Two stretches that are written one behind the other.
+-- Writing two runs of bytes one after the other.
 use Rattle.std.proofs.Common.{◌≡◌, ℕ, ◌+◌, List, ◌++◌, length, refl, ◌∙◌, append_assoc}
 use Rattle.path_runs.specs.Overlay.{overlay}
 use Rattle.path_runs.proofs.lemmas.lists.WritingLemmas.{WritesOn, writes_stretch}
 
--- two more stretches of what is left are written, one behind the other
+-- if the rest begins with two runs, writing them one after the other leaves what follows them
 pub writes_next : {whole old out left new : List ℕ} {at end : ℕ} (first second more : List ℕ)
     → WritesOn whole old at out left → left ≡ (first ++ second) ++ more
     → new ≡ overlay (at + length first) second (overlay at first out)

@@ -1,4 +1,4 @@
--- Where the first chunk of some bytes stands, and the others.
+-- The first chunk of some bytes, its indices, and the chunks after it.
 use Rattle.std.proofs.Common.{◌≡◌, ℕ, ◌+◌, ◌≤◌, ◌<◌, List, [], ◌∷◌, ◌++◌, length, take, drop}
 use Rattle.std.proofs.Common.{sym, ap, ap₂, ◌∙◌, arith, length-append, length-drop, drop-drop}
 use Rattle.std.proofs.Common.{append_assoc}
@@ -10,30 +10,31 @@ use Rattle.unix_bytes.proofs.lemmas.chunks.ChunkLemmas.{chunks_of-nil, chunks_of
 use Rattle.unix_bytes.proofs.lemmas.chunks.ChunkLemmas.{chunks_of-some}
 use Rattle.unix_bytes.proofs.lemmas.chunks.OnlyLemmas.{first_chunk_is}
 use Rattle.unix_bytes.proofs.lemmas.chunks.PartitionLemmas.{chunks_partition}
-use Rattle.unix_path_c.proofs.lemmas.places.PlaceLemmas.{take-inside}
+use Rattle.unix_path_c.proofs.lemmas.spans.PlaceLemmas.{take-inside}
 
--- past the end no chunk is left
-pub chunks_left-past : (path : List ℕ) (at : ℕ) → length path < at → chunks_of (drop at path) ≡ []
-chunks_left-past path at past =
+-- past the path's end no chunk remains
+pub remaining_chunks-past : (path : List ℕ) (at : ℕ) → length path < at → chunks_of (drop at path)
+    ≡ []
+remaining_chunks-past path at past =
     chunks_of-empty (drop at path) (omega (arith, length-drop at path))
 
--- the chunks behind the first are those of what follows it
-chunks_behind : (s : List ℕ) (c : Chunk) (cs : List Chunk) → chunks_of s ≡ c ∷ cs
+-- the chunks after the first are those of the bytes after it
+chunks_after : (s : List ℕ) (c : Chunk) (cs : List Chunk) → chunks_of s ≡ c ∷ cs
     → chunks_of (drop (chunk_len c) s) ≡ cs
-chunks_behind [] c cs e = let h = chunks_of-nil in cc
-chunks_behind (b ∷ bs) c cs e =
+chunks_after [] c cs e = let h = chunks_of-nil in cc
+chunks_after (b ∷ bs) c cs e =
     let h = chunks_of-some b bs in
     ap (λ x. chunks_of (drop (chunk_len x) (b ∷ bs))) (sym (first_chunk_is (b ∷ bs) c cs e))
     ∙ (cc)
 
--- a first chunk of text v and broken bytes b stands at the beginning
+-- bytes begin with their first chunk: valid UTF-8 v and invalid bytes b
 first_chunk_begins : (s v b : List ℕ) (cs : List Chunk)
     → chunks_of s ≡ record { valid = v; broken = b } ∷ cs
     → s ≡ (v ++ b) ++ flat_map (λ (x : Chunk). x.valid ++ x.broken) cs
 first_chunk_begins s v b cs e =
     sym (chunks_partition s) ∙ ap (flat_map (λ (x : Chunk). x.valid ++ x.broken)) e
 
--- and has no more bytes than there are
+-- the first chunk of some bytes is no longer than these bytes
 pub first_chunk_fits : (s v b : List ℕ) (cs : List Chunk)
     → chunks_of s ≡ record { valid = v; broken = b } ∷ cs → length v + length b ≤ length s
 first_chunk_fits s v b cs e =
@@ -44,11 +45,12 @@ first_chunk_fits s v b cs e =
       length-append v b,
     )
 
--- a chunk with this text and these broken bytes
+-- a chunk of this valid UTF-8 and these invalid bytes
 abbrev chunk_by : List ℕ → List ℕ → Chunk
 chunk_by v b = record { valid = v; broken = b }
 
--- the chunks of what stands in a path from a place on are the first, by its places, and the others
+-- the chunks of a path's bytes from index `at` on are the first chunk, with its bytes taken from
+-- the path, and the chunks after it
 pub first_chunk_at : (path v b : List ℕ) (at : ℕ) (cs : List Chunk)
     → chunks_of (drop at path) ≡ record { valid = v; broken = b } ∷ cs
     → chunks_of (drop at path)
@@ -67,6 +69,6 @@ first_chunk_at path v b at cs e =
     sym (take-inside v b more) ∙ ap (λ s. take (length b) (drop (length v) s)) (sym begins)
     ∙ ap (take (length b)) (drop-drop (length v) at path) in
     e ∙ ap₂ (λ x xs. x ∷ xs) (ap₂ chunk_by text broken)
-    (sym (chunks_behind s (chunk_by v b) cs e)
+    (sym (chunks_after s (chunk_by v b) cs e)
     ∙ ap chunks_of (drop-drop (length v + length b) at path
     ∙ ap (λ n. drop n path) {x = at + (length v + length b)} (omega arith)))

@@ -1,11 +1,12 @@
--- Steps over a name that stands between bytes that are neither slashes nor dots.
+-- Steps over the last component if it is a name, where neither the last byte nor the byte before
+-- the last slash is a slash or a dot.
 use Rattle.std.proofs.Common.{◌≡◌, ℕ, ◌-◌, ◌≤◌, ◌<◌, true, false, ltb, eqb, List, length, get_or}
 use Rattle.std.proofs.Common.{take, refl, sym, ap, ◌∙◌, arith, lt-ltb, ltb-true, ltb-false}
 use Rattle.std.specs.Str.{bytes_eq}
 use Rattle.std.proofs.lemmas.Bool.{both_ways}
 use Rattle.std.proofs.lemmas.Slice.Eq.{bytes_eq-Decides}
 use Rattle.unix_path.specs.Parts.{cur_dir, parts}
-use Rattle.unix_path.specs.Scan.{ends_with_parent, is_trailing, EndsInPart}
+use Rattle.unix_path.specs.Scan.{ends_with_parent_dir, is_trailing, EndsInPart}
 use Rattle.unix_bytes.proofs.lemmas.lists.ListLemmas.{by_test}
 use Rattle.unix_path.proofs.lemmas.filler.TrimLemmas.{parts_shorter}
 use Rattle.unix_path.proofs.lemmas.steps.LastPieceLemmas.{takes_last_name, IsLastStart}
@@ -16,12 +17,13 @@ pub record IsOrdinary (s : List ℕ) (i : ℕ) : Type 0 where
   pub no_slash : eqb (get_or s i 0) 47 ≡ false
   pub no_dot : eqb (get_or s i 0) 46 ≡ false
 
+-- an ordinary byte is not trailing filler
 pub is_trailing-ordinary : (s : List ℕ) (i : ℕ) → IsOrdinary s i → is_trailing s i ≡ false
 is_trailing-ordinary s i h = by_test (ltb 0 i)
     (λ e. rw (e, h.no_slash, h.no_dot) refl)
     (λ e. rw e refl)
 
--- what ends in a byte that is neither a slash nor a dot ends in a part
+-- a string whose last byte is neither a slash nor a dot ends in a component
 pub ends_ordinary : (s : List ℕ) → IsOrdinary s (length s - 1) → EndsInPart s
 ends_ordinary s h = λ _. is_trailing-ordinary s (length s - 1) h
 
@@ -35,6 +37,7 @@ module _ (s : List ℕ) (start : ℕ) (some : 0 < length s) (last : IsOrdinary s
       ap (λ k. get_or s (k - 1) 0) (sym all) ∙ is.after_slash (omega (arith, all)) in
       absurd (both_ways _ (ap (λ b. eqb b 47) (sym slash) ∙ last.no_slash) refl))
 
+  -- the string is not a single `.`
   no_cur_dir : bytes_eq s cur_dir ≡ false
   no_cur_dir = by_test (bytes_eq s cur_dir)
       (λ e.
@@ -44,12 +47,14 @@ module _ (s : List ℕ) (start : ℕ) (some : 0 < length s) (last : IsOrdinary s
       absurd (both_ways _ last.no_dot dot))
       (λ e. e)
 
-  no_parent_dir : ends_with_parent s ≡ false
+  -- the string does not end with `..`
+  no_parent_dir : ends_with_parent_dir s ≡ false
   no_parent_dir = rw last.no_dot refl
 
-  pub name_behind : (before : ℕ) → before ≤ start → parts (take before s) ≡ parts (take start s)
+  -- the last component is a name, and the rest before it is the first `before` bytes
+  pub name_last : (before : ℕ) → before ≤ start → parts (take before s) ≡ parts (take start s)
       → (0 < before → is_trailing s (before - 1) ≡ false) → EndsInName s before start
-  name_behind before l same trimmed =
+  name_last before l same trimmed =
       let ends = ends_ordinary s last in
       let taken = takes_last_name s start before is begins_in ends no_cur_dir no_parent_dir l same
       trimmed in
@@ -61,18 +66,18 @@ module _ (s : List ℕ) (start : ℕ) (some : 0 < length s) (last : IsOrdinary s
         rest_is = taken.rest;
       }
 
-  -- a name before which nothing stands, or a root
+  -- a name at index 0, or at index 1 after a root
   pub name_first : start < 2 → EndsInName s start start
-  name_first few = name_behind start (omega arith) refl
+  name_first few = name_last start (omega arith) refl
       (λ l. ap (is_trailing s) {x = start - 1} {y = 0} (omega arith))
 
-  -- a name before which a slash stands, and another name before that slash
+  -- a name with a slash before it, and another name before that slash
   pub name_after : 2 ≤ start → IsOrdinary s (start - 2) → EndsInName s (start - 1) start
   name_after enough ordinary =
       let slash : eqb (get_or s (start - 1) 0) 47 ≡ true =
       ap (λ b. eqb b 47) (is.after_slash (omega arith)) in
       let some = lt-ltb 0 (start - 1) (omega arith) in
-      name_behind (start - 1) (omega arith)
+      name_last (start - 1) (omega arith)
       (parts_shorter s start (omega arith) is.in_range (rw (some, slash) refl))
       (λ _. ap (is_trailing s) {x = start - 1 - 1} {y = start - 2} (omega arith)
       ∙ is_trailing-ordinary s (start - 2) ordinary)

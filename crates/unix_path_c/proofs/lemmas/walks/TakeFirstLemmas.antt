@@ -1,4 +1,4 @@
--- The first part that is left of a walk, and what is left behind it.
+-- The first component in the rest of a walk, and the rest after it.
 use Rattle.std.proofs.Common.{◌≡◌, ℕ, ◌+◌, ◌-◌, ◌≤◌, List, [], ◌∷◌, length, map, take, drop, Option}
 use Rattle.std.proofs.Common.{Some, None, refl, sym, ap, ap₂, ◌∙◌, arith}
 use Rattle.unix_path.specs.Parts as paths
@@ -13,16 +13,16 @@ use Rattle.unix_path.proofs.lemmas.names.ParentLemmas.{values-whole}
 use Rattle.unix_path.proofs.lemmas.parts.PlaceLemmas.{part_at, part_at-part_at}
 use Rattle.unix_path.proofs.lemmas.rests.RestLemmas.{rest-rest}
 use Rattle.unix_path.proofs.lemmas.parts.PartLemmas.{values-none}
-use Rattle.unix_path_c.specs.Walks.{kind_of, bytes_left, part_bytes}
-use Rattle.unix_path_c.specs.Steps.{TakenInFront}
+use Rattle.unix_path_c.specs.Walks.{kind_of, remaining, part_bytes}
+use Rattle.unix_path_c.specs.Steps.{TakenFromFront}
 use Rattle.unix_path_c.specs.declared.walks.Part.{Part}
 use Rattle.unix_path_c.specs.declared.walks.Walk.{Walk}
-use Rattle.unix_path_c.proofs.lemmas.walks.BytesLeftLemmas.{stands_between, kind_of-lt}
-use Rattle.unix_path_c.proofs.lemmas.walks.BytesLeftLemmas.{part_value-is, bytes_left-in_range}
-use Rattle.unix_path_c.proofs.lemmas.walks.BytesLeftLemmas.{range-bytes_left, take-bytes_left}
-use Rattle.unix_path_c.proofs.lemmas.places.FirstLemmas.{some_bytes, takes_in_front}
+use Rattle.unix_path_c.proofs.lemmas.walks.RemainingLemmas.{is_between, kind_of-lt}
+use Rattle.unix_path_c.proofs.lemmas.walks.RemainingLemmas.{part_value-is, remaining-in_range}
+use Rattle.unix_path_c.proofs.lemmas.walks.RemainingLemmas.{range-remaining, take-remaining}
+use Rattle.unix_path_c.proofs.lemmas.spans.FirstLemmas.{some_bytes, takes_from_front}
 
--- two parts are equal if their places and their values are
+-- two components are equal if their indices and their values are
 pub same_part : {a b c d : ℕ} {v w : Value} → a ≡ c → b ≡ d → v ≡ w
     → (let p : paths.Part = record { start = a; end = b; value = v } in p)
     ≡ record { start = c; end = d; value = w }
@@ -30,22 +30,22 @@ same_part {c = c} {d = d} {v = v} start end value =
     ap₂ (λ a b. record { start = a; end = b; value = v }) start end
     ∙ ap (λ v. record { start = c; end = d; value = v }) value
 
--- a step whose places are computed from the first value of what is left takes its part
-pub taken_in_front : (path : List ℕ) (old new : Walk) (part : Part) (v : Value)
-    → values (bytes_left path old) ≡ v ∷ values (rest (bytes_left path old) 1 0)
+-- a step whose indices are computed from the first component of the rest removes that component
+pub taken_from_front : (path : List ℕ) (old new : Walk) (part : Part) (v : Value)
+    → values (remaining path old) ≡ v ∷ values (rest (remaining path old) 1 0)
     → part.start ≡ old.front → part.length ≡ length (value_bytes v) → part.kind ≡ kind_of v
-    → new.back ≡ old.front + length (rest (bytes_left path old) 0 0)
-    → new.front ≡ new.back - length (rest (bytes_left path old) 1 0)
-    → TakenInFront path old new part
-taken_in_front path old new part v e start size kind back front =
-    let s = bytes_left path old in
+    → new.back ≡ old.front + length (rest (remaining path old) 0 0)
+    → new.front ≡ new.back - length (rest (remaining path old) 1 0)
+    → TakenFromFront path old new part
+taken_from_front path old new part v e start size kind back front =
+    let s = remaining path old in
     let n = length (rest s 0 0) in
     let m = length (rest s 1 0) in
     let k = length (value_bytes v) in
     let f = old.front in
-    let t = takes_in_front s v (values (rest s 1 0)) e in
-    let some = some_bytes s (λ none. let no = sym none ∙ e in cc) in
-    let h = stands_between path old some in
+    let t = takes_from_front s v (values (rest s 1 0)) e in
+    let non_empty = some_bytes s (λ none. let no = sym none ∙ e in cc) in
+    let h = is_between path old non_empty in
     let before = t.before in
     let fewer = t.fewer in
     let in_range = t.in_range in
@@ -54,67 +54,68 @@ taken_in_front path old new part v e start size kind back front =
     let fits = h.in_range in
     let first : part_bytes path part ≡ value_bytes v =
     ap (λ n. take n (drop part.start path)) size
-    ∙ take-bytes_left path old s part.start 0 k h (omega arith) (omega arith) ∙ t.bytes in
+    ∙ take-remaining path old s part.start 0 k h (omega arith) (omega arith) ∙ t.bytes in
     let value = part_value-is path part v kind first in
     let moved : f + (n - m) ≡ new.front = omega arith in
-    let left_is : bytes_left path new ≡ rest s 1 0 =
-    bytes_left-in_range path new (omega arith) (omega arith)
-    ∙ range-bytes_left path old s new.front new.back (n - m) m h (omega arith) (omega arith)
-    (omega arith) ∙ t.left in
+    let remaining_is : remaining path new ≡ rest s 1 0 =
+    remaining-in_range path new (omega arith) (omega arith)
+    ∙ range-remaining path old s new.front new.back (n - m) m h (omega arith) (omega arith)
+    (omega arith) ∙ t.rest_bytes in
     record {
       parts_are = ap (map (part_at f)) t.is
           ∙ ap₂ (λ p ps. p ∷ ps) (same_part (omega arith) (omega arith) (sym value))
           (part_at-part_at f (n - m) (parts (rest s 1 0))
-          ∙ ap₂ (λ i u. map (part_at i) (parts u)) moved (sym left_is));
-      values_are = e ∙ ap₂ (λ v u. v ∷ values u) (sym value) (sym left_is);
+          ∙ ap₂ (λ i u. map (part_at i) (parts u)) moved (sym remaining_is));
+      values_are = e ∙ ap₂ (λ v u. v ∷ values u) (sym value) (sym remaining_is);
       bytes = first ∙ ap value_bytes (sym value);
       kind = omega (arith, kind, kind_of-lt v);
-      left_is = left_is;
-      some = λ nothing. absurd (omega (arith, some, ap length nothing));
+      remaining_is = remaining_is;
+      non_empty = λ nothing. absurd (omega (arith, non_empty, ap length nothing));
       in_order = (
         omega arith,
         (omega arith, (omega arith, (omega arith, (omega arith, (omega arith, tt))))),
       );
     }
 
--- equal strings have the same bytes left before any step
-pub rest-same : {s t left : List ℕ} → left ≡ rest t 0 0 → t ≡ s → left ≡ rest s 0 0
+-- equal strings have the same rest before any step
+pub rest-same : {s t rest_bytes : List ℕ} → rest_bytes ≡ rest t 0 0 → t ≡ s → rest_bytes
+    ≡ rest s 0 0
 rest-same is same = is ∙ ap (λ u. rest u 0 0) same
 
--- what a fresh cursor has left after one part in front
+-- the rest of a fresh cursor after one step from the front
 cursor_rest-first : (s : List ℕ) (old new : Components) (item : Option Component)
     → cursor_rest old ≡ rest s 0 0 → GivesFirstPart old item new → cursor_rest new ≡ rest s 1 0
 cursor_rest-first s old new item whole h =
     h.rest_is ∙ ap (λ u. rest u 1 0) whole ∙ rest-rest s 0 0 1 0
 
--- the values of a string, by the first part that a fresh cursor gives
+-- the components of a string begin with the one that a fresh cursor returns from the front
 values-first : (s : List ℕ) (old new : Components) (x : Component)
     → cursor_rest old ≡ rest s 0 0 → GivesFirstPart old (Some x) new
     → values s ≡ value_of x ∷ values (rest s 1 0)
 values-first s old new x whole h = sym (values-whole s (cursor_rest old) whole) ∙ h.item_is
     ∙ ap (λ u. value_of x ∷ values u) (cursor_rest-first s old new (Some x) whole h)
 
--- a fresh cursor that gives no part in front is over the empty string
+-- a fresh cursor that returns no component from the front is over the empty string
 pub nothing_first : (s : List ℕ) (old new : Components) → cursor_rest old ≡ rest s 0 0
     → GivesFirstPart old None new → s ≡ []
 nothing_first s old new whole h =
     values-none s (sym (values-whole s (cursor_rest old) whole) ∙ h.item_is.0)
 
--- the places that a step in front computes lie in the path, in order
-pub record StepInFrontFits (path : List ℕ) (walk : Walk) (whole behind : List ℕ) : Type 0 where
+-- the indices that a step from the front computes are in the path, in order
+pub record FrontStepFits (path : List ℕ) (walk : Walk) (whole behind : List ℕ) : Type 0 where
   pub in_range : walk.front + length whole ≤ length path
   pub fewer : length behind ≤ length whole
 
--- the places that a step in front computes from a fresh cursor lie in the path, in order
-pub step_in_front_fits : (path : List ℕ) (walk : Walk) (old new : Components) (x : Component)
-    (whole behind : List ℕ) → cursor_rest old ≡ rest (bytes_left path walk) 0 0
+-- the indices that a step from the front computes from a fresh cursor are in the path, in order
+pub front_step_fits : (path : List ℕ) (walk : Walk) (old new : Components) (x : Component)
+    (whole behind : List ℕ) → cursor_rest old ≡ rest (remaining path walk) 0 0
     → GivesFirstPart old (Some x) new → whole ≡ cursor_rest old → behind ≡ cursor_rest new
-    → StepInFrontFits path walk whole behind
-step_in_front_fits path walk old new x whole behind w h all but =
-    let s = bytes_left path walk in
+    → FrontStepFits path walk whole behind
+front_step_fits path walk old new x whole behind w h all but =
+    let s = remaining path walk in
     let e = values-first s old new x w h in
-    let t = takes_in_front s (value_of x) (values (rest s 1 0)) e in
-    let b = stands_between path walk (some_bytes s (λ none. let no = sym none ∙ e in cc)) in
+    let t = takes_from_front s (value_of x) (values (rest s 1 0)) e in
+    let b = is_between path walk (some_bytes s (λ none. let no = sym none ∙ e in cc)) in
     let long = ap length (all ∙ w) in
     let less = ap length (but ∙ cursor_rest-first s old new (Some x) w h) in
     record {
@@ -122,18 +123,18 @@ step_in_front_fits path walk old new x whole behind w h all but =
       fewer = omega (arith, t.fewer, long, less);
     }
 
--- what a step in front gives, by what a fresh cursor gives
+-- a step from the front removes the component that a fresh cursor returns from the front
 pub next_gives : (path : List ℕ) (walk : Walk) (old new : Components) (x : Component)
-    (whole behind text : List ℕ) (kind : ℕ) → cursor_rest old ≡ rest (bytes_left path walk) 0 0
+    (whole behind text : List ℕ) (kind : ℕ) → cursor_rest old ≡ rest (remaining path walk) 0 0
     → GivesFirstPart old (Some x) new → whole ≡ cursor_rest old → behind ≡ cursor_rest new
     → text ≡ value_bytes (value_of x) → kind ≡ kind_of (value_of x)
-    → TakenInFront path walk (record {
+    → TakenFromFront path walk (record {
       front = walk.front + length whole - length behind;
       back = walk.front + length whole;
     }) (record { start = walk.front; length = length text; kind = kind })
 next_gives path walk old new x whole behind text kind w h all but bytes is =
-    let s = bytes_left path walk in
-    taken_in_front path walk _ _ (value_of x) (values-first s old new x w h) refl
+    let s = remaining path walk in
+    taken_from_front path walk _ _ (value_of x) (values-first s old new x w h) refl
     (ap length bytes) is (ap (λ u. walk.front + length u) (all ∙ w))
     (ap (λ u. walk.front + length whole - length u)
     (but ∙ cursor_rest-first s old new (Some x) w h))

@@ -1,4 +1,4 @@
--- The last part that is left of a walk, and what is left before it.
+-- The last component in the rest of a walk, and the rest before it.
 use Rattle.std.proofs.Common.{◌≡◌, ℕ, ◌+◌, ◌-◌, ◌≤◌, List, [], ◌∷◌, ◌++◌, length, take, drop}
 use Rattle.std.proofs.Common.{Option, Some, None, map, refl, sym, ap, ap₂, ◌∙◌, arith}
 use Rattle.std.proofs.Common.{length-append}
@@ -13,38 +13,39 @@ use Rattle.unix_path.specs.Cursor.{GivesLastPart}
 use Rattle.unix_path.proofs.lemmas.names.ParentLemmas.{rest-whole_last, values-whole}
 use Rattle.unix_path.proofs.lemmas.parts.PlaceLemmas.{part_at}
 use Rattle.unix_path.proofs.lemmas.parts.PartLemmas.{values-none}
-use Rattle.unix_path_c.specs.Walks.{kind_of, bytes_left, part_bytes}
-use Rattle.unix_path_c.specs.Steps.{TakenBehind}
+use Rattle.unix_path_c.specs.Walks.{kind_of, remaining, part_bytes}
+use Rattle.unix_path_c.specs.Steps.{TakenFromBack}
 use Rattle.unix_path_c.specs.declared.walks.Part.{Part}
 use Rattle.unix_path_c.specs.declared.walks.Walk.{Walk}
 use Rattle.unix_path_c.proofs.lemmas.walks.TakeFirstLemmas.{same_part}
-use Rattle.unix_path_c.proofs.lemmas.walks.BytesLeftLemmas.{stands_between, kind_of-lt}
-use Rattle.unix_path_c.proofs.lemmas.walks.BytesLeftLemmas.{part_value-is, bytes_left-in_range}
-use Rattle.unix_path_c.proofs.lemmas.walks.BytesLeftLemmas.{range-bytes_left, take-bytes_left}
-use Rattle.unix_path_c.proofs.lemmas.places.FirstLemmas.{some_bytes}
-use Rattle.unix_path_c.proofs.lemmas.places.LastLemmas.{takes_behind}
+use Rattle.unix_path_c.proofs.lemmas.walks.RemainingLemmas.{is_between, kind_of-lt}
+use Rattle.unix_path_c.proofs.lemmas.walks.RemainingLemmas.{part_value-is, remaining-in_range}
+use Rattle.unix_path_c.proofs.lemmas.walks.RemainingLemmas.{range-remaining, take-remaining}
+use Rattle.unix_path_c.proofs.lemmas.spans.FirstLemmas.{some_bytes}
+use Rattle.unix_path_c.proofs.lemmas.spans.LastLemmas.{takes_from_back}
 
--- a list with a last value isn't empty
+-- a list with a last component is not empty
 not_none : {us : List Value} (vs : List Value) (v : Value) → us ≡ vs ++ v ∷ []
     → us ≡ [] → ⊥
 not_none vs v e none =
     omega (arith, ap length (sym none ∙ e), length-append vs (v ∷ []))
 
--- a step whose places are computed from the last value of what is left takes its part
-pub taken_behind : (path : List ℕ) (old new : Walk) (part : Part) (v : Value)
-    → values (bytes_left path old) ≡ values (rest (bytes_left path old) 0 1) ++ v ∷ []
-    → part.start ≡ old.front + length (rest (bytes_left path old) 0 0) - part.length
+-- a step whose indices are computed from the last component of the rest removes that component
+pub taken_from_back : (path : List ℕ) (old new : Walk) (part : Part) (v : Value)
+    → values (remaining path old) ≡ values (rest (remaining path old) 0 1) ++ v ∷ []
+    → part.start ≡ old.front + length (rest (remaining path old) 0 0) - part.length
     → part.length ≡ length (value_bytes v) → part.kind ≡ kind_of v → new.front ≡ old.front
-    → new.back ≡ old.front + length (rest (bytes_left path old) 0 1) → TakenBehind path old new part
-taken_behind path old new part v e start size kind front back =
-    let s = bytes_left path old in
+    → new.back ≡ old.front + length (rest (remaining path old) 0 1)
+    → TakenFromBack path old new part
+taken_from_back path old new part v e start size kind front back =
+    let s = remaining path old in
     let n = length (rest s 0 0) in
     let m = length (rest s 0 1) in
     let k = length (value_bytes v) in
     let f = old.front in
-    let t = takes_behind s v (values (rest s 0 1)) e in
-    let some = some_bytes s (not_none (values (rest s 0 1)) v e) in
-    let h = stands_between path old some in
+    let t = takes_from_back s v (values (rest s 0 1)) e in
+    let non_empty = some_bytes s (not_none (values (rest s 0 1)) v e) in
+    let h = is_between path old non_empty in
     let before = t.before in
     let enough = t.fits in
     let in_range = t.in_range in
@@ -53,65 +54,65 @@ taken_behind path old new part v e start size kind front back =
     let fits = h.in_range in
     let last : part_bytes path part ≡ value_bytes v =
     ap (λ n. take n (drop part.start path)) size
-    ∙ take-bytes_left path old s part.start (n - k) k h (omega arith) (omega arith) ∙ t.bytes in
+    ∙ take-remaining path old s part.start (n - k) k h (omega arith) (omega arith) ∙ t.bytes in
     let value = part_value-is path part v kind last in
-    let left_is : bytes_left path new ≡ rest s 0 1 =
-    bytes_left-in_range path new (omega arith) (omega arith)
-    ∙ range-bytes_left path old s new.front new.back 0 m h (omega arith) (omega arith)
-    (omega arith) ∙ t.left in
+    let remaining_is : remaining path new ≡ rest s 0 1 =
+    remaining-in_range path new (omega arith) (omega arith)
+    ∙ range-remaining path old s new.front new.back 0 m h (omega arith) (omega arith)
+    (omega arith) ∙ t.rest_bytes in
     record {
       parts_are = ap (map (part_at f)) t.is
           ∙ map-append (part_at f) (parts (rest s 0 1)) _
           ∙ ap₂ (λ ps p. ps ++ p ∷ [])
-          (ap₂ (λ i u. map (part_at i) (parts u)) (sym front) (sym left_is))
+          (ap₂ (λ i u. map (part_at i) (parts u)) (sym front) (sym remaining_is))
           (same_part (omega arith) (omega arith) (sym value));
-      values_are = e ∙ ap₂ (λ u v. values u ++ v ∷ []) (sym left_is) (sym value);
+      values_are = e ∙ ap₂ (λ u v. values u ++ v ∷ []) (sym remaining_is) (sym value);
       bytes = last ∙ ap value_bytes (sym value);
       kind = omega (arith, kind, kind_of-lt v);
-      left_is = left_is;
-      some = λ nothing. absurd (omega (arith, some, ap length nothing));
+      remaining_is = remaining_is;
+      non_empty = λ nothing. absurd (omega (arith, non_empty, ap length nothing));
       in_order = (
         omega arith,
         (omega arith, (omega arith, (omega arith, (omega arith, (omega arith, tt))))),
       );
     }
 
--- what a fresh cursor has left before one part behind
+-- the rest of a fresh cursor after one step from the back
 cursor_rest-last : (s : List ℕ) (old new : Components) (item : Option Component)
     → cursor_rest old ≡ rest s 0 0 → GivesLastPart old item new → cursor_rest new ≡ rest s 0 1
 cursor_rest-last s old new item whole h = rest-whole_last s whole h.rest_is
 
--- the values of a string, by the last part that a fresh cursor gives
+-- the components of a string end with the one that a fresh cursor returns from the back
 values-last : (s : List ℕ) (old new : Components) (x : Component)
     → cursor_rest old ≡ rest s 0 0 → GivesLastPart old (Some x) new
     → values s ≡ values (rest s 0 1) ++ value_of x ∷ []
 values-last s old new x whole h = sym (values-whole s (cursor_rest old) whole) ∙ h.item_is
     ∙ ap (λ u. values u ++ value_of x ∷ []) (cursor_rest-last s old new (Some x) whole h)
 
--- a fresh cursor that gives no part behind is over the empty string
+-- a fresh cursor that returns no component from the back is over the empty string
 pub nothing_last : (s : List ℕ) (old new : Components) → cursor_rest old ≡ rest s 0 0
     → GivesLastPart old None new → s ≡ []
 nothing_last s old new whole h =
     values-none s (sym (values-whole s (cursor_rest old) whole) ∙ h.item_is.0)
 
--- the places that a step behind computes lie in the path, in order
-pub record StepBehindFits (path : List ℕ) (walk : Walk) (whole text : List ℕ) (left : ℕ)
+-- the indices that a step from the back computes are in the path, in order
+pub record BackStepFits (path : List ℕ) (walk : Walk) (whole text : List ℕ) (rest_bytes : ℕ)
     : Type 0 where
   pub in_range : walk.front + length whole ≤ length path
   pub fits : length text ≤ length whole
-  pub fewer : left ≤ length whole
+  pub fewer : rest_bytes ≤ length whole
 
--- the places that a step behind computes from a fresh cursor lie in the path, in order
-pub step_behind_fits : (path : List ℕ) (walk : Walk) (old new : Components) (x : Component)
-    (whole text : List ℕ) → cursor_rest old ≡ rest (bytes_left path walk) 0 0
+-- the indices that a step from the back computes from a fresh cursor are in the path, in order
+pub back_step_fits : (path : List ℕ) (walk : Walk) (old new : Components) (x : Component)
+    (whole text : List ℕ) → cursor_rest old ≡ rest (remaining path walk) 0 0
     → GivesLastPart old (Some x) new → whole ≡ cursor_rest old → text ≡ value_bytes (value_of x)
-    → StepBehindFits path walk whole text (length (cursor_rest new))
-step_behind_fits path walk old new x whole text w h all bytes =
-    let s = bytes_left path walk in
+    → BackStepFits path walk whole text (length (cursor_rest new))
+back_step_fits path walk old new x whole text w h all bytes =
+    let s = remaining path walk in
     let vs = values (rest s 0 1) in
     let e = values-last s old new x w h in
-    let t = takes_behind s (value_of x) vs e in
-    let b = stands_between path walk (some_bytes s (not_none vs (value_of x) e)) in
+    let t = takes_from_back s (value_of x) vs e in
+    let b = is_between path walk (some_bytes s (not_none vs (value_of x) e)) in
     let long = ap length (all ∙ w) in
     let size = ap length bytes in
     let less = ap length (cursor_rest-last s old new (Some x) w h) in
@@ -121,12 +122,12 @@ step_behind_fits path walk old new x whole text w h all bytes =
       fewer = omega (arith, t.before, t.fits, long, less);
     }
 
--- what a step behind gives, by what a fresh cursor gives
+-- a step from the back removes the component that a fresh cursor returns from the back
 pub next_back_gives : (path : List ℕ) (walk : Walk) (old new : Components) (x : Component)
-    (whole before text : List ℕ) (kind : ℕ) → cursor_rest old ≡ rest (bytes_left path walk) 0 0
+    (whole before text : List ℕ) (kind : ℕ) → cursor_rest old ≡ rest (remaining path walk) 0 0
     → GivesLastPart old (Some x) new → whole ≡ cursor_rest old → before ≡ cursor_rest new
     → text ≡ value_bytes (value_of x) → kind ≡ kind_of (value_of x)
-    → TakenBehind path walk
+    → TakenFromBack path walk
     (record { front = walk.front; back = walk.front + length before })
     (record {
       start = walk.front + length whole - length text;
@@ -134,7 +135,7 @@ pub next_back_gives : (path : List ℕ) (walk : Walk) (old new : Components) (x 
       kind = kind;
     })
 next_back_gives path walk old new x whole before text kind w h all but bytes is =
-    let s = bytes_left path walk in
-    taken_behind path walk _ _ (value_of x) (values-last s old new x w h)
+    let s = remaining path walk in
+    taken_from_back path walk _ _ (value_of x) (values-last s old new x w h)
     (ap (λ u. walk.front + length u - length text) (all ∙ w)) (ap length bytes) is refl
     (ap (λ u. walk.front + length u) (but ∙ cursor_rest-last s old new (Some x) w h))

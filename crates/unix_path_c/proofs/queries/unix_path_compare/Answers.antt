@@ -2,7 +2,7 @@ use Rattle.std.proofs.Common.{rules, ◌≡◌, ap, ap₂, ◌∙◌, w32, to_z,
 use Rattle.unix_path.specs.Order.{values_cmp}
 use Rattle.unix_path.specs.Parts.{values}
 use Rattle.unix_path_c.specs.Queries.{sign_of}
-use Rattle.unix_path_c.proofs.lemmas.places.SignLemmas.{sign-less, sign-equal, sign-greater}
+use Rattle.unix_path_c.proofs.lemmas.spans.SignLemmas.{sign-less, sign-equal, sign-greater}
 use Rattle.unix_path_c.proofs.queries.unix_path_compare.Goals as goal
 
 pub returns-clause-value : goal.returns-clause-value

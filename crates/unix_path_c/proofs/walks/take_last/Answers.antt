@@ -1,23 +1,24 @@
 use Rattle.std.proofs.Common.{true≢false, ap, length, arith}
 use Rattle.unix_path.specs.Cursor.{cursor_rest}
 use Rattle.unix_path_c.proofs.lemmas.walks.TakeFirstLemmas.{rest-same}
-use Rattle.unix_path_c.proofs.lemmas.walks.TakeLastLemmas.{StepBehindFits, step_behind_fits}
+use Rattle.unix_path_c.proofs.lemmas.walks.TakeLastLemmas.{BackStepFits, back_step_fits}
 use Rattle.unix_path_c.proofs.lemmas.walks.TakeLastLemmas.{next_back_gives, nothing_last}
 use Rattle.unix_path_c.proofs.walks.take_last.Goals as goal
 use Rattle.unix_path_c.proofs.walks.take_last.Goals.{After-as_unix_str}
 
-fits : (c : After-as_unix_str) → StepBehindFits c.args.path.now c.args.walk.now
+-- the indices that the step computes are in the path, in order
+fits : (c : After-as_unix_str) → BackStepFits c.args.path.now c.args.walk.now
     c.as_path.result.bytes.now c.as_unix_str.result.bytes.now
     (length (cursor_rest c.next_back.new.self))
 fits c =
-    step_behind_fits c.args.path.now c.args.walk.now _ _ _ _ _
-    (rest-same c.components-parts.ensures.rest c.left_of.ensures)
+    back_step_fits c.args.path.now c.args.walk.now _ _ _ _ _
+    (rest-same c.components-parts.ensures.rest c.rest_of.ensures)
     c.in-Some.ensures.steps c.as_path.ensures.bytes c.as_unix_str.ensures
 
 pub returns-in_default-clause-ended : goal.returns-in_default-clause-ended
 returns-in_default-clause-ended c =
     λ _. nothing_last _ _ _
-    (rest-same c.components-parts.ensures.rest c.left_of.ensures)
+    (rest-same c.components-parts.ensures.rest c.rest_of.ensures)
     c.in_default.ensures.steps
 
 pub overflow_add-part : goal.overflow_add-part
@@ -36,12 +37,12 @@ overflow_add-walk c =
 pub returns : goal.returns
 returns c =
     let t = next_back_gives c.args.path.now c.args.walk.now _ _ _ _ _ _ _
-    (rest-same c.components-parts.ensures.rest c.left_of.ensures)
+    (rest-same c.components-parts.ensures.rest c.rest_of.ensures)
     c.in-Some.ensures.steps c.as_path.ensures.bytes c.as_path-2.ensures.bytes
     c.as_unix_str.ensures c.kind_of.ensures in
     record {
       ended = λ no. absurd (true≢false no);
-      walk_stays = λ no. absurd (true≢false no);
-      part_stays = λ no. absurd (true≢false no);
+      walk_unchanged = λ no. absurd (true≢false no);
+      part_unchanged = λ no. absurd (true≢false no);
       taken = λ _. t;
     }

@@ -1,6 +1,6 @@
 use Rattle.std.proofs.Common.{refl, ap, length, ◌∙◌}
 use Rattle.unix_path.specs.Rest.{rest}
-use Rattle.unix_path_c.proofs.lemmas.walks.BytesLeftLemmas.{is_fresh}
+use Rattle.unix_path_c.proofs.lemmas.walks.RemainingLemmas.{is_fresh}
 use Rattle.unix_path_c.proofs.walks.unix_path_components.Goals as goal
 
 pub returns : goal.returns
@@ -11,6 +11,6 @@ returns c =
     record {
       parts = b.parts_are;
       values = b.values_are;
-      left = b.left_is;
+      remaining_bytes = b.remaining_is;
       in_order = (b.in_order, (b.in_range, tt));
     }

@@ -5,11 +5,11 @@ use Rattle.unix_path.proofs.lemmas.names.NameEndLemmas.{file_name_of-name_end}
 use Rattle.path_runs.proofs.lemmas.edits.EditStepLemmas.{keeps-replaced}
 use Rattle.path_runs.proofs.edits.step.add_extension.Goals as goal
 
-pub returns-clause-known : goal.returns-clause-known
-returns-clause-known c =
+pub returns-clause-cache : goal.returns-clause-cache
+returns-clause-cache c =
     let kept = keeps-replaced _ _ _ (46 ∷ []) c.as_bytes-more.result.now
     c.in-Some.end c.bytes_of.ensures c.in-Some.ensures.in_range c.in_ok-replace_end.ensures.ok in
-    c.cut.ensures _ _ c.in-Some.ensures.known kept.in_range kept.same
+    c.truncate.ensures _ _ c.in-Some.ensures.cache kept.in_range kept.same
 
 pub returns-clause-value : goal.returns-clause-value
 returns-clause-value c = sym (file_name_of-name_end (path_bytes c.args.path.now) c.in-Some.end

@@ -5,8 +5,8 @@ use Rattle.path_runs.proofs.laws.joins.join_associative.Goals as goal
 pub returns-clause-bytes : goal.returns-clause-bytes
 returns-clause-bytes c = join_of-join_of
 
-pub returns-clause-left : goal.returns-clause-left
-returns-clause-left c = join_of-nil
+pub returns-clause-empty_first : goal.returns-clause-empty_first
+returns-clause-empty_first c = join_of-nil
 
-pub returns-clause-right : goal.returns-clause-right
-returns-clause-right c = values-join_of_nil
+pub returns-clause-empty_second : goal.returns-clause-empty_second
+returns-clause-empty_second c = values-join_of_nil

@@ -3,7 +3,7 @@ use Rattle.std.proofs.Common.{arith, append_assoc}
 use Rattle.unix_path.specs.Parts.{slash, values}
 use Rattle.unix_path.proofs.lemmas.order.CommonPrefixLemmas.{values-past_slash}
 use Rattle.path_runs.proofs.lemmas.joins.ValueLemmas.{values-join_of}
-use Rattle.path_runs.proofs.lemmas.joins.LeadLemmas.{drop_dot-values, drop_lead-values}
+use Rattle.path_runs.proofs.lemmas.joins.LeadLemmas.{drop_dot-values, drop_leading-values}
 use Rattle.path_runs.proofs.laws.joins.join_values.Goals as goal
 
 some_byte : (s : List ℕ) → s ≢ [] → 0 < length s
@@ -16,4 +16,5 @@ returns-clause-join c = λ a b some r. values-join_of a b (some_byte a some) r
 
 pub returns-clause-slash : goal.returns-clause-slash
 returns-clause-slash c = λ a b. ap values (sym (append_assoc a (slash ∷ []) b))
-    ∙ values-past_slash a b ∙ ap (λ vs. values (a ++ slash ∷ []) ++ vs) (sym (drop_lead-values b))
+    ∙ values-past_slash a b
+    ∙ ap (λ vs. values (a ++ slash ∷ []) ++ vs) (sym (drop_leading-values b))

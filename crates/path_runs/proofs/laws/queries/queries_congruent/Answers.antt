@@ -3,9 +3,9 @@ use Rattle.unix_path.specs.Hashed.{hash_input_of}
 use Rattle.unix_path.specs.Names.{file_name_of, stem_of, extension_of, file_prefix_of}
 use Rattle.unix_path.specs.Order.{values_cmp}
 use Rattle.unix_path.specs.Parts.{value_bytes}
-use Rattle.unix_path.specs.Prefixes.{Begins, Ends}
-use Rattle.path_runs.proofs.lemmas.edits.AlikeLemmas.{holds_same, parents_same, ancestors_same}
-use Rattle.path_runs.proofs.lemmas.edits.AlikeLemmas.{stripped_of-same}
+use Rattle.unix_path.specs.Prefixes.{IsPrefixOf, IsSuffixOf}
+use Rattle.path_runs.proofs.lemmas.edits.EqualPathLemmas.{holds_same, parents_same, ancestors_same}
+use Rattle.path_runs.proofs.lemmas.edits.EqualPathLemmas.{stripped_of-same}
 use Rattle.path_runs.proofs.lemmas.edits.CongruenceLemmas.{rests_same, with_name_same}
 use Rattle.path_runs.proofs.lemmas.edits.CongruenceLemmas.{with_extension_same}
 use Rattle.path_runs.proofs.lemmas.edits.CongruenceLemmas.{added_extension_same}
@@ -20,8 +20,8 @@ returns c = record {
   extension = λ s t e. ap extension_of e;
   file_prefix = λ s t e. ap file_prefix_of e;
   items = λ s t e. ap (map value_bytes) e;
-  starts_with = holds_same (λ v base. Begins base v);
-  ends_with = holds_same (λ v child. Ends child v);
+  starts_with = holds_same (λ v base. IsPrefixOf base v);
+  ends_with = holds_same (λ v child. IsSuffixOf child v);
   equality = holds_same (λ v u. v ≡ u);
   order = λ s t u w e f. ap₂ values_cmp e f;
   hash = λ s t e. ap hash_input_of e;

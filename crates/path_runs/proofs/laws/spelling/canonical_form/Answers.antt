@@ -10,5 +10,5 @@ returns-clause-reads_back c = values-spelling_of
 pub returns-clause-shortest : goal.returns-clause-shortest
 returns-clause-shortest c = spelling_of-shortest
 
-pub returns-clause-tells : goal.returns-clause-tells
-returns-clause-tells c = λ s t. (λ e. ap spelling_of e, spelling_of-same s t)
+pub returns-clause-determines : goal.returns-clause-determines
+returns-clause-determines c = λ s t. (λ e. ap spelling_of e, spelling_of-same s t)

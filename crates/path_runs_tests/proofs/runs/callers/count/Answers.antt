@@ -7,5 +7,5 @@ use Rattle.path_runs_tests.proofs.runs.callers.count.Goals as goal
 pub count-requires-clause-fits : goal.count-requires-clause-fits
 count-requires-clause-fits c =
     let small = c.ranges.parts.0 in
-    let left = cursor_rest c.args.parts in
-    inl (omega (arith, length-values left, length-cursor_rest c.args.parts))
+    let rest = cursor_rest c.args.parts in
+    inl (omega (arith, length-values rest, length-cursor_rest c.args.parts))

@@ -15,9 +15,9 @@ returns g c =
         refl,
         λ x. (
           ap (rows_of path_bytes) (follows.holds x).0
-              ∙ rows_of-set_value v c.args.self.now.files.entries x,
+              ∙ rows_of-set_value v c.args.self.now.inner.entries x,
           ap (λ es. map path_bytes (keys_of es)) (follows.holds x).0
-              ∙ ap (map path_bytes) (keys-set_value _ c.args.self.now.files.entries x),
+              ∙ ap (map path_bytes) (keys-set_value _ c.args.self.now.inner.entries x),
         ),
         (
           ap (λ m. rows_of path_bytes m.entries) follows.holds-at-none,

@@ -1,5 +1,5 @@
 use Rattle.std.proofs.Common.{rules}
-use Rattle.path_table.proofs.UpdateLemmas.{elsewhere-insert_entry}
+use Rattle.path_runs.proofs.lemmas.rows.UpdateLemmas.{elsewhere-insert_entry}
 use Rattle.path_table.proofs.table.PathTable.insert.Goals as goal
 
 pub returns-clause-others : goal.returns-clause-others

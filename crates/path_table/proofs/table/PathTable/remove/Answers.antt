@@ -1,5 +1,5 @@
 use Rattle.std.proofs.Common.{rules}
-use Rattle.path_table.proofs.UpdateLemmas.{elsewhere-remove_entry}
+use Rattle.path_runs.proofs.lemmas.rows.UpdateLemmas.{elsewhere-remove_entry}
 use Rattle.path_table.proofs.table.PathTable.remove.Goals as goal
 
 pub returns-clause-others : goal.returns-clause-others

@@ -6,8 +6,8 @@ use Rattle.unix_path.specs.Order.{values_cmp}
 use Rattle.unix_path.specs.Buffers.{path_bytes}
 use Rattle.unix_path.specs.Parts.{values}
 use Rattle.path_runs.specs.TableLaws.{rows_of}
-use Rattle.path_table.specs.Table.{answer_rest, answer_row, entries_under, rests_under}
-use Rattle.path_table.specs.Under.{GivesUnder, rests_left, under_left}
+use Rattle.path_table.specs.Table.{item_rest, item_row, entries_under, rests_under}
+use Rattle.path_table.specs.Under.{YieldsUnder, remaining_rests, remaining_rows}
 use Rattle.path_table.proofs.RangeLemmas.{range_ordered, range_from_base, range_under}
 use Rattle.path_table.proofs.RangeLemmas.{fewer_under}
 use Rattle.path_table.proofs.RestsLemmas.{rests_from_base}
@@ -16,25 +16,25 @@ use Rattle.path_table.proofs.table.PathTable.walk_under.Goals as goal
 pub invariant_of-result : goal.invariant_of-result
 invariant_of-result g c =
     let base = values c.as_path.result.bytes.now in
-    let all = c.args.self.now.files.entries in
+    let all = c.args.self.now.inner.entries in
     let is : c.range.result ≡ filter (λ e. is_le (values_cmp base (values (path_bytes e.0)))) all =
     rw c.as_path.ensures (search rules) in
     record {
       ordered = range_ordered base all c.range.result is c.range.ensures.ordered;
-      start = range_from_base base all c.range.result is;
+      none_before = range_from_base base all c.range.result is;
     }
 
-pub returns-clause-left : goal.returns-clause-left
-returns-clause-left g c =
+pub returns-clause-all_rows : goal.returns-clause-all_rows
+returns-clause-all_rows g c =
     let base = values (path_bytes c.args.base.now) in
     ap (λ s. entries_under (values s) (rows_of path_bytes c.range.result)) c.as_path.ensures
-    ∙ range_under base c.args.self.now.files.entries c.range.result (search rules)
+    ∙ range_under base c.args.self.now.inner.entries c.range.result (search rules)
     c.base_before_under.ensures
 
 pub returns-clause-rests : goal.returns-clause-rests
 returns-clause-rests g c =
     let base = c.as_path.result.bytes.now in
-    let all = c.args.self.now.files.entries in
+    let all = c.args.self.now.inner.entries in
     let is : c.range.result
     ≡ filter (λ e. is_le (values_cmp (values base) (values (path_bytes e.0)))) all =
     rw c.as_path.ensures (search rules) in
@@ -43,12 +43,12 @@ returns-clause-rests g c =
 
 pub returns-clause-runs : goal.returns-clause-runs
 returns-clause-runs g c =
-    from_front GivesUnder answer_row under_left (λ s t h. ap length h.row_is.0)
+    from_front YieldsUnder item_row remaining_rows (λ s t h. ap length h.row_is.0)
     (λ s x t h. h.row_is)
 
 pub returns-clause-runs_rests : goal.returns-clause-runs_rests
 returns-clause-runs_rests g c =
-    from_front GivesUnder answer_rest rests_left (λ s t h. ap length h.rest_is.0)
+    from_front YieldsUnder item_rest remaining_rests (λ s t h. ap length h.rest_is.0)
     (λ s x t h. h.rest_is)
 
 pub returns-clause-fits : goal.returns-clause-fits

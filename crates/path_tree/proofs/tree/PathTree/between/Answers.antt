@@ -1,22 +1,33 @@
-use Rattle.std.proofs.Common.{◌∙◌, ◌&&◌, ap, is_le, not}
+use Rattle.std.proofs.Common.{◌∙◌, ◌&&◌, ap, eqb, is_le, not, subst, sym}
+use Rattle.std.specs.List.{starts_with}
+use Rattle.std.specs.List.Sorted.{IsStrictlySortedBy}
+use Rattle.std.specs.Map.{keys_of}
 use Rattle.path_keys.specs.Ranges.{bytes_cmp}
-use Rattle.path_table.specs.Table.{is_under}
-use Rattle.path_tree.specs.Read.{key_values}
-use Rattle.path_tree.specs.Rows.{Key, key_rows}
-use Rattle.path_tree.proofs.lemmas.keys.UnderLemmas.{between-under, filter-rows_by, forward}
+use Rattle.path_tree.specs.Rows.{key_entries}
+use Rattle.path_tree.specs.Tree.{entries_of}
+use Rattle.path_tree.proofs.lemmas.keys.UnderLemmas.{forward}
+use Rattle.path_tree.proofs.lemmas.rows.EntryLemmas.{between-starts, filter-key_entries}
+use Rattle.path_tree.proofs.lemmas.rows.EntryLemmas.{sorted-key_entries}
+use Rattle.path_tree.proofs.lemmas.rows.WalkLemmas.{sorted-filter}
 use Rattle.path_tree.proofs.tree.PathTree.between.Goals as goal
 
 pub range-requires : goal.range-requires
-range-requires g c = forward c.args.first.now.items c.args.end.now.items c.requires.ends
+range-requires g c = forward c.args.first.now.items c.args.end.now.items c.requires
 
-pub returns-clause-rows : goal.returns-clause-rows
-returns-clause-rows g c =
-    let tree = c.args.self.now in
+pub returns-clause-entries : goal.returns-clause-entries
+returns-clause-entries g c =
     let first = c.args.first.now.items in
     let end = c.args.end.now.items in
-    ap key_rows (c.range.ensures.between tt)
-    ∙ filter-rows_by (λ (k : Key). k.items)
+    ap key_entries (c.range.ensures.between tt)
+    ∙ filter-key_entries
     (λ k. is_le (bytes_cmp first k.items) && not (is_le (bytes_cmp end k.items)))
-    (is_under (key_values first))
-    (λ k other. between-under first end k.items c.requires.ends c.requires.own other)
-    tree.entries.entries tree.own
+    (λ key. starts_with eqb key first)
+    (λ k. between-starts first end k.items c.requires) c.args.self.now.entries.entries
+
+pub returns-clause-ordered : goal.returns-clause-ordered
+returns-clause-ordered g c =
+    let tree = c.args.self.now in
+    let first = c.args.first.now.items in
+    subst (λ l. IsStrictlySortedBy bytes_cmp (keys_of l)) (sym (returns-clause-entries g c))
+    (sorted-filter (λ e. starts_with eqb e.0 first) bytes_cmp (entries_of tree)
+    (sorted-key_entries tree.entries.entries c.range.ensures.ordered))

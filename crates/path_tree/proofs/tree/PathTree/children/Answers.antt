@@ -2,8 +2,8 @@ use Rattle.std.proofs.Common.{◌≡◌, ◌∙◌, ◌∷◌, ◌++◌, ◌+◌
 use Rattle.std.proofs.Common.{arith, eqb, length, map, option_map, Bor, List, [], if◌then◌else◌}
 use Rattle.std.proofs.Common.{take, Option, IfSome, false, rules, subst, subst₂, sym, ℕ}
 use Rattle.std.specs.List.{starts_with}
-use Rattle.unix_path.specs.Prefixes.{Begins}
-use Rattle.path_tree.specs.Children.{child_row, children_of, lent_child}
+use Rattle.unix_path.specs.Prefixes.{IsPrefixOf}
+use Rattle.path_tree.specs.Children.{child_row, children_of, keyed, lent_child}
 use Rattle.path_tree.specs.Read.{is_own, key_values}
 use Rattle.path_tree.specs.Rows.{Key}
 use Rattle.path_tree.specs.Tree.{table_of}
@@ -79,7 +79,7 @@ loop-key-smaller-in-Some-begun_by g c =
     (subst (λ l. FindsChildren base entries last l found) steps c.loop-key.invariant) in
     let fewer = passed_fewer base c.vec_of-base.ensures.own entries tree.own
     c.range-rest.ensures.ordered child _ e es found h
-    (subst (Begins child) c.deref.ensures.value is.1) c.in_ok-set_end.ensures
+    (subst (IsPrefixOf child) c.deref.ensures.value is.1) c.in_ok-set_end.ensures
     c.range-rest-in-Some-begun_by.result (c.range-rest-in-Some-begun_by.ensures.between tt) in
     omega (arith, fewer, ap length steps)
 
@@ -101,7 +101,7 @@ loop-key-preserved-in-Some-begun_by g c =
     subst (λ o. FindsChildren base entries o c.range-rest-in-Some-begun_by.result found) (sym is.0)
     (passes base c.vec_of-base.ensures.own entries tree.own
     c.range-rest.ensures.ordered child _ e es found h
-    (subst (Begins child) c.deref.ensures.value is.1) c.in_ok-set_end.ensures
+    (subst (IsPrefixOf child) c.deref.ensures.value is.1) c.in_ok-set_end.ensures
     c.range-rest-in-Some-begun_by.result (c.range-rest-in-Some-begun_by.ensures.between tt))
 
 pub child_key-child-requires-clause-own : goal.child_key-child-requires-clause-own
@@ -123,11 +123,12 @@ child_key-child-requires-clause-own g c =
 pub child_key-child-requires-clause-below : goal.child_key-child-requires-clause-below
 child_key-child-requires-clause-below g c =
     let base = c.vec_of-base.result.now.items in
-    let begins : Begins base c.in-Some.key.now.items =
+    let begins : IsPrefixOf base c.in-Some.key.now.items =
     begins_by c.as_slice.result.now c.deref-in-Some.result.now c.in-Some.key.now.items base
     c.starts_with.result c.starts_with.ensures.value c.as_slice.ensures.value
     c.deref-in-Some.ensures.value (search rules) in
-    subst₂ Begins (sym c.deref-in-Some-3.ensures.value) (sym c.deref-in-Some-2.ensures.value) begins
+    subst₂ IsPrefixOf (sym c.deref-in-Some-3.ensures.value) (sym c.deref-in-Some-2.ensures.value)
+    begins
 
 pub child_key-child-requires-clause-longer : goal.child_key-child-requires-clause-longer
 child_key-child-requires-clause-longer g c =
@@ -141,7 +142,7 @@ child_key-child-requires-clause-longer g c =
     let steps : c.loop-key.rest ≡ e ∷ es = search rules in
     let h : FindsChildren base entries last (e ∷ es) found =
     subst (λ l. FindsChildren base entries last l found) steps c.loop-key.invariant in
-    let begins : Begins base c.in-Some.key.now.items =
+    let begins : IsPrefixOf base c.in-Some.key.now.items =
     begins_by c.as_slice.result.now c.deref-in-Some.result.now c.in-Some.key.now.items base
     c.starts_with.result c.starts_with.ensures.value c.as_slice.ensures.value
     c.deref-in-Some.ensures.value (search rules) in
@@ -166,7 +167,7 @@ returns-in_err-push-clause-succeeds g c = λ none.
     let steps : c.loop-key.rest ≡ e ∷ es = search rules in
     let h : FindsChildren base entries last (e ∷ es) found =
     subst (λ l. FindsChildren base entries last l found) steps c.loop-key.invariant in
-    let begins : Begins base c.in-Some.key.now.items =
+    let begins : IsPrefixOf base c.in-Some.key.now.items =
     begins_by c.as_slice.result.now c.deref-in-Some.result.now c.in-Some.key.now.items base
     c.starts_with.result c.starts_with.ensures.value c.as_slice.ensures.value
     c.deref-in-Some.ensures.value (search rules) in
@@ -205,7 +206,7 @@ loop-key-preserved g c =
     let steps : c.loop-key.rest ≡ e ∷ es = search rules in
     let h : FindsChildren base entries last (e ∷ es) found =
     subst (λ l. FindsChildren base entries last l found) steps c.loop-key.invariant in
-    let begins : Begins base c.in-Some.key.now.items =
+    let begins : IsPrefixOf base c.in-Some.key.now.items =
     begins_by c.as_slice.result.now c.deref-in-Some.result.now c.in-Some.key.now.items base
     c.starts_with.result c.starts_with.ensures.value c.as_slice.ensures.value
     c.deref-in-Some.ensures.value (search rules) in
@@ -235,24 +236,29 @@ loop-key-preserved g c =
     ∙ c.child_key-child.ensures.whole
     ∙ ap₂ (λ b k. length (key_values k) == length (key_values b) + 1)
     c.deref-in-Some-3.ensures.value c.deref-in-Some-2.ensures.value in
-    let row : lent_child c.with_value.result ≡ child_row (key_values base) (key_values key, x) =
-    c.with_value.ensures ∙ ap₂ (λ v t. (v, if t then Some x else None)) values whole in
+    let own_value : Option g.row.V.Denot =
+    if length child == length c.deref-in-Some-4.result.now then Some x else None in
+    let row : (key_values child, own_value) ≡ child_row (key_values base) (key_values key, x) =
+    ap₂ (λ v t. (v, if t then Some x else None)) values whole in
     finds base c.vec_of-base.ensures.own entries tree.own c.range-rest.ensures.ordered last e es
     found h child is_child
-    values is_below no_other (map lent_child c.push.new.self.items)
+    values is_below no_other
+    (without c.loop-key.last c.deref.result.now key (search rules) c.deref.ensures.value)
+    (subst (IsPrefixOf child) c.deref-in-Some-2.ensures.value c.child_key-child.ensures.begins)
+    own_value row (map lent_child c.push.new.self.items)
     (ap (map lent_child) c.in_ok-push.ensures.items
     ∙ sym (append-nil _)
     ∙ map_push-append lent_child c.loop-key.found.items c.with_value.result []
-    ∙ ap (λ r. found ++ r ∷ []) row)
+    ∙ ap (λ r. found ++ r ∷ []) c.with_value.ensures)
 
-pub returns-clause-rows : goal.returns-clause-rows
-returns-clause-rows g c =
+pub returns-clause-entries : goal.returns-clause-entries
+returns-clause-entries g c =
     let tree = c.args.self.now in
     let entries = tree.entries.entries in
     let base = c.vec_of-base.result.now.items in
     let found = map lent_child c.loop-key.found.items in
     let last : Option (List ℕ) = option_map (λ (b : Bor (List ℕ)). b.now) c.loop-key.last in
-    let all : found ≡ children_of (key_values base) (table_of tree) =
+    let all : found ≡ keyed (children_of (key_values base) (table_of tree)) =
     elim c.match-next.branch [
       | in-Some+in_default-begun_by+then-not-starts_with w ↦
           let e : Key × g.row.V.Denot = (w.in-Some.key.now, w.in-Some.value.now) in
@@ -274,4 +280,7 @@ returns-clause-rows g c =
           last found
           (subst (λ l. FindsChildren base entries last l found) none c.loop-key.invariant)
     ] in
-    all ∙ ap (λ b. children_of (key_values b) (table_of tree)) c.vec_of-base.ensures.bytes
+    all ∙ ap (λ b. keyed (children_of (key_values b) (table_of tree))) c.vec_of-base.ensures.bytes
+
+pub returns-clause-ordered : goal.returns-clause-ordered
+returns-clause-ordered g c = c.loop-key.invariant.sorted

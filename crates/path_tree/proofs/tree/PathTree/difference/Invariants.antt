@@ -1,16 +1,16 @@
 use Rattle.std.proofs.Common.{◌≡◌, ◌++◌, map}
-use Rattle.path_tree.specs.Ahead.{ahead_of}
-use Rattle.path_tree.specs.Difference.{lent_row, rows_lacking}
-use Rattle.path_tree.specs.Rows.{key_rows}
-use Rattle.path_tree.specs.Tree.{table_of}
-use Rattle.path_tree.proofs.lemmas.rows.BesideLemmas.{Beside}
+use Rattle.path_tree.specs.Cursor.{cursor_entries}
+use Rattle.path_tree.specs.Difference.{entries_lacking, lent_entry}
+use Rattle.path_tree.specs.Rows.{key_entries}
+use Rattle.path_tree.specs.Tree.{entries_of}
+use Rattle.path_tree.proofs.lemmas.rows.MergeLemmas.{Merges}
 use Rattle.path_tree.proofs.tree.PathTree.difference.Given as goal
 
 abbrev pub invariant-loop-key : goal.invariant-loop-key
 invariant-loop-key g l =
     (goal.iterator-loop-key g).can_next l.key-iterator
     × (goal.iterator-loop-key g).is_finite l.key-iterator
-    × Beside (table_of l.fn.other) (ahead_of l.others.first l.others.behind) l.key-iterator
-    × (map lent_row l.found.items
-    ++ rows_lacking (table_of l.fn.other) (key_rows l.key-iterator)
-    ≡ rows_lacking (table_of l.fn.other) (table_of l.fn.self))
+    × Merges (entries_of l.fn.other) (cursor_entries l.others) (key_entries l.key-iterator)
+    × (map lent_entry l.found.items
+    ++ entries_lacking (entries_of l.fn.other) (key_entries l.key-iterator)
+    ≡ entries_lacking (entries_of l.fn.other) (entries_of l.fn.self))

@@ -1,5 +1,5 @@
 use Rattle.std.proofs.Common.{◌≡◌, ◌∷◌, ◌++◌, ◌∙◌, [], rules, subst, sym, true}
-use Rattle.path_tree.specs.Marks.{is_marked}
+use Rattle.path_tree.specs.KeyFilter.{may_contain}
 use Rattle.path_tree.proofs.lemmas.keys.PassLemmas.{AllKeys-always}
 use Rattle.path_tree.proofs.lemmas.rows.SortedWalkLemmas.{Listed, listed_more, listed_none}
 use Rattle.path_tree.proofs.lemmas.rows.SortedWalkLemmas.{made_own, made_rows, rise, stops}
@@ -43,8 +43,8 @@ invariant_of-tree g c =
     record {
       own = made_own c.loop-path.entries.items c.loop-path.yielded c.loop-path.invariant
           made c.in_ok-map_of.ensures;
-      marked = AllKeys-always (λ k. k.items) (is_marked c.none.result) c.none.ensures
-          made.entries;
+      filtered = AllKeys-always (λ k. k.items) (may_contain c.accept_all.result)
+          c.accept_all.ensures made.entries;
     }
 
 pub returns-clause-ok : goal.returns-clause-ok
@@ -59,7 +59,7 @@ returns-clause-ok g c = record {
     ),
   );
   rise = rise c.loop-path.entries.items c.loop-path.yielded c.loop-path.invariant;
-  rows_are = c.renew_marks.ensures
+  rows_are = c.rebuild_filter.ensures
       ∙ made_rows c.loop-path.entries.items c.loop-path.yielded c.loop-path.invariant
       c.in_ok-map_of.field-0 c.in_ok-map_of.ensures;
 }

@@ -1,7 +1,6 @@
-use Rattle.path_tree.proofs.lemmas.keys.UnderLemmas.{sorted-rows_by}
+use Rattle.path_tree.proofs.lemmas.rows.EntryLemmas.{sorted-key_entries}
 use Rattle.path_tree.proofs.tree.PathTree.iter.Goals as goal
 
 pub returns-clause-ordered : goal.returns-clause-ordered
 returns-clause-ordered g c =
-    let tree = c.args.self.now in
-    sorted-rows_by (λ k. k.items) tree.entries.entries tree.own c.iter.ensures.ordered
+    sorted-key_entries c.args.self.now.entries.entries c.iter.ensures.ordered

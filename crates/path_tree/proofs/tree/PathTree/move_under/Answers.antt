@@ -1,12 +1,15 @@
-use Rattle.std.proofs.Common.{◌≡◌, ◌∙◌, [], ap, ap₂, length, rules, subst, sym, true}
+use Rattle.std.proofs.Common.{◌≡◌, ◌∙◌, [], ap, ap₂, length, refl, rules, subst, sym, true}
 use Rattle.std.specs.List.{AllByRecursion}
-use Rattle.unix_path.specs.Prefixes.{Begins}
-use Rattle.path_table.specs.Table.{is_under}
+use Rattle.unix_path.specs.Prefixes.{IsPrefixOf}
+use Rattle.path_runs.specs.Rows.{is_under}
 use Rattle.path_keys.specs.Held.{key_bytes}
 use Rattle.path_tree.specs.Moved.{moved_rows, rows_with}
 use Rattle.path_tree.specs.Read.{is_own, key_values}
-use Rattle.path_tree.specs.Rows.{key_rows, rows_outside, rows_under}
-use Rattle.path_tree.specs.Tree.{table_of}
+use Rattle.path_tree.specs.Rows.{entries_under, key_rows, rows_outside, rows_under}
+use Rattle.path_tree.specs.Tree.{entries_of, table_of}
+use Rattle.path_tree.proofs.lemmas.keys.ReadLemmas.{own-IsKey}
+use Rattle.path_tree.proofs.lemmas.rows.CursorLemmas.{taken-some}
+use Rattle.path_tree.proofs.lemmas.rows.EntryLemmas.{rows_under-none, rows_under-some}
 use Rattle.path_tree.proofs.lemmas.rows.ManyLemmas.{length-key_rows}
 use Rattle.path_tree.proofs.lemmas.rows.MovedLemmas.{all_last, none_under, length-moved}
 use Rattle.path_tree.proofs.lemmas.rows.MovedLemmas.{moved_outside}
@@ -14,12 +17,32 @@ use Rattle.path_tree.proofs.lemmas.rows.MovedLemmas.{moved_under, outside-with, 
 use Rattle.path_tree.proofs.lemmas.keys.UnderLemmas.{key_begins}
 use Rattle.path_tree.proofs.tree.PathTree.move_under.Goals as goal
 
+pub returns-clause-free : goal.returns-clause-free
+returns-clause-free g c =
+    let tree = c.args.self.now in
+    let to = c.args.to.now in
+    let none : entries_under (key_bytes to) (entries_of tree) ≡ [] = search rules in
+    rows_under-none (key_bytes to) (own-IsKey _ _ refl to.is_key) tree.entries.entries tree.own none
+
+pub returns-then-is_some-clause-occupied : goal.returns-then-is_some-clause-occupied
+returns-then-is_some-clause-occupied g c = λ occupied none.
+    let tree = c.args.self.now in
+    let to = c.args.to.now in
+    let empty = rows_under-some (key_bytes to) (own-IsKey _ _ refl to.is_key) tree.entries.entries
+    tree.own none in
+    taken-some c.in_ok-under.field-0 c.next.result c.next.new.self c.next.ensures.steps
+    (c.in_ok-under.ensures.entries ∙ empty) (sym c.is_some.ensures ∙ c.if-is_some.true)
+
 pub returns-in-Err-clause-err : goal.returns-in-Err-clause-err
 returns-in-Err-clause-err g c =
     let rows = table_of c.args.self.now in
     let from = key_values (key_bytes c.args.from.now) in
     let to = key_values (key_bytes c.args.to.now) in
-    let free : rows_under to rows ≡ [] = search rules in
+    let none : entries_under (key_bytes c.args.to.now) (entries_of c.args.self.now) ≡ [] =
+    search rules in
+    let free : rows_under to rows ≡ [] = rows_under-none (key_bytes c.args.to.now)
+    (own-IsKey _ _ refl c.args.to.now.is_key) c.args.self.now.entries.entries c.args.self.now.own
+    none in
     let moved : key_rows c.in_ok-moved.moved.items ≡ moved_rows from to rows =
     c.in_ok-moved.ensures.rows
     ∙ ap₂ (λ f t. moved_rows (key_values f) (key_values t) rows) c.bytes_of.ensures.bytes
@@ -37,7 +60,11 @@ returns-clause-rows g c =
     let rows = table_of c.args.self.now in
     let from = key_values (key_bytes c.args.from.now) in
     let to = key_values (key_bytes c.args.to.now) in
-    let free : rows_under to rows ≡ [] = search rules in
+    let none : entries_under (key_bytes c.args.to.now) (entries_of c.args.self.now) ≡ [] =
+    search rules in
+    let free : rows_under to rows ≡ [] = rows_under-none (key_bytes c.args.to.now)
+    (own-IsKey _ _ refl c.args.to.now.is_key) c.args.self.now.entries.entries c.args.self.now.own
+    none in
     let moved : key_rows c.in_ok-moved.moved.items ≡ moved_rows from to rows =
     c.in_ok-moved.ensures.rows
     ∙ ap₂ (λ f t. moved_rows (key_values f) (key_values t) rows) c.bytes_of.ensures.bytes
@@ -46,13 +73,13 @@ returns-clause-rows g c =
     ap is_own (sym c.bytes_of.ensures.bytes) ∙ c.bytes_of.ensures.own in
     let to_own : is_own (key_bytes c.args.to.now) ≡ true =
     ap is_own (sym c.bytes_of-2.ensures.bytes) ∙ c.bytes_of-2.ensures.own in
-    let apart : Begins from to → ⊥ = λ begins.
+    let apart : IsPrefixOf from to → ⊥ = λ begins.
     let told = c.starts_with.ensures.bytes.1
     (key_begins (key_bytes c.args.from.now) (key_bytes c.args.to.now) from_own to_own begins) in
     let e = sym told ∙ c.if-starts_with.false in cc in
     c.remove_under-2.ensures.rows
     ∙ ap (rows_outside from) (c.in_default.ensures.ok ∙ ap (rows_with rows) moved)
-    ∙ outside-with rows c.in_order.ensures from (moved_rows from to rows)
+    ∙ outside-with rows c.show_entries.ensures.rows_ordered from (moved_rows from to rows)
     (moved_outside from to apart rows (none_under to rows free))
 
 pub returns-clause-count : goal.returns-clause-count
@@ -60,7 +87,11 @@ returns-clause-count g c =
     let rows = table_of c.args.self.now in
     let from = key_values (key_bytes c.args.from.now) in
     let to = key_values (key_bytes c.args.to.now) in
-    let free : rows_under to rows ≡ [] = search rules in
+    let none : entries_under (key_bytes c.args.to.now) (entries_of c.args.self.now) ≡ [] =
+    search rules in
+    let free : rows_under to rows ≡ [] = rows_under-none (key_bytes c.args.to.now)
+    (own-IsKey _ _ refl c.args.to.now.is_key) c.args.self.now.entries.entries c.args.self.now.own
+    none in
     let moved : key_rows c.in_ok-moved.moved.items ≡ moved_rows from to rows =
     c.in_ok-moved.ensures.rows
     ∙ ap₂ (λ f t. moved_rows (key_values f) (key_values t) rows) c.bytes_of.ensures.bytes

@@ -3,7 +3,7 @@ use Rattle.std.proofs.Common.{length, refl, rules, subst, sym, true}
 use Rattle.std.proofs.lemmas.List.Elements.{All-head, All-tail}
 use Rattle.std.specs.List.{starts_with}
 use Rattle.unix_path.specs.Parts.{Value}
-use Rattle.path_table.specs.Table.{is_under}
+use Rattle.path_runs.specs.Rows.{is_under}
 use Rattle.path_tree.specs.Moved.{moved_row, moved_rows}
 use Rattle.path_tree.specs.Read.{is_own, key_values}
 use Rattle.path_tree.specs.Rows.{Key, key_rows}

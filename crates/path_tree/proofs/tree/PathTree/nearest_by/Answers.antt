@@ -2,7 +2,7 @@ use Rattle.std.proofs.Common.{refl, sym, ap, ◌∙◌, ◌-◌, subst, arith}
 use Rattle.unix_path.specs.Cursor.{cursor_rest}
 use Rattle.unix_path.specs.Prefixes.{stripped_of}
 use Rattle.unix_path.specs.Views.{value_of}
-use Rattle.path_table.specs.Table.{value_at}
+use Rattle.path_runs.specs.Rows.{value_at}
 use Rattle.path_tree.specs.Tree.{table_of}
 use Rattle.path_tree.proofs.lemmas.keys.NearestLemmas.{GoesUp, code_fits, goes_on, goes_up}
 use Rattle.path_tree.proofs.lemmas.keys.NearestLemmas.{is_nearest, none_nearer}
@@ -13,8 +13,8 @@ pub loop-value-init : goal.loop-value-init
 loop-value-init g c =
     goes_up _ _ _ _ _ c.requires.own c.requires.values refl c.components-parts.ensures.values
 
-pub find_marked-requires : goal.find_marked-requires
-find_marked-requires g c = own-of _ (cursor_rest c.loop-value.parts) c.loop-value.invariant.key_is
+pub find_filtered-requires : goal.find_filtered-requires
+find_filtered-requires g c = own-of _ (cursor_rest c.loop-value.parts) c.loop-value.invariant.key_is
 
 pub returns-in-Some-clause-nearest : goal.returns-in-Some-clause-nearest
 returns-in-Some-clause-nearest g c =
@@ -24,7 +24,7 @@ returns-in-Some-clause-nearest g c =
     c.loop-value.invariant
     (c.in-Some.ensures
     ∙ ap (λ v. value_at v rows) (values-of _ left c.loop-value.invariant.key_is))
-    (c.rest_behind.ensures.bytes
+    (c.rest_after.ensures.bytes
     ∙ ap (stripped_of c.args.path.bytes.now) c.as_path.ensures.bytes)
 
 pub returns-in_default-next_back-clause-none : goal.returns-in_default-next_back-clause-none

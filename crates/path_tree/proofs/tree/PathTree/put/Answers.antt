@@ -1,7 +1,7 @@
 use Rattle.std.proofs.Common.{ap, sym, ◌∙◌}
-use Rattle.path_table.proofs.UpdateLemmas.{elsewhere-insert_entry}
-use Rattle.path_table.specs.Table.{value_at}
-use Rattle.path_tree.specs.Marks.{is_marked}
+use Rattle.path_runs.proofs.lemmas.rows.UpdateLemmas.{elsewhere-insert_entry}
+use Rattle.path_runs.specs.Rows.{value_at}
+use Rattle.path_tree.specs.KeyFilter.{may_contain}
 use Rattle.path_tree.specs.Read.{is_own, key_values}
 use Rattle.path_tree.proofs.lemmas.keys.PassLemmas.{AllKeys-insert, AllKeys-wider}
 use Rattle.path_tree.proofs.lemmas.keys.ReadLemmas.{own-stands}
@@ -11,24 +11,24 @@ use Rattle.path_tree.proofs.tree.PathTree.put.Goals as goal
 pub invariant_of-self : goal.invariant_of-self
 invariant_of-self g c =
     let tree = c.args.self.now in
-    let marks = c.mark.new.self in
+    let filter = c.insert.new.self in
     record {
       own = AllKeys-insert (λ k. k.items) is_own tree.entries.entries
-          c.insert.new.self.entries tree.own _ c.args.key c.args.value c.requires
-          c.insert.result c.insert.ensures.entries c.insert.ensures.err;
-      marked = AllKeys-insert (λ k. k.items) (is_marked marks) tree.entries.entries
-          c.insert.new.self.entries
-          (AllKeys-wider (λ k. k.items) (is_marked tree.marks) (is_marked marks) c.mark.ensures.kept
-          tree.entries.entries tree.marked)
+          c.insert-2.new.self.entries tree.own _ c.args.key c.args.value c.requires
+          c.insert-2.result c.insert-2.ensures.entries c.insert-2.ensures.err;
+      filtered = AllKeys-insert (λ k. k.items) (may_contain filter) tree.entries.entries
+          c.insert-2.new.self.entries
+          (AllKeys-wider (λ k. k.items) (may_contain tree.key_filter) (may_contain filter)
+          c.insert.ensures.kept tree.entries.entries tree.filtered)
           _ c.args.key c.args.value
-          (ap (is_marked marks) (sym c.as_slice.ensures.value) ∙ c.mark.ensures.marked)
-          c.insert.result c.insert.ensures.entries c.insert.ensures.err;
+          (ap (may_contain filter) (sym c.as_slice.ensures.value) ∙ c.insert.ensures.contained)
+          c.insert-2.result c.insert-2.ensures.entries c.insert-2.ensures.err;
     }
 
 pub returns-clause-rows : goal.returns-clause-rows
 returns-clause-rows g c =
     let tree = c.args.self.now in
-    c.renew_marks.ensures ∙ ap (rows_by (λ k. k.items)) c.in_ok-old.ensures.entries
+    c.rebuild_filter.ensures ∙ ap (rows_by (λ k. k.items)) c.in_ok-old.ensures.entries
     ∙ insert-rows_by (λ k. k.items) c.args.key _ (own-stands c.args.key.items c.requires)
     tree.entries.entries c.args.value tree.own
 
@@ -42,11 +42,11 @@ returns-clause-old g c =
 pub returns-clause-found : goal.returns-clause-found
 returns-clause-found g c =
     let tree = c.args.self.now in
-    let new = c.insert.new.self.entries in
+    let new = c.insert-2.new.self.entries in
     let key = c.args.key.items in
     let own = AllKeys-insert (λ k. k.items) is_own tree.entries.entries new tree.own _ c.args.key
-    c.args.value c.requires c.insert.result c.insert.ensures.entries c.insert.ensures.err in
-    ap (value_at (key_values key)) c.renew_marks.ensures
+    c.args.value c.requires c.insert-2.result c.insert-2.ensures.entries c.insert-2.ensures.err in
+    ap (value_at (key_values key)) c.rebuild_filter.ensures
     ∙ sym (lookup-rows_by (λ k. k.items) key _ (own-stands key c.requires) new own)
     ∙ c.in_ok-old.ensures.updates.1
 

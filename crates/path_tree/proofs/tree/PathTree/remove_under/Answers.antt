@@ -3,8 +3,8 @@ use Rattle.std.proofs.lemmas.List.Filters.{length-filter_both}
 use Rattle.std.proofs.lemmas.Map.Made.{filter_same_pairs}
 use Rattle.std.specs.List.{starts_with}
 use Rattle.path_keys.specs.Held.{key_bytes}
-use Rattle.path_table.specs.Table.{is_under}
-use Rattle.path_tree.specs.Marks.{is_marked}
+use Rattle.path_runs.specs.Rows.{is_under}
+use Rattle.path_tree.specs.KeyFilter.{may_contain}
 use Rattle.path_tree.specs.Read.{is_own, key_values}
 use Rattle.path_tree.specs.Rows.{Key, key_rows, rows_outside}
 use Rattle.path_tree.specs.Tree.{table_of}
@@ -22,8 +22,8 @@ invariant_of-self g c =
     record {
       own = AllKeys-filter (λ k. k.items) is_own tree.entries.entries
           c.retain.new.self.entries tree.own _ left;
-      marked = AllKeys-filter (λ k. k.items) (is_marked tree.marks) tree.entries.entries
-          c.retain.new.self.entries tree.marked _ left;
+      filtered = AllKeys-filter (λ k. k.items) (may_contain tree.key_filter) tree.entries.entries
+          c.retain.new.self.entries tree.filtered _ left;
     }
 
 pub returns-clause-rows : goal.returns-clause-rows

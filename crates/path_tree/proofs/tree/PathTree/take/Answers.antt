@@ -1,6 +1,6 @@
 use Rattle.std.proofs.Common.{ap, sym, ◌∙◌}
-use Rattle.path_table.proofs.UpdateLemmas.{elsewhere-remove_entry}
-use Rattle.path_tree.specs.Marks.{is_marked}
+use Rattle.path_runs.proofs.lemmas.rows.UpdateLemmas.{elsewhere-remove_entry}
+use Rattle.path_tree.specs.KeyFilter.{may_contain}
 use Rattle.path_tree.specs.Read.{is_own}
 use Rattle.path_tree.proofs.lemmas.keys.PassLemmas.{AllKeys-remove}
 use Rattle.path_tree.proofs.lemmas.keys.ReadLemmas.{own-stands}
@@ -13,8 +13,8 @@ invariant_of-self g c =
     record {
       own = AllKeys-remove (λ k. k.items) is_own tree.entries.entries
           c.remove.new.self.entries tree.own _ c.remove.ensures.entries;
-      marked = AllKeys-remove (λ k. k.items) (is_marked tree.marks) tree.entries.entries
-          c.remove.new.self.entries tree.marked _ c.remove.ensures.entries;
+      filtered = AllKeys-remove (λ k. k.items) (may_contain tree.key_filter) tree.entries.entries
+          c.remove.new.self.entries tree.filtered _ c.remove.ensures.entries;
     }
 
 pub returns-clause-value : goal.returns-clause-value

@@ -1,17 +1,29 @@
-use Rattle.std.proofs.Common.{◌≡◌, ◌∙◌, None, true, ap, rules}
+use Rattle.std.proofs.Common.{◌≡◌, ◌∙◌, None, ap, eqb, rules, subst, sym, true}
+use Rattle.std.specs.List.{starts_with}
+use Rattle.std.specs.List.Sorted.{IsStrictlySortedBy}
+use Rattle.std.specs.Map.{keys_of}
 use Rattle.path_keys.specs.Held.{key_bytes}
-use Rattle.path_keys.specs.Ranges.{end_of}
-use Rattle.path_table.specs.Table.{is_under}
-use Rattle.path_tree.specs.Read.{key_values}
-use Rattle.path_tree.specs.Rows.{Key, key_rows}
-use Rattle.path_tree.proofs.lemmas.keys.UnderLemmas.{all-under, endless, filter-rows_by}
+use Rattle.path_keys.specs.Ranges.{bytes_cmp, end_of}
+use Rattle.path_tree.specs.Rows.{key_entries}
+use Rattle.path_tree.specs.Tree.{entries_of}
+use Rattle.path_tree.proofs.lemmas.rows.EntryLemmas.{endless-starts, filter-key_entries}
+use Rattle.path_tree.proofs.lemmas.rows.EntryLemmas.{sorted-key_entries}
+use Rattle.path_tree.proofs.lemmas.rows.WalkLemmas.{sorted-filter}
 use Rattle.path_tree.proofs.tree.PathTree.under.Goals as goal
 
-pub returns-in_default-clause-rows : goal.returns-in_default-clause-rows
-returns-in_default-clause-rows g c =
-    let tree = c.args.self.now in
+pub returns-in_default-clause-entries : goal.returns-in_default-clause-entries
+returns-in_default-clause-entries g c =
     let base = key_bytes c.args.base.now in
     let ends : end_of base ≡ None = search rules in
-    ap key_rows (c.range.ensures.between tt)
-    ∙ filter-rows_by (λ (k : Key). k.items) (λ k. true) (is_under (key_values base))
-    (λ k own. all-under base (endless base ends) (key_values k.items)) tree.entries.entries tree.own
+    ap key_entries (c.range.ensures.between tt)
+    ∙ filter-key_entries (λ k. true) (λ key. starts_with eqb key base)
+    (λ k. endless-starts base ends k.items) c.args.self.now.entries.entries
+
+pub returns-in_default-clause-ordered : goal.returns-in_default-clause-ordered
+returns-in_default-clause-ordered g c =
+    let tree = c.args.self.now in
+    let base = key_bytes c.args.base.now in
+    subst (λ l. IsStrictlySortedBy bytes_cmp (keys_of l))
+    (sym (returns-in_default-clause-entries g c))
+    (sorted-filter (λ e. starts_with eqb e.0 base) bytes_cmp (entries_of tree)
+    (sorted-key_entries tree.entries.entries c.range.ensures.ordered))

@@ -1,5 +1,5 @@
 use Rattle.std.proofs.Common.{◌≡◌, ◌≤◌, ◌+◌, ◌-◌, ◌++◌, ◌∙◌, ℕ, Bool, List, ap, arith, drop, length}
-use Rattle.std.proofs.Common.{length-drop, length-take-le, sym, take, take_all}
+use Rattle.std.proofs.Common.{length-drop, length-take-le, sym, take, take-append-drop, take_all}
 use Rattle.unix_path.specs.Parts.{Value}
 use Rattle.path_keys.specs.Codes.{Fits}
 use Rattle.path_keys.specs.Keys.{code, key_of}
@@ -99,3 +99,8 @@ returns-clause-some c =
     c.requires.longer n h is in
     let within : n ≤ length key = omega (arith, in_range) in
     omega (arith, length-take-le n key within, code-length h.v, is)
+
+pub returns-clause-begins : goal.returns-clause-begins
+returns-clause-begins c =
+    let n = length c.args.base.now + c.first_code_len.result in
+    (drop n c.args.key.now, take-append-drop n c.args.key.now)

@@ -1,6 +1,6 @@
 use Rattle.unix_path.specs.Parts.{values}
-use Rattle.path_within.proofs.lemmas.kept.KeepLemmas.{resolved_normal}
-use Rattle.path_within.proofs.lemmas.kept.ResolveLemmas.{resolved_bytes_of-again, values-resolved}
+use Rattle.path_within.proofs.lemmas.stack.StackLemmas.{resolved_normal}
+use Rattle.path_within.proofs.lemmas.stack.ResolveLemmas.{resolved_bytes_of-again, values-resolved}
 use Rattle.path_within.proofs.laws.resolved.resolved_is_normal.Goals as goal
 
 pub returns-clause-normal : goal.returns-clause-normal

@@ -1,5 +1,5 @@
 use Rattle.std.proofs.Common.{sym, ap, ◌∙◌}
-use Rattle.path_within.specs.Pieces.{values_left}
+use Rattle.path_within.specs.Pieces.{remaining_values}
 use Rattle.unix_path.specs.Names.{file_name_of}
 use Rattle.unix_path.specs.Parts.{Normal}
 use Rattle.unix_path.proofs.lemmas.names.ParentLemmas.{file_name_of-last}
@@ -11,10 +11,10 @@ returns-in-Name c =
     let names = c.in-Name.ensures.names in
     sym (ap file_name_of (sym c.new.ensures.names)
     ∙ ap file_name_of names
-    ∙ file_name_of-last (names_below (values_left c.take_last.new.self))
+    ∙ file_name_of-last (names_below (remaining_values c.next_back_resolved.new.self))
     (Normal c.in-Name.name.bytes.now))
 
-pub returns-in-Ups : goal.returns-in-Ups
+pub returns-in-ParentDirs : goal.returns-in-ParentDirs
 unfolding file_name_of
-returns-in-Ups c = sym (ap file_name_of (sym c.new.ensures.names)
-    ∙ ap file_name_of c.in-Ups.ensures.names)
+returns-in-ParentDirs c = sym (ap file_name_of (sym c.new.ensures.names)
+    ∙ ap file_name_of c.in-ParentDirs.ensures.names)

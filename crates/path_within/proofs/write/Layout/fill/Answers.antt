@@ -56,4 +56,5 @@ returns-then-self c =
 pub returns-else-self : goal.returns-else-self
 returns-else-self c =
     let is = layout-rootless c.args.self.now c.if-self.false in
-    c.fill_after_root-else-self.ensures c.args.self.now.ups (c.requires ∙ ap length is) ∙ sym is
+    c.fill_after_root-else-self.ensures c.args.self.now.parent_dirs (c.requires ∙ ap length is)
+    ∙ sym is

@@ -4,8 +4,8 @@ use Rattle.path_within.proofs.lemmas.backward.JoinedLemmas.{joined, joined_fits}
 use Rattle.path_within.proofs.lemmas.below.BelowLemmas.{unslashed_last}
 use Rattle.path_within.proofs.write.Names.fill_join.Goals as goal
 
-pub put_before-requires-clause-room : goal.put_before-requires-clause-room
-put_before-requires-clause-room c = omega (
+pub put_before-requires-clause-space : goal.put_before-requires-clause-space
+put_before-requires-clause-space c = omega (
   arith,
   c.requires,
   c.args.self.now.len_is,

@@ -14,7 +14,7 @@ returns c = omega (
   arith,
   c.args.self.now.len_is,
   c.from.ensures,
-  ap from_bool c.is_open.ensures,
+  ap from_bool c.needs_no_separator.ensures,
   length-joined c.args.root.now (names_in c.args.self.now)
       (unslashed_last c.args.self.now.count c.args.self.now.path.bytes.now)
       (omega (arith, c.args.self.now.len_is, c.if-self-eq0.false)),

@@ -6,5 +6,5 @@ pub invariant_of-result : goal.invariant_of-result
 invariant_of-result c = record {
   len_is = c.requires;
   fits = omega (arith, c.requires, last_names_fit c.args.count c.args.path.bytes.now);
-  spelled = λ no. absurd (cc);
+  verbatim = λ no. absurd (cc);
 }

@@ -1,19 +1,19 @@
 use Rattle.std.proofs.Common.{arith, sym, ◌∙◌}
 use Rattle.path_within.specs.Layouts.{names_in}
-use Rattle.path_within.proofs.lemmas.backward.LayoutLemmas.{length-spelled}
-use Rattle.path_within.proofs.lemmas.backward.PutLemmas.{no_names, puts_none, puts_spelled}
+use Rattle.path_within.proofs.lemmas.backward.LayoutLemmas.{length-verbatim}
+use Rattle.path_within.proofs.lemmas.backward.PutLemmas.{no_names, puts_none, puts_verbatim}
 use Rattle.path_within.proofs.write.Names.put_before.Goals as goal
 
-pub put_before-requires-clause-room : goal.put_before-requires-clause-room
-put_before-requires-clause-room c = omega (
+pub put_before-requires-clause-space : goal.put_before-requires-clause-space
+put_before-requires-clause-space c = omega (
   arith,
-  c.requires.room,
+  c.requires.space,
   c.args.self.now.len_is,
-  length-spelled (c.args.self.now.spelled c.if-self.true),
+  length-verbatim (c.args.self.now.verbatim c.if-self.true),
 )
 
 pub returns-then-self : goal.returns-then-self
-returns-then-self c = puts_spelled (c.args.self.now.spelled c.if-self.true)
+returns-then-self c = puts_verbatim (c.args.self.now.verbatim c.if-self.true)
     c.put_before.ensures.start c.put_before.ensures.bytes
 
 pub returns-then-self-eq0 : goal.returns-then-self-eq0

@@ -1,7 +1,7 @@
 use Rattle.std.proofs.Common.{sym, ◌∙◌}
 use Rattle.std.proofs.lemmas.Bool.{eqb-true}
 use Rattle.unix_bytes.proofs.lemmas.lossy.LossyLemmas.{lossy_of-text}
-use Rattle.unix_bytes.proofs.lemmas.stretches.PushLemmas.{all_is_text, not_text, lossy_of-split}
+use Rattle.unix_bytes.proofs.lemmas.prefixes.PushLemmas.{all_is_text, not_text, lossy_of-split}
 use Rattle.unix_bytes.proofs.bytes.UnixStr.to_string_lossy.Goals as goal
 
 pub returns-then-is_empty-clause-value : goal.returns-then-is_empty-clause-value

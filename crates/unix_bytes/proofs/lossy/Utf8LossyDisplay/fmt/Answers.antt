@@ -2,8 +2,8 @@ use Rattle.std.proofs.Common.{true, refl, sym, ◌∙◌}
 use Rattle.std.specs.Fmt.{padded}
 use Rattle.std.proofs.lemmas.Bool.{eqb-true}
 use Rattle.unix_bytes.proofs.lemmas.lossy.LossyLemmas.{lossy_of-text}
-use Rattle.unix_bytes.proofs.lemmas.stretches.PushLemmas.{all_is_text, pads_text, shows_lossy_text}
-use Rattle.unix_bytes.proofs.lemmas.stretches.PushLemmas.{lossy_of-split}
+use Rattle.unix_bytes.proofs.lemmas.prefixes.PushLemmas.{all_is_text, pads_text, shows_lossy_text}
+use Rattle.unix_bytes.proofs.lemmas.prefixes.PushLemmas.{lossy_of-split}
 use Rattle.std.proofs.Output.{has_written_append, has_written_of_eq}
 use Rattle.std.proofs.Output.{has_written_styled_append, has_written_styled_of_eq}
 use Rattle.unix_bytes.proofs.lossy.Utf8LossyDisplay.fmt.Goals as goal

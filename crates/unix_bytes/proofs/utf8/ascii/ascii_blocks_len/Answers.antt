@@ -5,7 +5,7 @@ use Rattle.unix_bytes.proofs.utf8.ascii.ascii_blocks_len.Goals as goal
 pub loop-at-preserved : goal.loop-at-preserved
 loop-at-preserved c =
     let so_far = c.loop-at.invariant in
-    let here = c.is_ascii_block.ensures c.if-is_ascii_block.true in
+    let here = c.is_ascii_simd64.ensures c.if-is_ascii_simd64.true in
     record {
       within = omega (arith, so_far.within, c.loop-at-test.true);
       ascii = more_ascii c.args.source.now c.loop-at.at 64 so_far.ascii here;

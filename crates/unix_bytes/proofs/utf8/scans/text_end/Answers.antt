@@ -3,7 +3,7 @@ use Rattle.std.proofs.lemmas.List.{take_rest, drop-drop}
 use Rattle.unix_bytes.specs.Utf8.{IsText}
 use Rattle.unix_bytes.specs.Windows.{IsFinished}
 use Rattle.std.specs.Prelude.{slice_index}
-use Rattle.unix_bytes.proofs.lemmas.stretches.StretchLemmas.{more_text}
+use Rattle.unix_bytes.proofs.lemmas.prefixes.TextPrefixLemmas.{more_text}
 use Rattle.unix_bytes.proofs.lemmas.text.FinishLemmas.{IsFinished-before}
 use Rattle.unix_bytes.proofs.utf8.scans.text_end.Goals as goal
 

@@ -13,4 +13,4 @@ pub returns : goal.returns
 returns g c =
     let last = in_eights-last c.loop-rest.rest.now (omega (arith, c.loop-rest-test.false)) in
     let so_far = c.loop-rest.invariant in
-    rw c.write_u64.ensures (rw c.last_eight.ensures (rw last at so_far))
+    rw c.write_u64.ensures (rw c.padded_tail.ensures (rw last at so_far))

@@ -10,7 +10,7 @@ loop-end-preserved c =
     record {
       in_range = omega arith;
       same = parts_trailing_block path (end - 16) 16 (omega arith)
-          (c.is_trailing_block.ensures c.if-is_trailing_block.true)
+          (c.is_trailing_simd16.ensures c.if-is_trailing_simd16.true)
           ∙ ap (λ k. parts (take k path)) {x = end - 16 + 16} {y = end} (omega arith)
           ∙ c.loop-end.invariant.same;
     }

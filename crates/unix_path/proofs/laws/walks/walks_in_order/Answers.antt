@@ -1,7 +1,7 @@
 use Rattle.std.proofs.Common.{length, ap}
 use Rattle.std.proofs.iter.runs.Sources.{from_front, from_back}
 use Rattle.std.specs.Iterator.{YieldsFirstBy}
-use Rattle.unix_path.specs.Ancestors.{ancestors_left}
+use Rattle.unix_path.specs.Ancestors.{remaining_ancestors}
 use Rattle.unix_path.specs.Cursor.{cursor_values, iter_bytes, GivesFirstPart, GivesLastPart}
 use Rattle.unix_path.specs.Cursor.{name_bytes, GivesFirstName, GivesLastName}
 use Rattle.unix_path.specs.Views.{value_of}
@@ -26,5 +26,5 @@ returns-clause-items_back c = from_back GivesLastName name_bytes iter_bytes
 
 pub returns-clause-ancestors : goal.returns-clause-ancestors
 returns-clause-ancestors c =
-    from_front {A = Path} (YieldsFirstBy (λ path. path.bytes.now) ancestors_left)
-    (λ path. path.bytes.now) ancestors_left (λ s t h. ap length h.0) (λ s x t h. h)
+    from_front {A = Path} (YieldsFirstBy (λ path. path.bytes.now) remaining_ancestors)
+    (λ path. path.bytes.now) remaining_ancestors (λ s t h. ap length h.0) (λ s x t h. h)

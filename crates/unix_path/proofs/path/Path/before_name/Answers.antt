@@ -4,7 +4,7 @@ use Rattle.std.specs.Str.{bytes_eq}
 use Rattle.unix_path.specs.Edits.{before_name_of}
 use Rattle.unix_path.specs.Extensions.{name_end_of}
 use Rattle.unix_path.specs.Parts.{cur_dir}
-use Rattle.unix_path.specs.Scan.{ends_with_parent}
+use Rattle.unix_path.specs.Scan.{ends_with_parent_dir}
 use Rattle.unix_bytes.proofs.lemmas.lists.ListLemmas.{by_test}
 use Rattle.unix_path.proofs.lemmas.names.NamedLemmas.{ends_in_name, ends_part, name_end_of-take}
 use Rattle.unix_path.proofs.lemmas.names.NamedLemmas.{nameless-dot, nameless-parent, take-name_end}
@@ -19,8 +19,8 @@ returns-in_default-clause-value c =
     let s = c.args.self.now.bytes.now in
     rw (file_name_of-no_name_end s c.in_default.ensures.value) refl
 
-pub last_name_step-len-requires : goal.last_name_step-len-requires
-last_name_step-len-requires c =
+pub split_last_root_or_name-len-requires : goal.split_last_root_or_name-len-requires
+split_last_root_or_name-len-requires c =
     let s = c.args.self.now.bytes.now in
     let t = take c.in-Some.end s in
     let named : name_end_of t ≡ Some (length t) =
@@ -30,7 +30,8 @@ last_name_step-len-requires c =
     record {
       some = omega arith;
       no_dot = by_test (bytes_eq t cur_dir) (λ e. absurd (nameless-dot t e named)) (λ e. e);
-      no_parent = by_test (ends_with_parent t) (λ e. absurd (nameless-parent t e named)) (λ e. e);
+      no_parent = by_test (ends_with_parent_dir t) (λ e. absurd (nameless-parent t e named))
+          (λ e. e);
       ends = ends_part t ends.end;
     }
 
@@ -40,7 +41,7 @@ returns-clause-value c =
     let s = c.args.self.now.bytes.now in
     let end = c.in-Some.end in
     let is = c.in-Some.ensures.value in
-    let len = c.last_name_step-len in
+    let len = c.split_last_root_or_name-len in
     let size = length-take-le end s c.in-Some.ensures.in_range in
     rw (file_name_of-name_end s end is)
     (rest-whole_last s (take-name_end s end (sym is))

@@ -3,6 +3,6 @@ use Rattle.unix_path.proofs.path.Path.common_dir.Goals as goal
 
 pub returns-clause-value : goal.returns-clause-value
 returns-clause-value c =
-    let past = c.past_last.ensures in
+    let past = c.after_last.ensures in
     common_dir_of-is c.args.self.bytes.now c.args.other.bytes.now c.common_len-common.result
-    c.past_last.result c.common_len-common.ensures.value past.in_range past.after past.none_behind
+    c.after_last.result c.common_len-common.ensures.value past.in_range past.after past.none_after

@@ -2,8 +2,8 @@ use Rattle.std.proofs.Common.{length, refl, sym, ap, subst, arith, eqb-true}
 use Rattle.std.proofs.lemmas.List.{length-take}
 use Rattle.std.proofs.lemmas.Bool.{false≢true}
 use Rattle.unix_path.specs.Parts.{values}
-use Rattle.unix_path.specs.Prefixes.{Begins}
-use Rattle.unix_path.proofs.lemmas.order.BehindLemmas.{past-nil, shares-past}
+use Rattle.unix_path.specs.Prefixes.{IsPrefixOf}
+use Rattle.unix_path.proofs.lemmas.order.AfterCutLemmas.{past-nil, shares-past}
 use Rattle.unix_path.proofs.lemmas.rests.SourceLemmas.{IsTail-trans}
 use Rattle.unix_path.proofs.lemmas.order.StripLemmas.{Trims, begins-empty, rest-trims, stripped-end}
 use Rattle.unix_path.proofs.lemmas.order.StripLemmas.{stripped-is, stripped-whole, values-trims}
@@ -42,7 +42,7 @@ returns-then-is_empty-clause-end c =
 
 pub returns-in-Some-clause-ok : goal.returns-in-Some-clause-ok
 returns-in-Some-clause-ok c = (
-  λ _. subst (Begins (values c.args.base.bytes.now))
+  λ _. subst (IsPrefixOf (values c.args.base.bytes.now))
       (values-trims c.args.self.now.bytes.now c.trimmed_len.result
       (trims (goal.at.returns-in-Some-clause-ok c).After-trimmed_len))
       (c.in-Some.ensures.begins.0 refl),
@@ -52,22 +52,22 @@ returns-in-Some-clause-ok c = (
 pub returns-in-Some-clause-value : goal.returns-in-Some-clause-value
 returns-in-Some-clause-value c =
     stripped-is c.args.self.now.bytes.now c.args.base.bytes.now c.trimmed_len.result
-    c.past_filler.result _ (trims (goal.at.returns-in-Some-clause-value c).After-trimmed_len) refl
-    (IsTail-trans _ _ _ c.past_filler.ensures.tail c.in-Some.ensures.tail)
-    (shares-past c.in-Some.ensures.left c.past_filler.ensures.behind past-nil)
-    c.past_filler.ensures.busy
+    c.after_filler.result _ (trims (goal.at.returns-in-Some-clause-value c).After-trimmed_len) refl
+    (IsTail-trans _ _ _ c.after_filler.ensures.tail c.in-Some.ensures.tail)
+    (shares-past c.in-Some.ensures.rest_bytes c.after_filler.ensures.after past-nil)
+    c.after_filler.ensures.not_filler
 
 pub returns-in-Some-clause-end : goal.returns-in-Some-clause-end
 returns-in-Some-clause-end c =
-    stripped-end c.args.self.now.bytes c.past_filler.result _ c.trimmed_len.result
+    stripped-end c.args.self.now.bytes c.after_filler.result _ c.trimmed_len.result
     (trims (goal.at.returns-in-Some-clause-end c).After-trimmed_len) refl refl
-    (IsTail-trans _ _ _ c.past_filler.ensures.tail c.in-Some.ensures.tail)
+    (IsTail-trans _ _ _ c.after_filler.ensures.tail c.in-Some.ensures.tail)
 
 pub returns-in-None-clause-ok : goal.returns-in-None-clause-ok
 returns-in-None-clause-ok c = (
   λ h. absurd (false≢true h),
   λ begins. absurd (false≢true (c.in-None.ensures.begins.1
-      (subst (Begins (values c.args.base.bytes.now))
+      (subst (IsPrefixOf (values c.args.base.bytes.now))
       (sym (values-trims c.args.self.now.bytes.now c.trimmed_len.result
       (trims (goal.at.returns-in-None-clause-ok c).After-trimmed_len))) begins))),
 )

@@ -1,11 +1,11 @@
 use Rattle.std.proofs.Common.{◌≡◌, ◌≤◌}
 use Rattle.path_runs.proofs.edits.stems.Stems.add.Given as goal
 
--- no place has changed
+-- indices have at most been dropped, and none has been changed
 abbrev pub invariant-loop-self : goal.invariant-loop-self
 invariant-loop-self l = record {
   fewer : l.self.last ≤ l.initial.self.last;
-  same : l.self.places ≡ l.initial.self.places;
+  same : l.self.offsets ≡ l.initial.self.offsets;
 }
 
 abbrev pub decreases-loop-self : goal.decreases-loop-self

@@ -1,13 +1,13 @@
 use Rattle.std.proofs.Common.{length, ap, arith}
-use Rattle.unix_path.proofs.lemmas.names.AncestorLemmas.{ancestors_left-step}
+use Rattle.unix_path.proofs.lemmas.names.AncestorLemmas.{remaining_ancestors-step}
 use Rattle.unix_path.proofs.cursor.parents.AncestorsIterator.next.Goals as goal
 
 pub returns-clause-steps : goal.returns-clause-steps
-returns-clause-steps c = ancestors_left-step c.args.self.now.next c.in-Some.path
+returns-clause-steps c = remaining_ancestors-step c.args.self.now.next c.in-Some.path
     c.parent-self.result c.in-Some.is c.parent-self.ensures.value
 
 pub returns-clause-goes : goal.returns-clause-goes
 returns-clause-goes c =
-    let step = ancestors_left-step c.args.self.now.next c.in-Some.path c.parent-self.result
+    let step = remaining_ancestors-step c.args.self.now.next c.in-Some.path c.parent-self.result
     c.in-Some.is c.parent-self.ensures.value in
     record { on = λ _. (tt, tt, omega (arith, ap length step)); keeps = tt; rests = λ _. tt }

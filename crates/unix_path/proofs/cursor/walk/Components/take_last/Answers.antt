@@ -19,10 +19,10 @@ pub invariant_of-self : goal.invariant_of-self
 unfolding cursor_rest IsWalk
 invariant_of-self c =
     let s = c.args.self.now in
-    let len = c.last_step-len.result.0 in
-    let step = c.last_step-len.ensures in
+    let len = c.split_last_component-len.result.0 in
+    let step = c.split_last_component-len.ensures in
     let back = walks_back s len _ c.as_path.ensures.bytes step.in_range step.takes in
-    let was = sym s.fields.lead_left_is in
+    let was = sym s.fields.lead_pending_is in
     let left : c.if-self.self ≡ is_filler (slice_range s.source.now s.start (s.start + len)) 0 =
     elim c.if-self.branch [
       | then-self w ↦ w.self-is ∙ sym (ap (λ t. t && ltb 0 len) (was ∙ w.if-self.true)) ∙ back.lead
@@ -35,7 +35,7 @@ invariant_of-self c =
         in_range = omega (arith, back.in_order, s.fields.in_range);
         ends = back.takes.ends;
         has_lead_is = s.fields.has_lead_is;
-        lead_left_is = left;
+        lead_pending_is = left;
       };
     }
 
@@ -43,7 +43,7 @@ pub returns-clause-steps : goal.returns-clause-steps
 unfolding cursor_rest IsWalk
 returns-clause-steps c =
     let s = c.args.self.now in
-    let step = c.last_step-len.ensures in
+    let step = c.split_last_component-len.ensures in
     let back = walks_back s _ _ c.as_path.ensures.bytes step.in_range step.takes in
     record {
       item_is = back.takes.value;

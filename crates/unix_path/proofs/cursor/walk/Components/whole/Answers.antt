@@ -23,7 +23,7 @@ invariant_of-result c =
         ends = subst EndsInPart (sym same_bytes)
             (EndsInPart-take path end.result end.ensures.in_range end.ensures.ends);
         has_lead_is = c.has_lead-lead.ensures;
-        lead_left_is = c.has_lead-lead.ensures ∙ sym (is_filler-same _ path same);
+        lead_pending_is = c.has_lead-lead.ensures ∙ sym (is_filler-same _ path same);
       };
     }
 

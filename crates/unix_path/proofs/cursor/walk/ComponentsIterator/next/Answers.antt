@@ -17,14 +17,14 @@ pub invariant_of-self : goal.invariant_of-self
 unfolding cursor_rest IsWalk
 invariant_of-self c =
     let s = c.args.self.now in
-    let next = walks_forward s _ _ c.as_path.ensures.bytes c.first_step-len.ensures in
+    let next = walks_forward s _ _ c.as_path.ensures.bytes c.split_first_component-len.ensures in
     record {
       fields = record {
         in_order = next.in_order;
         in_range = s.fields.in_range;
         ends = next.takes.ends;
         has_lead_is = s.fields.has_lead_is;
-        lead_left_is = next.lead;
+        lead_pending_is = next.lead;
       };
     }
 
@@ -32,7 +32,7 @@ pub returns-clause-steps : goal.returns-clause-steps
 unfolding cursor_rest IsWalk
 returns-clause-steps c =
     let s = c.args.self.now in
-    let next = walks_forward s _ _ c.as_path.ensures.bytes c.first_step-len.ensures in
+    let next = walks_forward s _ _ c.as_path.ensures.bytes c.split_first_component-len.ensures in
     record {
       item_is = next.takes.value;
       rest_is = sym next.takes.rest;
@@ -41,14 +41,16 @@ returns-clause-steps c =
         arith,
         next.in_order,
         length-range s.source.now s.start s.end s.fields.in_range,
-        length-range s.source.now (s.start + c.first_step-len.result.0) s.end s.fields.in_range,
+        length-range s.source.now (s.start + c.split_first_component-len.result.0) s.end
+            s.fields.in_range,
       );
     }
 
 pub returns-clause-goes : goal.returns-clause-goes
 unfolding cursor_rest IsWalk
 returns-clause-goes c =
-    let next = walks_forward c.args.self.now _ _ c.as_path.ensures.bytes c.first_step-len.ensures in
+    let next = walks_forward c.args.self.now _ _ c.as_path.ensures.bytes
+    c.split_first_component-len.ensures in
     record {
       on = λ _. (tt, tt, omega (arith, ap length next.takes.value));
       keeps = tt;

@@ -1,0 +1,89 @@
+-- Bytes changed as those of names, many at once, and the two ways in which they are changed.
+use Rattle.std.proofs.Common.{◌≡◌, ℕ, ◌+◌, ◌-◌, ◌%◌, cond, eqb, List, [], ◌∷◌}
+use Rattle.std.proofs.Common.{length, map, replicate, refl, sym, ap, ap₂, ◌∙◌, arith}
+use Rattle.std.specs.Simd.Lanes.{zip2, sel_l, top}
+use Rattle.std.proofs.lemmas.Bool.{ltb-true, ltb-false}
+use Rattle.std.proofs.lemmas.Bool.Decides.{nat_tests}
+use Rattle.std.proofs.lemmas.Simd.{zip2_splat, splat_is_map}
+use Rattle.std.proofs.Math.Dec.{ltb}
+use Rattle.unix_bytes.proofs.lemmas.vectors.TestLaneLemmas.{lane, top_lane}
+use Rattle.unix_bytes.proofs.lemmas.lists.ListLemmas.{by_test}
+use Rattle.path_keys.specs.Codes.{lowered}
+use Rattle.path_keys.specs.NameBytes.{coded, decoded, recoded}
+use Rattle.path_keys.specs.declared.recode.Recoding.{Recoding}
+
+-- a byte as the lanes change it
+lane_recoded : (how : Recoding) (x : ℕ)
+    → cond (top 7 (lane (eqb x how.mark))) how.other
+    (cond (top 7 (lane (ltb x how.limit))) ((x + how.step) % 256) x) ≡ recoded how x
+lane_recoded how x =
+    ap₂ (λ a b. cond a how.other (cond b ((x + how.step) % 256) x)) (top_lane (eqb x how.mark))
+    (top_lane (ltb x how.limit))
+
+-- a choice between lanes that were each made of the same bytes
+selected : (how : Recoding) (xs : List ℕ)
+    → sel_l (map (top 7) (map (λ x. lane (eqb x how.mark)) xs)) (map (λ _. how.other) xs)
+    (sel_l (map (top 7) (map (λ x. lane (ltb x how.limit)) xs))
+    (map (λ x. (x + how.step) % 256) xs) xs)
+    ≡ map (recoded how) xs
+selected how [] = refl
+selected how (x ∷ xs) = ap₂ (λ c cs. c ∷ cs) (lane_recoded how x) (selected how xs)
+
+-- the lanes that the code computes are the changed bytes
+pub recoded_lanes : (how : Recoding) (n : ℕ) (xs : List ℕ) → length xs ≡ n
+    → sel_l (map (top 7) (zip2 (λ a b. lane (eqb a b)) xs (replicate n how.mark)))
+    (replicate n how.other)
+    (sel_l (map (top 7) (zip2 (λ a b. lane (ltb a b)) xs (replicate n how.limit)))
+    (zip2 (λ a b. (a + b) % 256) xs (replicate n how.step)) xs)
+    ≡ map (recoded how) xs
+recoded_lanes how n xs l =
+    ap₂ (λ es ls. sel_l (map (top 7) es) (replicate n how.other)
+    (sel_l (map (top 7) ls) (zip2 (λ a b. (a + b) % 256) xs (replicate n how.step)) xs))
+    (zip2_splat (λ a b. lane (eqb a b)) xs n how.mark l)
+    (zip2_splat (λ a b. lane (ltb a b)) xs n how.limit l)
+    ∙ ap₂ (λ zs ss. sel_l (map (top 7) (map (λ x. lane (eqb x how.mark)) xs)) zs
+    (sel_l (map (top 7) (map (λ x. lane (ltb x how.limit)) xs)) ss xs))
+    (splat_is_map xs n how.other l) (zip2_splat (λ a b. (a + b) % 256) xs n how.step l)
+    ∙ selected how xs
+
+-- two changes that change each byte the same way
+same_map : (f g : ℕ → ℕ) → ((x : ℕ) → f x ≡ g x) → (xs : List ℕ) → map f xs ≡ map g xs
+same_map f g e [] = refl
+same_map f g e (x ∷ xs) = ap₂ (λ c cs. c ∷ cs) (e x) (same_map f g e xs)
+
+-- the change from a path to a key
+abbrev pub to_key : Recoding
+to_key = record { mark = 47; other = 0; limit = 47; step = 1 }
+
+-- the change from a key to a path
+abbrev pub to_path : Recoding
+to_path = record { mark = 0; other = 47; limit = 48; step = 255 }
+
+-- a byte changed from a path to a key
+recoded-to_key : (x : ℕ) → recoded to_key x ≡ coded x
+recoded-to_key x = ap (cond (eqb x 47) 0) (by_test (ltb x 47)
+    (λ e. let l = ltb-true x 47 e in
+    let small : (x + 1) % 256 ≡ x + 1 = omega arith in rw e small)
+    (λ e. rw e refl))
+
+-- a byte changed from a key to a path
+recoded-to_path : (x : ℕ) → recoded to_path x ≡ decoded x
+recoded-to_path x = by_test (eqb x 0)
+    (λ e. rw e refl)
+    (λ e. by_test (ltb x 48)
+    (λ f.
+    let l = ltb-true x 48 f in
+    let is : x - 1 ≡ lowered x = grind (arith, nat_tests) in
+    let more : 1 + (x - 1) ≡ x = grind (arith, nat_tests) in
+    let small : (x + 255) % 256 ≡ x - 1 = omega (arith, more, l) in rw (e, f) (small ∙ is))
+    (λ f.
+    let l = ltb-false x 48 f in
+    let is : x ≡ lowered x = grind (arith, nat_tests) in rw (e, f) is))
+
+-- the bytes of names in a key
+pub map-to_key : (xs : List ℕ) → map (recoded to_key) xs ≡ map coded xs
+map-to_key = same_map (recoded to_key) coded recoded-to_key
+
+-- and in a path
+pub map-to_path : (xs : List ℕ) → map (recoded to_path) xs ≡ map decoded xs
+map-to_path = same_map (recoded to_path) decoded recoded-to_path

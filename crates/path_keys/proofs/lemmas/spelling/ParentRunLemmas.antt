@@ -1,0 +1,21 @@
+-- A `..` in a key, and in a path.
+use Rattle.std.proofs.Common.{◌≡◌, ℕ, List, [], ◌∷◌, ◌++◌, drop, sym, ap, ◌∙◌, arith}
+use Rattle.unix_path.specs.Parts.{ParentDir}
+use Rattle.unix_path.specs.Prefixes.{IsPrefixOf}
+use Rattle.path_keys.specs.Keys.{code}
+use Rattle.path_keys.specs.Codes.{slashed}
+use Rattle.path_keys.specs.Runs.{TakesRun}
+use Rattle.path_keys.specs.declared.runs.Run.TheVariants as run_variants
+use Rattle.path_keys.proofs.lemmas.values.KeyLemmas.{key_of-nil, key_of-cons}
+use Rattle.path_keys.proofs.lemmas.reading.TextLemmas.{text_of-nil, text_of-cons}
+
+-- bytes that begin with the code of a `..` begin with that run
+pub parent_run : (s : List ℕ) → IsPrefixOf (code ParentDir) s → TakesRun s run_variants.ParentDir
+parent_run s begins = record {
+  vs = ParentDir ∷ [];
+  some = omega arith;
+  fit = (tt, tt);
+  code_is = key_of-cons ParentDir [] ∙ ap (λ k. code ParentDir ++ k) key_of-nil;
+  text_is = text_of-cons ParentDir [] ∙ ap (λ t. slashed ParentDir ++ t) text_of-nil;
+  is = sym begins.1 ∙ ap (λ t. code ParentDir ++ drop 2 t) begins.1;
+}

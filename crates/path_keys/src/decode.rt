@@ -1,0 +1,121 @@
+//! Reading a key back: the length of its path, and the path itself, written to a buffer of that
+//! length.
+ghost use Rattle.std.specs.Prelude.{◌≡◌, ◌≤◌, ◌+◌, ◌-◌, ◌∷◌, ◌++◌, [], length, map, take};
+ghost use Rattle.std.specs.Prelude.{IfSome, None};
+ghost use Rattle.unix_path.specs.Parts.{slash, ParentDir};
+ghost use Rattle.path_runs.specs.Overlay.{overlay};
+ghost use Rattle.path_keys.specs.Keys.{IsKey};
+ghost use Rattle.path_keys.specs.Codes.{slashed, HasPath, IsRead, ReadsAs};
+ghost use Rattle.path_keys.specs.NameBytes.{decoded};
+ghost use Rattle.path_keys.specs.Runs.{lead_text, run_text};
+
+use crate::recode::names_to_path;
+use crate::runs::{Lead, Run, next_run, past_lead, run_in};
+use unix_bytes::buffers::write_at;
+
+// Returns the length of the path of a key; `None` if it is the key of no path.
+pub(crate) fn path_len(key: &[u8]) -> Option<usize>
+    ensures some { IfSome result (λ len. HasPath key.now len) }
+    ensures none { result ≡ None → IsKey key.now → ⊥ }
+{
+    let Some(len) = text_len(key) else {
+        return None;
+    };
+    // Only a lone root has no slash after it.
+    if len > 1 {
+        return Some(len - 1);
+    }
+    Some(len)
+}
+
+// Returns the length of the path of a key before other components; `None` if it is the key of no
+// path.
+#[inline]
+fn text_len(key: &[u8]) -> Option<usize>
+    ensures some { IfSome result (λ len. ReadsAs key.now len) }
+    ensures none { result ≡ None → IsKey key.now → ⊥ }
+{
+    let started = past_lead(key);
+    let mut rest = started.rest;
+    let mut len = started.lead.len_in_path();
+    while !rest.is_empty() {
+        let Some(run) = run_in(rest) else {
+            return None;
+        };
+        len += run.text_len();
+        rest = &rest[run.len()..];
+    }
+    Some(len)
+}
+
+// Writes the path of a key over all of `out`.
+pub(crate) fn write_text(key: &[u8], out: &mut [u8])
+    requires { HasPath key.now (length out.old) }
+    ensures { IsRead key.now out.new }
+{
+    let started = past_lead(key);
+    write_lead(out, started.lead);
+    let mut rest = started.rest;
+    let mut at = started.lead.len_in_path();
+    while let Some(run) = next_run(rest, out.len() + 1 - at) {
+        write_run(out, at, run);
+        at += run.text_len();
+        rest = &rest[run.len()..];
+    }
+}
+
+// Overwrites the first bytes of `out` with those of the lead in a path before other components,
+// except a slash for which there is no room.
+#[inline(always)]
+fn write_lead(out: &mut [u8], lead: Lead)
+    ensures { out.new ≡ overlay 0 (take (length out.old) (lead_text lead)) out.old }
+{
+    let room = out.len();
+    match lead {
+        Lead::Root if room > 0 => write_at(out, 0, b"/"),
+        Lead::Dot if room > 1 => write_at(out, 0, b"./"),
+        Lead::Dot if room > 0 => write_at(out, 0, b"."),
+        _ => {}
+    }
+}
+
+// Overwrites the bytes of `out` from `at` on with those of the run in a path before other
+// components, except a slash for which there is no room.
+#[inline(always)]
+fn write_run(out: &mut [u8], at: usize, run: Run<'_>)
+    requires { at + length (run_text run) ≤ length out.old + 1 }
+    ensures { out.new ≡ overlay at (take (length out.old - at) (run_text run.entry)) out.old }
+{
+    match run {
+        Run::ParentDir => write_parent_dir(out, at),
+        Run::Names(names) => write_names(out, at, names),
+    }
+}
+
+// Overwrites the bytes of `out` from `at` on with `..` and, if there is room for it, a slash.
+#[inline(always)]
+fn write_parent_dir(out: &mut [u8], at: usize)
+    requires { at + 2 ≤ length out.old }
+    ensures { out.new ≡ overlay at (take (length out.old - at) (slashed ParentDir)) out.old }
+{
+    out[at..at + 2].copy_from_slice(b"..");
+    let end = at + 2;
+    if end < out.len() {
+        out[end] = b'/';
+    }
+}
+
+// Overwrites the bytes of `out` from `at` on with those that names of a key have in a path and, if
+// there is room for it, a slash.
+#[inline(always)]
+fn write_names(out: &mut [u8], at: usize, names: &[u8])
+    requires { at + length names.now ≤ length out.old }
+    ensures { out.new
+        ≡ overlay at (take (length out.old - at) (map decoded names.now ++ slash ∷ [])) out.old }
+{
+    names_to_path(out, at, names);
+    let end = at + names.len();
+    if end < out.len() {
+        out[end] = b'/';
+    }
+}

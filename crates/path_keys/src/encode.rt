@@ -1,0 +1,198 @@
+//! Writing the key of a path: the codes of its components, one after the other.
+ghost use Rattle.std.specs.Prelude.{◌≡◌, ◌+◌, ◌≤◌, ◌<◌, ◌^◌, ◌∷◌, ◌++◌, [], false, length};
+ghost use Rattle.std.specs.Prelude.{vec_capacity, vec_len, MatchOption};
+ghost use Rattle.unix_path.specs.CommonDir.{inner_values};
+ghost use Rattle.unix_path.specs.Parts.{values};
+ghost use Rattle.unix_path.specs.Scan.{is_filler};
+ghost use Rattle.path_runs.specs.Buffer.{buffer_after};
+ghost use Rattle.path_runs.specs.Overlay.{overlay};
+ghost use Rattle.path_keys.specs.Keys.{key_of};
+ghost use Rattle.path_keys.specs.Stretches.{run_key, BeginsKey, IsRun};
+
+use crate::recode::names_to_key;
+use unix_path::Path;
+use unix_path::filler::{after_filler, is_filler};
+use unix_path::first_component::starts_with_parent_dir;
+use unix_path::name_run_ends::name_run_end;
+
+/// Returns the length of a path's key, which is at most the length of the path plus 2.
+///
+/// For `/a` it is 4, and for the empty path 0.
+#[must_use]
+pub fn key_len(path: Path<'_>) -> usize
+    ensures { result ≡ length (key_of (values path.entry.bytes.now)) }
+{
+    key_len_of(path.as_unix_str().as_bytes())
+}
+
+/// Writes the key of a path to the beginning of `out`, and returns its length.
+///
+/// The key is what `PathKey::from_path` creates. The bytes of `out` after it are unchanged. If
+/// `out` is too short for all of it, nothing is written, and the length returned is greater than
+/// the length of `out`. The length of the path plus 2 is always enough.
+///
+/// For `/a` it is 00 01 61 00, of 4 bytes.
+pub fn write_key(path: Path<'_>, out: &mut [u8]) -> usize
+    ensures out { out.new ≡ buffer_after (key_of (values path.entry.bytes.now)) out.old }
+    ensures length { result ≡ length (key_of (values path.entry.bytes.now)) }
+{
+    let room = room_for_key(path, out.len());
+    if room > out.len() {
+        return room;
+    }
+    write_path(path.as_unix_str().as_bytes(), out)
+}
+
+// Returns how long a buffer has to be for the key of a path. If it can hold the key of any path of
+// the same length, that is enough, and the key isn't counted.
+#[inline]
+pub(crate) fn room_for_key(path: Path<'_>, capacity: usize) -> usize
+    ensures enough { length (key_of (values path.entry.bytes.now)) ≤ result }
+    ensures fits { length (key_of (values path.entry.bytes.now)) ≤ capacity → result ≤ capacity }
+    ensures exact { capacity < result → result ≡ length (key_of (values path.entry.bytes.now)) }
+{
+    let most = path.as_unix_str().len() + 2;
+    if most <= capacity {
+        return most;
+    }
+    key_len(path)
+}
+
+// Makes the vector the key of a path.
+#[inline]
+pub(crate) fn fill_key(key: &mut Vec<u8>, path: &[u8])
+    requires { length (key_of (values path.now)) ≤ vec_len key.old }
+    ensures bytes { key.new.items ≡ key_of (values path.now) }
+    ensures capacity { vec_capacity key.new ≡ vec_capacity key.old }
+{
+    let len = write_path(path, key);
+    key.truncate(len);
+}
+
+// Returns the length of the key of a path.
+fn key_len_of(path: &[u8]) -> usize
+    requires { length (key_of (values path.now)) < 2 ^ 64 }
+    ensures { result ≡ length (key_of (values path.now)) }
+{
+    let mut len = if lead_mark(path).is_some() { 2 } else { 0 };
+    let mut rest = after_filler(path);
+    while !rest.is_empty() {
+        let end = run_len(rest);
+        len += run_key_len(rest, end);
+        rest = after_filler(&rest[end..]);
+    }
+    len
+}
+
+// Writes the key of a path to the beginning of `out`. Returns its length.
+fn write_path(path: &[u8], out: &mut [u8]) -> usize
+    requires { length (key_of (values path.now)) ≤ length out.old }
+    ensures out { out.new ≡ buffer_after (key_of (values path.now)) out.old }
+    ensures len { result ≡ length (key_of (values path.now)) }
+{
+    let mut at = write_lead(path, out);
+    let mut rest = after_filler(path);
+    while !rest.is_empty() {
+        let end = run_len(rest);
+        at += write_run(out, at, rest, end);
+        rest = after_filler(&rest[end..]);
+    }
+    at
+}
+
+// Writes the code of the root or the `.` with which a path begins to the beginning of `out`.
+// Returns its length, 0 if the path begins with neither.
+#[inline]
+fn write_lead(path: &[u8], out: &mut [u8]) -> usize
+    requires { length (key_of (values path.now)) ≤ length out.old }
+    ensures { BeginsKey (key_of (values path.now)) (key_of (inner_values path.now)) result
+        out.old out.new }
+{
+    let Some(mark) = lead_mark(path) else {
+        return 0;
+    };
+    write_mark(out, 0, mark);
+    2
+}
+
+// Returns the mark of the root or the `.` with which a path begins; `None` if it begins with
+// neither.
+#[inline]
+fn lead_mark(path: &[u8]) -> Option<u8>
+    ensures { MatchOption result (key_of (values path.now) ≡ key_of (inner_values path.now))
+        (λ mark. key_of (values path.now) ≡ (0 ∷ mark ∷ []) ++ key_of (inner_values path.now)) }
+{
+    if path.is_empty() {
+        return None;
+    }
+    if !is_filler(path, 0) {
+        return None;
+    }
+    if path[0] == b'/' {
+        return Some(1);
+    }
+    Some(2)
+}
+
+// Returns the length of the first run: of a `..`, or of names separated by single slashes.
+#[inline]
+fn run_len(bytes: &[u8]) -> usize
+    requires some { 0 < length bytes.now }
+    requires not_filler { is_filler bytes.now 0 ≡ false }
+    ensures { IsRun bytes.now result }
+{
+    if starts_with_parent_dir(bytes) {
+        return 2;
+    }
+    name_run_end(bytes, b'/', b'.')
+}
+
+// Returns the length in a key of the first run, which has `len` bytes in the path.
+#[inline]
+fn run_key_len(bytes: &[u8], len: usize) -> usize
+    requires some { 0 < length bytes.now }
+    requires in_range { len ≤ length bytes.now }
+    ensures { result ≡ length (run_key bytes.now len) }
+{
+    if starts_with_parent_dir(bytes) {
+        return 2;
+    }
+    len + 1
+}
+
+// Overwrites the bytes of `out` from `at` on with those of the first run, which has `len` bytes in
+// the path, in a key. Returns how many these are.
+#[inline(always)]
+fn write_run(out: &mut [u8], at: usize, bytes: &[u8], len: usize) -> usize
+    requires some { 0 < length bytes.now }
+    requires in_range { len ≤ length bytes.now }
+    requires room { at + length (run_key bytes.now len) ≤ length out.old }
+    ensures out { out.new ≡ overlay at (run_key bytes.now len) out.old }
+    ensures len { result ≡ length (run_key bytes.now len) }
+{
+    if starts_with_parent_dir(bytes) {
+        write_mark(out, at, 3);
+        return 2;
+    }
+    names_to_key(out, at, &bytes[..len]);
+    write_end(out, at + len);
+    len + 1
+}
+
+// Overwrites two bytes of `out` from `at` on with 0 and `mark`.
+#[inline]
+fn write_mark(out: &mut [u8], at: usize, mark: u8)
+    requires { at + 2 ≤ length out.old }
+    ensures { out.new ≡ overlay at (0 ∷ mark ∷ []) out.old }
+{
+    out[at..at + 2].copy_from_slice(&[0, mark]);
+}
+
+// Overwrites the byte of `out` at `at` with the end mark of a name.
+#[inline(always)]
+fn write_end(out: &mut [u8], at: usize)
+    requires { at < length out.old }
+    ensures { out.new ≡ overlay at (0 ∷ []) out.old }
+{
+    out[at] = 0;
+}

@@ -1,0 +1,114 @@
+//! The bytes of names, changed from those of a path to those of a key, or back.
+ghost use Rattle.std.specs.Prelude.{◌≡◌, ◌+◌, ◌≤◌, length, map, take, drop};
+ghost use Rattle.std.specs.Simd.Lanes.{put_chunk};
+ghost use Rattle.path_runs.specs.Overlay.{overlay};
+ghost use Rattle.path_keys.specs.NameBytes.{coded, decoded, recoded};
+
+use std::simd::prelude::*;
+
+// A change of bytes: `mark` becomes `other`, and of the remaining bytes those less than `limit` are
+// raised by `step`, modulo 256.
+#[derive(Clone, Copy)]
+struct Recoding {
+    mark: u8,
+    other: u8,
+    limit: u8,
+    step: u8,
+}
+
+// From a path to a key: a slash becomes the end mark, and lesser bytes are raised by one.
+const TO_KEY: Recoding = Recoding {
+    mark: b'/',
+    other: 0,
+    limit: b'/',
+    step: 1,
+};
+
+// From a key to a path: an end mark becomes a slash, and bytes up to 2F are lowered by one.
+const TO_PATH: Recoding = Recoding {
+    mark: 0,
+    other: b'/',
+    limit: b'0',
+    step: 255,
+};
+
+// Overwrites the bytes of `out` from `at` on with those of names, separated by single slashes, in a
+// key.
+#[inline(always)]
+pub(crate) fn names_to_key(out: &mut [u8], at: usize, names: &[u8])
+    requires { at + length names.now ≤ length out.old }
+    ensures { out.new ≡ overlay at (map coded names.now) out.old }
+{
+    recode(TO_KEY, out, at, names);
+}
+
+// Overwrites the bytes of `out` from `at` on with those that names of a key have in a path, with a
+// slash for each end mark.
+#[inline(always)]
+pub(crate) fn names_to_path(out: &mut [u8], at: usize, names: &[u8])
+    requires { at + length names.now ≤ length out.old }
+    ensures { out.new ≡ overlay at (map decoded names.now) out.old }
+{
+    recode(TO_PATH, out, at, names);
+}
+
+// Overwrites the bytes of `out` from `at` on with these bytes, changed. Changes 16 at a time, the
+// last ones twice if need be.
+#[inline(always)]
+fn recode(how: Recoding, out: &mut [u8], at: usize, bytes: &[u8])
+    requires { at + length bytes.now ≤ length out.old }
+    ensures { out.new ≡ overlay at (map (recoded how) bytes.now) out.old }
+{
+    if bytes.len() < 16 {
+        recode_few(how, out, at, bytes);
+        return;
+    }
+    let last = bytes.len() - 16;
+    let mut from = 0;
+    while from < last {
+        recode_lanes(how, out, at + from, bytes, from);
+        from += 16;
+    }
+    recode_lanes(how, out, at + last, bytes, last);
+}
+
+// Overwrites 16 bytes of `out` from `to` on with those of `bytes` from `from` on, changed.
+#[inline(always)]
+fn recode_lanes(how: Recoding, out: &mut [u8], to: usize, bytes: &[u8], from: usize)
+    requires room { to + 16 ≤ length out.old }
+    requires some { from + 16 ≤ length bytes.now }
+    ensures { out.new ≡ put_chunk to out.old (map (recoded how) (take 16 (drop from bytes.now))) }
+{
+    let here = u8x16::from_slice(&bytes[from..]);
+    let is_less = here.simd_lt(u8x16::splat(how.limit));
+    let raised = is_less.select(here + u8x16::splat(how.step), here);
+    here.simd_eq(u8x16::splat(how.mark))
+        .select(u8x16::splat(how.other), raised)
+        .copy_to_slice(&mut out[to..]);
+}
+
+// Does the same as `recode`, byte by byte.
+#[inline(always)]
+fn recode_few(how: Recoding, out: &mut [u8], at: usize, bytes: &[u8])
+    requires { at + length bytes.now ≤ length out.old }
+    ensures { out.new ≡ overlay at (map (recoded how) bytes.now) out.old }
+{
+    for (i, b) in bytes.iter().enumerate() {
+        out[at + i] = recode_byte(how, *b);
+    }
+}
+
+// Returns the byte, changed.
+#[inline(always)]
+fn recode_byte(how: Recoding, b: u8) -> u8
+    ensures { result ≡ recoded how b }
+{
+    if b == how.mark {
+        return how.other;
+    }
+    if b < how.limit {
+        b.wrapping_add(how.step)
+    } else {
+        b
+    }
+}

@@ -1,0 +1,51 @@
+use Rattle.std.proofs.Common.{List, ℕ, ◌≤◌, [], ◌++◌, ◌-◌, ◌+◌, take, drop, length, refl, ap, ◌∙◌}
+use Rattle.std.proofs.Common.{arith, length-append, length-take-le}
+use Rattle.path_runs.specs.Gaps.{slashed_parts}
+use Rattle.path_runs.proofs.lemmas.gaps.FirstGapLemmas.{no_parts_after_end}
+use Rattle.path_runs.proofs.lemmas.lists.WritingLemmas.{writes_stretch, writes_room, writes_last}
+use Rattle.path_runs.proofs.lemmas.lists.WritingLemmas.{writes_end}
+use Rattle.path_runs.proofs.canonical.to_buffer.write_gapless_runs.Goals as goal
+
+-- if `out` is at least as long as the bytes before the gap plus the components after it, both
+-- together fit
+room : (s out : List ℕ) (gap : ℕ) → gap ≤ length s
+    → gap + length (slashed_parts (drop gap s)) ≤ length out
+    → length (take gap s ++ slashed_parts (drop gap s)) ≤ length out
+room s out gap l h =
+    omega (arith, length-append (take gap s) (slashed_parts (drop gap s)), length-take-le gap s l)
+
+pub write_at-requires-in-loop-start : goal.write_at-requires-in-loop-start
+write_at-requires-in-loop-start c =
+    let run = c.gapless_run_at-run.result.now in
+    let end = c.loop-start.start - 1 + length run in
+    omega (
+      arith,
+      writes_room run (slashed_parts (drop end c.args.bytes.now))
+          c.loop-start.invariant.to_buffer c.gapless_run_at-run.ensures.same
+          (room c.args.bytes.now c.args.out.now c.args.gap c.requires.in_range c.requires.room),
+    )
+
+pub loop-start-preserved : goal.loop-start-preserved
+loop-start-preserved c =
+    let run = c.gapless_run_at-run.result.now in
+    let next = c.after_gap-start-in-loop-start.ensures in
+    record {
+      in_range = next.in_range;
+      part = next.part;
+      to_buffer = writes_stretch run
+          (slashed_parts (drop c.after_gap-start-in-loop-start.result c.args.bytes.now))
+          c.loop-start.invariant.to_buffer
+          (c.gapless_run_at-run.ensures.same ∙ ap (λ u. run ++ u) next.same)
+          c.write_at-in-loop-start.ensures refl;
+    }
+
+pub returns-clause-out : goal.returns-clause-out
+returns-clause-out c =
+    writes_last c.loop-start.invariant.to_buffer
+    (no_parts_after_end [] c.args.bytes.now c.loop-start.start (omega arith))
+    (room c.args.bytes.now c.args.out.now c.args.gap c.requires.in_range c.requires.room)
+
+pub returns-clause-len : goal.returns-clause-len
+returns-clause-len c =
+    writes_end c.loop-start.invariant.to_buffer
+    (no_parts_after_end [] c.args.bytes.now c.loop-start.start (omega arith))

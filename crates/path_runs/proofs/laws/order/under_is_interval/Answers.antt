@@ -1,5 +1,0 @@
-use Rattle.path_runs.proofs.lemmas.order.IntervalLemmas.{begins_between}
-use Rattle.path_runs.proofs.laws.order.under_is_interval.Goals as goal
-
-pub returns : goal.returns
-returns c = begins_between

@@ -1,0 +1,125 @@
+-- Up to its first gap, a string is its first piece and the components after it, each after a slash.
+use Rattle.std.proofs.Common.{◌≡◌, ℕ, zero, suc, ◌+◌, ◌-◌, ◌<◌, ◌≤◌, true, false, eqb, ◌&&◌, ◌||◌}
+use Rattle.std.proofs.Common.{List, [], ◌∷◌, ◌++◌, length, take, drop, map, get_or, refl, sym, ap}
+use Rattle.std.proofs.Common.{ap₂, ◌∙◌, eqb-true, arith, append-nil, drop-cons, length-drop}
+use Rattle.std.proofs.Common.{take_all}
+use Rattle.std.specs.Prelude.{slice_range}
+use Rattle.std.specs.List.{flat_map, position_or_len}
+use Rattle.std.proofs.lemmas.Bool.{and_parts}
+use Rattle.std.proofs.lemmas.List.{drop_all}
+use Rattle.unix_path.specs.Parts.{Part, inner_parts, is_slash, slash, value_bytes}
+use Rattle.unix_path.specs.Scan.{is_filler}
+use Rattle.unix_bytes.proofs.lemmas.lists.ListLemmas.{by_test, drop-suc_cons}
+use Rattle.unix_path.proofs.lemmas.filler.FillerLemmas.{inner_parts_not_filler}
+use Rattle.unix_path.proofs.lemmas.filler.FillerLemmas.{inner_parts_filler_at}
+use Rattle.unix_path.proofs.lemmas.parts.PieceLemmas.{first_piece, first_piece-slash}
+use Rattle.unix_path.proofs.lemmas.parts.PieceLemmas.{first_piece-other, position_or_len-slash}
+use Rattle.unix_path.proofs.lemmas.parts.PieceLemmas.{position_or_len-other}
+use Rattle.unix_path.proofs.lemmas.parts.PlaceLemmas.{values-inner_parts}
+use Rattle.unix_path.proofs.lemmas.parts.ValueLemmas.{value_bytes-piece}
+use Rattle.path_runs.specs.Gaps.{is_gap, slashed_parts, FirstGap, IsPartStart}
+
+-- leaving out a byte of filler changes no inner component
+pub slashed_parts-filler : (s : List ℕ) (i : ℕ) → i < length s → is_filler s i ≡ true
+    → slashed_parts (drop i s) ≡ slashed_parts (drop (i + 1) s)
+unfolding slashed_parts
+slashed_parts-filler s i l e = ap (flat_map (λ v. slash ∷ value_bytes v))
+    (sym (values-inner_parts (0 + i) (drop i s))
+    ∙ ap (map (λ (p : Part). p.value)) (inner_parts_filler_at 0 s i l e)
+    ∙ values-inner_parts (0 + (i + 1)) (drop (i + 1) s))
+
+-- the first component of a string that begins with a component is its first piece
+slashed_parts-not_filler : (s : List ℕ) → 0 < length s → is_filler s 0 ≡ false
+    → slashed_parts s ≡ slash ∷ (first_piece s ++ slashed_parts
+    (drop (position_or_len is_slash s) s))
+unfolding slashed_parts
+slashed_parts-not_filler s l e =
+    let n = position_or_len is_slash s in
+    ap (λ (ps : List Part). flat_map (λ v. slash ∷ value_bytes v) (map (λ p. p.value) ps))
+    (inner_parts_not_filler 0 s l e)
+    ∙ ap₂ (λ p vs. slash ∷ (p ++ flat_map (λ v. slash ∷ value_bytes v) vs))
+    (value_bytes-piece (first_piece s)) (values-inner_parts (0 + n) (drop n s))
+
+-- without a string's first byte, each gap begins one byte earlier
+pub is_gap-after_start : (x : ℕ) (s : List ℕ) (i : ℕ) → is_gap (x ∷ s) (suc i) ≡ is_gap s i
+is_gap-after_start x s i =
+    let next : get_or (x ∷ s) (suc i + 1) 47 ≡ get_or s (i + 1) 47 =
+    ap (λ k. get_or (x ∷ s) k 47) {x = suc i + 1} {y = suc (i + 1)} (omega arith) in
+    let after : get_or (x ∷ s) (suc i + 2) 47 ≡ get_or s (i + 2) 47 =
+    ap (λ k. get_or (x ∷ s) k 47) {x = suc i + 2} {y = suc (i + 2)} (omega arith) in
+    ap₂ (λ b c. eqb (get_or s i 0) 47 && (eqb b 47 || (eqb b 46 && eqb c 47))) next after
+
+-- without a first byte at which no gap begins, the first gap begins one byte earlier
+FirstGap-after_start : (x : ℕ) (s : List ℕ) (n : ℕ) → FirstGap (x ∷ s) (suc n) → FirstGap s n
+FirstGap-after_start x s n h = record {
+  in_range = omega (arith, h.in_range);
+  gap = λ l. sym (is_gap-after_start x s n) ∙ h.gap (omega arith);
+  none_before = λ i l. sym (is_gap-after_start x s i) ∙ h.none_before (suc i) (omega arith);
+}
+
+-- a slash at which no gap begins is followed by a component
+component_after_slash : (x : ℕ) (s : List ℕ) → eqb x 47 ≡ true → is_gap (x ∷ s) 0 ≡ false
+    → (0 < length s) × (is_filler s 0 ≡ false)
+component_after_slash x [] e g = absurd (let d : true ≡ false = rw e at g in cc)
+component_after_slash x (y ∷ s) e g = (omega arith, rw e at g)
+
+-- a string that begins with a slash has an empty first piece
+pub first_slash : (x : ℕ) (s : List ℕ) → eqb x 47 ≡ true
+    → first_piece (x ∷ s) ++ slashed_parts (drop (position_or_len is_slash (x ∷ s)) (x ∷ s))
+    ≡ slashed_parts (x ∷ s)
+first_slash x s e = ap₂ (λ p k. p ++ slashed_parts (drop k (x ∷ s))) (first_piece-slash x s e)
+    (position_or_len-slash x s e)
+
+-- leaving out a leading slash changes no inner component
+pub slashed_parts-slash : (x : ℕ) (s : List ℕ) → eqb x 47 ≡ true
+    → slashed_parts (x ∷ s) ≡ slashed_parts s
+slashed_parts-slash x s e = slashed_parts-filler (x ∷ s) 0 (omega arith) (rw e refl)
+
+-- up to its first gap a string is its first piece, followed by its components, each after a slash
+pub before_first_gap : (s : List ℕ) (n : ℕ) → FirstGap s n
+    → first_piece s ++ slashed_parts (drop (position_or_len is_slash s) s)
+    ≡ take n s ++ slashed_parts (drop n s)
+before_first_gap [] n h = ap (λ k. take k [] ++ slashed_parts (drop k [])) {x = 0} {y = n}
+    (omega (arith, h.in_range))
+before_first_gap (x ∷ s) zero h =
+    first_slash x s (and_parts (eqb x 47) _ (h.gap (omega arith))).0
+before_first_gap (x ∷ s) (suc n) h = by_test (eqb x 47)
+    (λ e.
+    let not_filler = component_after_slash x s e (h.none_before 0 (omega arith)) in
+    first_slash x s e ∙ slashed_parts-slash x s e
+    ∙ slashed_parts-not_filler s not_filler.0 not_filler.1
+    ∙ ap₂ (λ b u. b ∷ u) (sym (eqb-true x 47 e))
+    (before_first_gap s n (FirstGap-after_start x s n h)))
+    (λ e.
+    let m = position_or_len is_slash s in
+    ap₂ (λ p k. p ++ slashed_parts (drop k (x ∷ s))) (first_piece-other x s e)
+    (position_or_len-other x s e)
+    ∙ ap (λ u. x ∷ (first_piece s ++ slashed_parts u)) (drop-suc_cons m x s)
+    ∙ ap (λ u. x ∷ u) (before_first_gap s n (FirstGap-after_start x s n h)))
+
+-- a string that begins with a component consists, up to its first gap, of its components, each
+-- after a slash
+pub component_before_gap : (s : List ℕ) (n : ℕ) → 0 < length s → is_filler s 0 ≡ false
+    → FirstGap s n
+    → slashed_parts s ≡ (slash ∷ take n s) ++ slashed_parts (drop n s)
+component_before_gap s n l e h = slashed_parts-not_filler s l e
+    ∙ ap (λ u. slash ∷ u) (before_first_gap s n h)
+
+-- no component follows the end
+pub no_parts_after_end : (a s : List ℕ) (i : ℕ) → length s ≤ i → a ++ slashed_parts (drop i s) ≡ a
+unfolding slashed_parts inner_parts
+no_parts_after_end a s i l =
+    ap (λ u. a ++ slashed_parts u) (drop_all i s l) ∙ append-nil a
+
+-- the slice that starts at the slash before a component is this slash and the next n bytes
+pub slice_from_slash : (s : List ℕ) (start n : ℕ) → start < length s → IsPartStart s start
+    → slice_range s (start - 1) (start + n) ≡ slash ∷ take n (drop start s)
+slice_from_slash s start n l part =
+    let some = part.after_start in
+    let count : start + n - (start - 1) ≡ suc n = omega arith in
+    let next : suc (start - 1) ≡ start = omega arith in
+    ap₂ take count (drop-cons s (start - 1) 0 (omega arith)
+    ∙ ap₂ (λ b k. b ∷ drop k s) part.after_slash next)
+
+pub slice_range-from : (s : List ℕ) (i : ℕ) → slice_range s i (length s) ≡ drop i s
+slice_range-from s i = take_all (length s - i) (drop i s) (omega (arith, length-drop i s))

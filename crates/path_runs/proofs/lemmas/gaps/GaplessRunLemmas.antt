@@ -1,0 +1,56 @@
+-- What the canonical form copies from a path: the bytes before the first gap, and gapless runs. A
+-- gapless run is a slash and the components after it, up to the next gap or the end.
+use Rattle.std.proofs.Common.{◌≡◌, ℕ, zero, suc, ◌+◌, ◌-◌, ◌<◌, ◌≤◌, true, false, eqb, List, ◌++◌}
+use Rattle.std.proofs.Common.{length, take, drop, get_or, sym, ap, ap₂, ◌∙◌, eqb-true, arith}
+use Rattle.std.proofs.Common.{drop-drop, length-drop, length-take-le, take_all}
+use Rattle.std.specs.Prelude.{slice_range}
+use Rattle.std.proofs.lemmas.Bool.{and_parts}
+use Rattle.std.proofs.lemmas.List.{get_or-drop}
+use Rattle.unix_path.specs.Parts.{values}
+use Rattle.unix_path.specs.Scan.{is_filler}
+use Rattle.unix_path.proofs.lemmas.filler.FillerLemmas.{is_filler-drop}
+use Rattle.path_runs.specs.Gaps.{slashed_parts, FirstGap, IsGaplessRun, IsPartStart}
+use Rattle.path_runs.specs.Spelling.{spelling_of}
+use Rattle.path_runs.proofs.lemmas.gaps.FirstGapLemmas.{no_parts_after_end, component_before_gap}
+use Rattle.path_runs.proofs.lemmas.gaps.FirstGapLemmas.{slice_from_slash}
+use Rattle.path_runs.proofs.lemmas.gaps.GapSpellingLemmas.{spelling_of-short}
+
+-- the canonical form of a path of at most one byte is its n bytes and the components after them, of
+-- which there are none
+pub spelling_of-single : (s : List ℕ) (n : ℕ) → length s < 2 → n ≡ length s
+    → spelling_of (values s) ≡ take n s ++ slashed_parts (drop n s)
+spelling_of-single s n l e =
+    let all : length s ≤ n = omega arith in
+    spelling_of-short s l ∙ sym (no_parts_after_end (take n s) s n all ∙ take_all n s all)
+
+-- a string that begins with a component doesn't begin with a gap
+first_gap_positive : (s : List ℕ) (n : ℕ) → 0 < length s → is_filler s 0 ≡ false → FirstGap s n → 0
+    < n
+first_gap_positive s zero l e h =
+    let slash = (and_parts (eqb (get_or s 0 0) 47) _ (h.gap l)).0 in
+    absurd (let d : true ≡ false = rw slash at e in cc)
+first_gap_positive s (suc n) l e h = omega arith
+
+-- the bytes from the slash before a component to the first gap after it are a gapless run
+pub is_gapless_run : (s : List ℕ) (start n : ℕ) → start < length s → IsPartStart s start
+    → FirstGap (drop start s) n → IsGaplessRun s start (slice_range s (start - 1) (start + n))
+is_gapless_run s start n l part h =
+    let run = slice_range s (start - 1) (start + n) in
+    let rest_len = length-drop start s in
+    let not_filler : is_filler (drop start s) 0 ≡ false = is_filler-drop s start ∙ part.begins in
+    let some : 0 < n = first_gap_positive (drop start s) n (omega (arith, rest_len)) not_filler h in
+    let is = slice_from_slash s start n l part in
+    let size : length run ≡ suc n =
+    ap length is ∙ ap suc (length-take-le n (drop start s) h.in_range) in
+    let end : start + n ≡ start - 1 + length run = omega (arith, size, part.after_start) in
+    record {
+      more = omega (arith, size, some);
+      in_range = omega (arith, end, h.in_range, rest_len);
+      gap = λ more.
+          let slash = and_parts (eqb (get_or (drop start s) n 0) 47) _
+          (h.gap (omega (arith, end, rest_len, more))) in
+          ap (λ k. get_or s k 0) (sym end) ∙ sym (get_or-drop start s n 0) ∙ eqb-true _ 47 slash.0;
+      same = component_before_gap (drop start s) n (omega (arith, rest_len)) not_filler h
+          ∙ ap₂ (λ u v. u ++ slashed_parts v) (sym is)
+          (drop-drop n start s ∙ ap (λ k. drop k s) end);
+    }

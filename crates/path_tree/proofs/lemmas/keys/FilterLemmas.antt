@@ -1,0 +1,170 @@
+-- KeyFilter of keys: one that is set, those that stay, and a key that has none.
+use Rattle.std.proofs.Common.{◌≡◌, ◌∙◌, ℕ, ◌*◌, ◌/◌, ◌%◌, ◌^◌, ◌<◌, ◌≤◌, Bool, true, false, cond}
+use Rattle.std.proofs.Common.{List, [], ◌∷◌, None, Less, Equal, Greater, Some, ap, arith}
+use Rattle.std.proofs.Common.{bit_and, bit_or, eq-eqb, eqb, eqb-true, get_or, le-ltb, length, ltb}
+use Rattle.std.proofs.Common.{refl, set, subst, sym, ⊎_elim}
+use Rattle.std.proofs.lemmas.Bool.{cases_eq}
+use Rattle.std.proofs.lemmas.List.{get_or-set_other, get_or-set_same, length-set}
+use Rattle.std.proofs.lemmas.List.Elements.{All-cons, recursion_from_All}
+use Rattle.std.proofs.lemmas.Map.Lookups.{exact_bytes}
+use Rattle.std.proofs.lemmas.Nat.{le_or_l, one_shl, or_comm, or_lt, or_mod, or_shr, shl-shr}
+use Rattle.std.proofs.Math.Nat.{one-mul}
+use Rattle.std.specs.List.{AllByRecursion}
+use Rattle.std.specs.Map.{keys_of, lookup}
+use Rattle.std.specs.Ordering.{is_eq}
+use Rattle.path_keys.specs.Ranges.{bytes_cmp}
+use Rattle.path_tree.specs.Hashed.{has_bit}
+use Rattle.path_tree.proofs.lemmas.keys.PassLemmas.{AllKeys}
+use Rattle.path_tree.proofs.lemmas.keys.RowLemmas.{is_it}
+
+-- the bit k of a word
+abbrev digit : ℕ → ℕ → ℕ
+digit word k = word / 2 ^ k % 2
+
+-- a bit of two words that are combined is the combined bit of each
+digit-or : (a b k : ℕ) → digit (bit_or a b) k ≡ bit_or (digit a k) (digit b k)
+digit-or a b k = ap (λ n. n % 2) (or_shr a b k) ∙ or_mod (a / 2 ^ k) (b / 2 ^ k) 1
+
+-- a bit is 0 or 1
+digit-below : (a k : ℕ) → digit a k < 2
+digit-below a k = let n = a / 2 ^ k in omega arith
+
+-- 1 combined with a bit is 1
+or-one : (x y : ℕ) → x ≡ 1 → y < 2 → bit_or x y ≡ 1
+or-one x y is below =
+    let low = le_or_l x y in
+    let fits : x < 2 ^ 1 = omega arith in
+    let high = or_lt 1 x y fits below in
+    omega (arith, low, high)
+
+-- a bit that is set stays set
+digit-or_left : (a b k : ℕ) → digit a k ≡ 1 → digit (bit_or a b) k ≡ 1
+digit-or_left a b k is = digit-or a b k ∙ or-one (digit a k) (digit b k) is (digit-below b k)
+
+-- the same for a bit of the second word
+digit-or_right : (a b k : ℕ) → digit b k ≡ 1 → digit (bit_or a b) k ≡ 1
+digit-or_right a b k is = ap (λ n. digit n k) (or_comm a b) ∙ digit-or_left b a k is
+
+-- the word with the bit k alone
+digit-one : (k : ℕ) → k < 64 → digit (1 * 2 ^ k % 2 ^ 64) k ≡ 1
+digit-one k below =
+    ap (λ n. digit n k) (one_shl k 64 below ∙ sym (one-mul (2 ^ k))) ∙ ap (λ n. n % 2) (shl-shr 1 k)
+
+-- the word with the bit of the hash
+abbrev pub word_with : ℕ → ℕ → ℕ
+word_with word hash = bit_or word (1 * 2 ^ (hash / 2 ^ 58) % 2 ^ 64)
+
+-- the words with the bit of the hash
+abbrev pub words_with : ℕ → List ℕ → ℕ → List ℕ
+words_with mask words hash =
+    set words (bit_and hash mask) (word_with (get_or words (bit_and hash mask) 0) hash)
+
+module _ (mask : ℕ) (words : List ℕ) (hash : ℕ) (there : bit_and hash mask < length words) where
+  -- a bit that was set is found
+  pub has_bit-set : hash < 2 ^ 64 → has_bit mask (words_with mask words hash) hash ≡ true
+  unfolding has_bit
+  has_bit-set fits =
+      let slot = bit_and hash mask in
+      let k = hash / 2 ^ 58 in
+      let word = get_or words slot 0 in
+      let new = words_with mask words hash in
+      let below : k < 64 = omega arith in
+      let is : digit (get_or new slot 0) k ≡ 1 =
+      ap (λ w. digit w k) (get_or-set_same words slot (word_with word hash) 0 there)
+      ∙ digit-or_right word (1 * 2 ^ k % 2 ^ 64) k (digit-one k below) in
+      elim (ltb slot (length new)) as (λ t.
+      cond t (eqb (digit (get_or new slot 0) k) 1) true ≡ true) [
+        | true ↦ eq-eqb _ 1 is
+        | false ↦ refl
+      ]
+
+  -- each bit that was set before still is
+  stays : (place k : ℕ) → digit (get_or words place 0) k ≡ 1
+      → digit (get_or (words_with mask words hash) place 0) k ≡ 1
+  stays place k is =
+      let slot = bit_and hash mask in
+      let word = get_or words slot 0 in
+      let marked = word_with word hash in
+      ⊎_elim
+      (λ (same : place ≡ slot).
+      ap (λ p. digit (get_or (set words slot marked) p 0) k) same
+      ∙ ap (λ w. digit w k) (get_or-set_same words slot marked 0 there)
+      ∙ digit-or_left word _ k (ap (λ p. digit (get_or words p 0) k) (sym same) ∙ is))
+      (λ other. ap (λ w. digit w k) (get_or-set_other words slot place marked 0 other) ∙ is)
+      (cases_eq place slot)
+
+  -- so each hash that was found before still is
+  pub has_bit-kept : (other : ℕ) → has_bit mask words other ≡ true
+      → has_bit mask (words_with mask words hash) other ≡ true
+  unfolding has_bit
+  has_bit-kept other has =
+      let place = bit_and other mask in
+      let k = other / 2 ^ 58 in
+      let new = words_with mask words hash in
+      let old_bit = digit (get_or words place 0) k in
+      let new_bit = digit (get_or new place 0) k in
+      subst (λ n. cond (ltb place n) (eqb new_bit 1) true ≡ true)
+      (sym (length-set words (bit_and hash mask) _))
+      (elim (ltb place (length words)) as (λ t. cond t (eqb old_bit 1) true ≡ true
+      → cond t (eqb new_bit 1) true ≡ true) [
+        | true ↦ λ is. eq-eqb new_bit 1 (stays place k (eqb-true old_bit 1 is))
+        | false ↦ λ _. refl
+      ] has)
+
+-- where there is no word the hash counts as marked
+pub has_bit-outside : (mask hash : ℕ) (words : List ℕ) → length words ≤ bit_and hash mask
+    → has_bit mask words hash ≡ true
+unfolding has_bit
+has_bit-outside mask hash words out =
+    let place = bit_and hash mask in
+    ap (λ t. cond t (eqb (digit (get_or words place 0) (hash / 2 ^ 58)) 1) true)
+    (le-ltb place (length words) out)
+
+-- without words each hash is found
+pub has_bit-none : (mask hash : ℕ) (words : List ℕ) → words ≡ [] → has_bit mask words hash ≡ true
+has_bit-none mask hash words none =
+    has_bit-outside mask hash words
+    (subst (λ l. length l ≤ bit_and hash mask) (sym none) (omega arith))
+
+-- nothing stands at a key that fails a test which all keys pass
+module _ {K V : Type 0} (bytes_of : K → List ℕ) (test : List ℕ → Bool) (key : List ℕ)
+    (fails : test key ≡ false) where
+  -- `lookup-filtered`, by recursion on the entries
+  lookup-fails : (entries : List (K × V))
+      → AllByRecursion (λ k. test (bytes_of k) ≡ true) (keys_of entries)
+      → lookup (is_it bytes_of key) entries ≡ None
+  lookup-fails [] all = refl
+  lookup-fails (e ∷ entries) all =
+      let left = lookup (is_it bytes_of key) entries in
+      let rest = lookup-fails entries all.1 in
+      elim (bytes_cmp key (bytes_of e.0)) as (λ o. bytes_cmp key (bytes_of e.0) ≡ o
+      → cond (is_eq o) (Some e.1) left ≡ None) [
+        | Less ↦ λ _. rest
+        | Equal ↦ λ same. absurd (let clash : false ≡ true =
+            sym fails ∙ ap test (exact_bytes key (bytes_of e.0) same) ∙ all.0 in cc)
+        | Greater ↦ λ _. rest
+      ] refl
+
+  -- a look-up of that key finds nothing
+  pub lookup-filtered : (entries : List (K × V)) → AllKeys bytes_of test entries
+      → lookup (is_it bytes_of key) entries ≡ None
+  lookup-filtered entries all =
+      lookup-fails entries (recursion_from_All (λ k. test (bytes_of k) ≡ true) _ all)
+
+-- a walk that marks each key has come so far: marks that keep those made, and have those of the
+-- entries left, have all
+abbrev pub FiltersRest : {K V : Type 0} → (K → List ℕ) → (List ℕ → Bool) → List (K × V)
+    → List (K × V) → Type 0
+FiltersRest bytes_of marked left all = (more : List ℕ → Bool)
+    → ((key : List ℕ) → marked key ≡ true → more key ≡ true)
+    → AllKeys bytes_of more left → AllKeys bytes_of more all
+
+-- one more key is marked
+pub filters_more : {K V : Type 0} (bytes_of : K → List ℕ) (old new : List ℕ → Bool) (e : K × V)
+    (left all : List (K × V)) → FiltersRest bytes_of old (e ∷ left) all
+    → new (bytes_of e.0) ≡ true → ((key : List ℕ) → old key ≡ true → new key ≡ true)
+    → FiltersRest bytes_of new left all
+filters_more bytes_of old new e left all before marked kept =
+    λ more wider rest. before more (λ key is. wider key (kept key is))
+    (All-cons (λ k. more (bytes_of k) ≡ true) e.0 (keys_of left)
+    (wider (bytes_of e.0) marked) rest)

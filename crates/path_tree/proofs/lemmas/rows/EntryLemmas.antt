@@ -1,0 +1,169 @@
+-- The entries of a tree by the bytes of their keys: all keys are keys of paths, and those of a
+-- range are those that start with its base.
+use Rattle.std.proofs.Common.{◌≡◌, ◌∙◌, ◌&&◌, ℕ, Bool, true, false, cond, List, [], ◌∷◌, Some, None}
+use Rattle.std.proofs.Common.{zero, suc, arith, length, IfSome, Less, ap, eqb, is_le, map, not}
+use Rattle.std.proofs.Common.{refl, subst, sym}
+use Rattle.std.proofs.lemmas.List.Elements.{All-from_recursion}
+use Rattle.std.proofs.lemmas.Option.{slice_get_past}
+use Rattle.std.proofs.lemmas.List.{length-map, nil_from_length}
+use Rattle.std.specs.Cmp.{both_ways}
+use Rattle.std.specs.Cmp.Lexicographic.{nat_list_cmp_total}
+use Rattle.std.specs.List.{All, AllByRecursion, filter, slice_get, starts_with}
+use Rattle.std.specs.List.Sorted.{IsStrictlySortedBy}
+use Rattle.std.specs.Map.{keys_of}
+use Rattle.unix_path.specs.Parts.{Value}
+use Rattle.path_runs.specs.Rows.{is_under}
+use Rattle.path_runs.specs.Spelling.{spelling_of}
+use Rattle.path_keys.specs.Keys.{IsKey}
+use Rattle.path_keys.specs.Ranges.{bytes_cmp, end_of, LiesUnder}
+use Rattle.path_keys.proofs.lemmas.values.BeginLemmas.{begins_told}
+use Rattle.path_keys.proofs.lemmas.values.RangeLemmas.{begins-lies_under}
+use Rattle.path_tree.specs.Read.{is_own, key_values}
+use Rattle.path_tree.specs.Rows.{Key, entries_under, key_entries, key_rows, rows_under}
+use Rattle.path_tree.proofs.lemmas.keys.ReadLemmas.{own-is}
+use Rattle.path_tree.proofs.lemmas.keys.RowLemmas.{AllOwn, Own, all_own, keys_cmp}
+use Rattle.path_tree.proofs.lemmas.keys.UnderLemmas.{endless, less_from_not_le, less_not_le}
+use Rattle.path_tree.proofs.lemmas.keys.UnderLemmas.{both_true, first_true, second_true}
+use Rattle.path_tree.proofs.lemmas.rows.ManyLemmas.{starts_with-under}
+
+-- the bytes of a key
+abbrev items_of : Key → List ℕ
+items_of k = k.items
+
+-- keys that are greater have greater bytes
+greater_entries : {V : Type 0} (k : Key) (es : List (Key × V))
+    → AllByRecursion (λ l. keys_cmp items_of k l ≡ Less) (keys_of es)
+    → AllByRecursion (λ l. bytes_cmp k.items l ≡ Less) (keys_of (key_entries es))
+greater_entries k [] all = tt
+greater_entries k (e ∷ es) all = (all.0, greater_entries k es all.1)
+
+-- if keys are strictly increasing, so are their bytes
+pub sorted-key_entries : {V : Type 0} (es : List (Key × V))
+    → IsStrictlySortedBy (keys_cmp items_of) (keys_of es)
+    → IsStrictlySortedBy bytes_cmp (keys_of (key_entries es))
+unfolding IsStrictlySortedBy
+sorted-key_entries [] sorted = tt
+sorted-key_entries (e ∷ es) sorted =
+    (greater_entries e.0 es sorted.0, sorted-key_entries es sorted.1)
+
+-- `keys-own`, by recursion on the entries
+all_keys : {V : Type 0} (es : List (Key × V)) → AllOwn items_of es
+    → AllByRecursion IsKey (keys_of (key_entries es))
+all_keys [] own = tt
+all_keys (e ∷ es) own =
+    ((spelling_of (key_values e.0.items), own-is e.0.items own.0), all_keys es own.1)
+
+-- the bytes of each key of a tree are the key of a path
+pub keys-own : {V : Type 0} (es : List (Key × V)) → Own items_of es
+    → All IsKey (keys_of (key_entries es))
+keys-own es own =
+    All-from_recursion IsKey (keys_of (key_entries es)) (all_keys es (all_own items_of es own))
+
+-- `is_key-entry`, by recursion on the entries
+is_key-all_own : {V : Type 0} (es : List (Key × V)) → AllOwn items_of es → (i : ℕ) (e : Key × V)
+    → slice_get es i ≡ Some e → IsKey e.0.items
+is_key-all_own {V} [] all i e is =
+    absurd (let d = sym (slice_get_past {X = Key × V} [] i (omega arith)) ∙ is in cc)
+is_key-all_own {V} (x ∷ es) all zero e is =
+    let same : x ≡ e = cc in
+    subst (λ (p : Key × V). IsKey p.0.items) same
+    (spelling_of (key_values x.0.items), own-is x.0.items all.0)
+is_key-all_own (x ∷ es) all (suc i) e is = is_key-all_own es all.1 i e is
+
+-- the key of an entry of a tree is the key of a path
+pub is_key-entry : {V : Type 0} (es : List (Key × V)) → Own items_of es → (i : ℕ) (e : Key × V)
+    → slice_get es i ≡ Some e → IsKey e.0.items
+is_key-entry es own = is_key-all_own es (all_own items_of es own)
+
+-- the rows of entries are the components that the bytes of their keys represent
+pub rows-key_entries : {V : Type 0} (es : List (Key × V))
+    → map (λ e. (key_values e.0, e.1)) (key_entries es) ≡ key_rows es
+rows-key_entries [] = refl
+rows-key_entries (e ∷ es) = ap (λ rows. (key_values e.0.items, e.1) ∷ rows) (rows-key_entries es)
+
+module _ {V : Type 0} (test : Key → Bool) (keep : List ℕ → Bool)
+    (same : (k : Key) → test k ≡ keep k.items) where
+  -- entries whose keys pass a test of their bytes
+  pub filter-key_entries : (es : List (Key × V))
+      → key_entries (filter (λ e. test e.0) es) ≡ filter (λ e. keep e.0) (key_entries es)
+  filter-key_entries [] = refl
+  filter-key_entries (e ∷ es) =
+      let kept = filter (λ (e : Key × V). test e.0) es in
+      let rest = filter (λ (e : List ℕ × V). keep e.0) (key_entries es) in
+      ap (λ b. key_entries (cond b (e ∷ kept) kept)) (same e.0)
+      ∙ elim (keep e.0.items) as (λ b.
+      key_entries (cond b (e ∷ kept) kept) ≡ cond b ((e.0.items, e.1) ∷ rest) rest) [
+        | true ↦ ap (λ l. (e.0.items, e.1) ∷ l) (filter-key_entries es)
+        | false ↦ filter-key_entries es
+      ]
+
+-- bytes are in the range of a base if and only if they start with it
+pub between-starts : (base end key : List ℕ) → end_of base ≡ Some end
+    → (is_le (bytes_cmp base key) && not (is_le (bytes_cmp end key))) ≡ starts_with eqb key base
+between-starts base end key ends =
+    let from = is_le (bytes_cmp base key) in
+    let before = not (is_le (bytes_cmp end key)) in
+    let told = begins_told key base (starts_with eqb key base) refl in
+    both_ways (from && before) (starts_with eqb key base)
+    (λ both.
+    let less = less_from_not_le (bytes_cmp key end)
+    (ap (λ o. not (is_le o)) (sym (nat_list_cmp_total.antisymm end key))
+    ∙ second_true from before both) in
+    let lies : LiesUnder base key = (
+      first_true from before both,
+      subst (λ o. IfSome o (λ end. bytes_cmp key end ≡ Less)) (sym ends) less,
+    ) in
+    told.1 ((begins-lies_under base key).1 lies))
+    (λ starts.
+    let lies = (begins-lies_under base key).0 (told.0 starts) in
+    both_true from before lies.0
+    (less_not_le (bytes_cmp end key) (bytes_cmp key end) (nat_list_cmp_total.antisymm end key)
+    (subst (λ o. IfSome o (λ end. bytes_cmp key end ≡ Less)) ends lies.1)))
+
+-- all bytes start with a base whose range has no end
+pub endless-starts : (base : List ℕ) → end_of base ≡ None → (key : List ℕ)
+    → true ≡ starts_with eqb key base
+endless-starts base none key =
+    let empty = endless base none in
+    sym (ap (starts_with eqb key) empty
+    ∙ (begins_told key [] (starts_with eqb key []) refl).1 (key, refl))
+
+module _ {V : Type 0} (base : List ℕ) (own : is_own base ≡ true) where
+  -- `rows-entries_under`, by recursion on the entries
+  under-all_own : (es : List (Key × V)) → AllOwn items_of es
+      → map (λ e. (key_values e.0, e.1)) (entries_under base (key_entries es))
+      ≡ rows_under (key_values base) (key_rows es)
+  under-all_own [] all = refl
+  under-all_own (e ∷ es) all =
+      let row : List Value × V = (key_values e.0.items, e.1) in
+      let kept = entries_under base (key_entries es) in
+      let rows = rows_under (key_values base) (key_rows es) in
+      ap (λ b. map (λ e. (key_values e.0, e.1)) (cond b ((e.0.items, e.1) ∷ kept) kept))
+      (starts_with-under base e.0.items own all.0)
+      ∙ elim (is_under (key_values base) (key_values e.0.items)) as (λ b.
+      map (λ e. (key_values e.0, e.1)) (cond b ((e.0.items, e.1) ∷ kept) kept)
+      ≡ cond b (row ∷ rows) rows) [
+        | true ↦ ap (λ rows. row ∷ rows) (under-all_own es all.1)
+        | false ↦ under-all_own es all.1
+      ]
+
+  -- the rows of the entries whose keys start with a key are the rows under its components
+  pub rows-entries_under : (es : List (Key × V)) → Own items_of es
+      → map (λ e. (key_values e.0, e.1)) (entries_under base (key_entries es))
+      ≡ rows_under (key_values base) (key_rows es)
+  rows-entries_under es all = under-all_own es (all_own items_of es all)
+
+  -- if no key starts with a key, no row is under its components
+  pub rows_under-none : (es : List (Key × V)) → Own items_of es
+      → entries_under base (key_entries es) ≡ [] → rows_under (key_values base) (key_rows es) ≡ []
+  rows_under-none es all none = sym (rows-entries_under es all)
+      ∙ ap (map (λ (e : List ℕ × V). (key_values e.0, e.1))) none
+
+  -- if a key starts with a key, a row is under its components
+  pub rows_under-some : (es : List (Key × V)) → Own items_of es
+      → rows_under (key_values base) (key_rows es) ≡ [] → entries_under base (key_entries es) ≡ []
+  rows_under-some es all none =
+      let kept = entries_under base (key_entries es) in
+      let mapped = rows-entries_under es all ∙ none in
+      nil_from_length kept
+      (sym (length-map kept (λ (e : List ℕ × V). (key_values e.0, e.1))) ∙ ap length mapped)

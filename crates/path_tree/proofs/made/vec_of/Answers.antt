@@ -1,5 +1,0 @@
-use Rattle.path_tree.proofs.lemmas.keys.ReadLemmas.{own-IsKey}
-use Rattle.path_tree.proofs.made.vec_of.Goals as goal
-
-pub returns-clause-own : goal.returns-clause-own
-returns-clause-own c = own-IsKey _ _ c.as_vec.ensures c.args.key.now.is_key

@@ -1,0 +1,91 @@
+//! The entry whose path is the longest prefix of a path.
+ghost use Rattle.std.specs.Prelude.{◌≡◌, ◌≤◌, ◌<◌, ◌^◌, true, List, length};
+ghost use Rattle.std.specs.Prelude.{IfOk, IfSome, IsOk, None};
+ghost use Rattle.unix_path.specs.Parts.{Value, values};
+ghost use Rattle.unix_path.specs.Slices.{LiesIn};
+ghost use Rattle.unix_path.specs.Prefixes.{IsPrefixOf, stripped_of};
+ghost use Rattle.unix_path.specs.Views.{value_of};
+ghost use Rattle.path_runs.specs.Rows.{value_at};
+ghost use Rattle.path_keys.specs.Keys.{code, key_of};
+ghost use Rattle.path_tree.specs.Nearest.{IsNearest};
+ghost use Rattle.path_tree.specs.Read.{is_own, key_values};
+
+use super::PathTree;
+use crate::lookup_key::{LookupKey, STACK_LEN};
+use std::alloc::AllocError;
+use unix_path::{Component, Path};
+
+// Returns the length of the code of the component in a key.
+#[inline]
+fn code_len(part: Component<'_>) -> usize
+    requires { length (code (value_of part)) < 2 ^ 64 }
+    ensures { result ≡ length (code (value_of part.entry)) }
+{
+    match part {
+        Component::Normal(name) => name.len() + 1,
+        _ => 2,
+    }
+}
+
+// Returns the rest of the path after a base that it starts with.
+#[inline]
+fn rest_after<'a>(path: Path<'a>, base: Path<'_>) -> Path<'a>
+    requires { IsPrefixOf (values base.bytes.now) (values path.bytes.now) }
+    ensures bytes { result.bytes.now ≡ stripped_of path.entry.bytes.now base.entry.bytes.now }
+    ensures place { LiesIn result.bytes path.entry.bytes }
+{
+    path.strip_prefix(base).unwrap()
+}
+
+impl<V> PathTree<V> {
+    ghost use Rattle.path_tree.specs.Tree.{table_of};
+
+    // Returns the entry with the longest prefix of the path, whose key this is, and the rest.
+    fn nearest_by<'a>(&self, path: Path<'a>, key: &[u8]) -> Option<(Path<'a>, &V)>
+        requires own { is_own key.now ≡ true }
+        requires values { key_values key.now ≡ values path.bytes.now }
+        ensures nearest { IfSome result (λ found.
+            IsNearest path.entry.bytes.now (table_of self.now) found.0.bytes.now found.1.now) }
+        ensures none { result ≡ None → (base : List Value)
+            → IsPrefixOf base (values path.entry.bytes.now)
+            → value_at base (table_of self.now) ≡ None }
+        ensures place { IfSome result (λ found. LiesIn found.0.bytes path.entry.bytes) }
+    {
+        let mut parts = path.components();
+        let mut end = key.len();
+        loop {
+            if let Some(value) = self.find_filtered(&key[..end]) {
+                return Some((rest_after(path, parts.as_path()), value));
+            }
+            let Some(part) = parts.next_back() else {
+                return None;
+            };
+            end -= code_len(part);
+        }
+    }
+
+    /// Finds the entry whose path is the longest prefix of `path`, component by component. Returns
+    /// the rest of `path`, as a slice of its bytes, and the entry's value; `None` if no entry's
+    /// path is a prefix of `path`.
+    ///
+    /// An entry at the empty path matches every path. The tree is searched for `path`, then for its
+    /// parent, and so on. With more than 64 entries, a Bloom filter saves most look-ups of paths
+    /// that have no entry. Allocates, once, only if the path's key is longer than 512 bytes, which
+    /// requires a path of more than 510 bytes. Fails only if that allocation fails.
+    ///
+    /// With 1 at `/`, 2 at `/a/b` and 3 at `/a/bc`, for `/a/b//c/d` it is `c/d` with 2.
+    pub fn longest_prefix<'a>(&self, path: Path<'a>) -> Result<Option<(Path<'a>, &V)>, AllocError>
+        ensures nearest { IfOk result (λ found. IfSome found (λ near.
+            IsNearest path.entry.bytes.now (table_of self.now) near.0.bytes.now near.1.now)) }
+        ensures none { IfOk result (λ found. found ≡ None → (base : List Value)
+            → IsPrefixOf base (values path.entry.bytes.now)
+            → value_at base (table_of self.now) ≡ None) }
+        ensures place { IfOk result (λ found. IfSome found (λ near.
+            LiesIn near.0.bytes path.entry.bytes)) }
+        ensures succeeds { length (key_of (values path.entry.bytes.now)) ≤ 512 → IsOk result }
+    {
+        let mut buffer = [0u8; STACK_LEN];
+        let key = LookupKey::of(self.alloc, path, &mut buffer)?;
+        Ok(self.nearest_by(path, key.as_bytes()))
+    }
+}

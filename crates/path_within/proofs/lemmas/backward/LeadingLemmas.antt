@@ -1,0 +1,131 @@
+-- What precedes the names of a resolved path: a root, or `..` any number of times.
+use Rattle.std.proofs.Common.{◌≡◌, ℕ, suc, zero, true, false, List, [], ◌∷◌, ◌++◌, reverse, refl}
+use Rattle.std.proofs.Common.{sym, ap, ap₂, ◌∙◌, add-one, Bool}
+use Rattle.std.proofs.Math.ListN.{replicate}
+use Rattle.std.proofs.lemmas.Grind.{reverse_onto}
+use Rattle.std.proofs.lemmas.List.{replicate_more, reverse-append}
+use Rattle.unix_path.specs.Parts.{Value, RootDir, CurDir, ParentDir, Normal, is_rooted, values}
+use Rattle.unix_path.proofs.lemmas.rests.RootLemmas.{NoRoot}
+use Rattle.path_runs.specs.Spelling.{slashed_bytes, spelling_of}
+use Rattle.path_runs.proofs.lemmas.spelling.PieceValueLemmas.{is_rooted-slash}
+use Rattle.path_within.specs.Backward.{parent_dir_count, remaining_parent_dirs}
+use Rattle.path_within.specs.Below.{names_below}
+use Rattle.path_within.specs.Resolved.{AllNames, ParentDirsThenNames, resolve_onto, resolved_of}
+use Rattle.path_within.specs.Resolved.{resolved_bytes_of}
+use Rattle.path_within.proofs.lemmas.below.NamesBelowLemmas.{AllNames-names_below, on_root}
+use Rattle.path_within.proofs.lemmas.below.NamesBelowLemmas.{names_below-stack, names_below-slash}
+use Rattle.path_within.proofs.lemmas.below.NamesBelowLemmas.{resolved_of-slash, names_below-names}
+use Rattle.path_within.proofs.lemmas.below.NamesBelowLemmas.{names_on_stack, values-slash}
+use Rattle.unix_path.specs.CommonDir.{inner_values}
+use Rattle.path_within.proofs.lemmas.stack.EscapeLemmas.{rootless-no_roots}
+use Rattle.path_within.proofs.lemmas.stack.StackLemmas.{names_straight}
+use Rattle.path_within.proofs.lemmas.stack.RelativePathLemmas.{spelling_of-straight}
+use Rattle.path_within.proofs.lemmas.names_only.NormalLemmas.{resolved_values}
+use Rattle.path_within.proofs.lemmas.names_only.NamesOnlyLemmas.{names_only_has_names}
+use Rattle.path_within.proofs.lemmas.names_only.NamesOnlyLemmas.{resolved-names_only}
+use Rattle.path_within.specs.NamePieces.{is_names_only}
+use Rattle.unix_bytes.proofs.lemmas.lists.ListLemmas.{by_test}
+
+-- `stack` has names on top of `..`, and `below` has the same names on top of the root
+record LeavesParentDirs (stack below : List Value) : Type 0 where
+  parent_dirs : ℕ
+  names : List Value
+  are : AllNames names
+  stack_is : stack ≡ names ++ replicate parent_dirs ParentDir
+  below_is : below ≡ on_root names
+
+-- `LeavesParentDirs` is still true of two such stacks after components without a root
+leaves_parent_dirs : (n : ℕ) (ks vs : List Value) → AllNames ks → NoRoot vs
+    → LeavesParentDirs (resolve_onto (ks ++ replicate n ParentDir) vs)
+    (resolve_onto (on_root ks) vs)
+leaves_parent_dirs n ks [] h r =
+    record { parent_dirs = n; names = ks; are = h; stack_is = refl; below_is = refl }
+leaves_parent_dirs n ks (RootDir ∷ vs) h r = absurd r
+leaves_parent_dirs n ks (CurDir ∷ vs) h r = leaves_parent_dirs n ks vs h r
+leaves_parent_dirs n ks (Normal name ∷ vs) h r = leaves_parent_dirs n (Normal name ∷ ks) vs h r
+leaves_parent_dirs zero [] (ParentDir ∷ vs) h r = leaves_parent_dirs 1 [] vs tt r
+leaves_parent_dirs (suc n) [] (ParentDir ∷ vs) h r = leaves_parent_dirs (suc (suc n)) [] vs tt r
+leaves_parent_dirs n (Normal name ∷ ks) (ParentDir ∷ vs) h r = leaves_parent_dirs n ks vs h r
+leaves_parent_dirs n (k ∷ ks) (ParentDir ∷ vs) h r = absurd h
+
+-- a list of only `..` is the same in reverse order
+reverse-parent_dir_run : (n : ℕ) → reverse (replicate n ParentDir) ≡ replicate n ParentDir
+reverse-parent_dir_run zero = refl
+reverse-parent_dir_run (suc n) = reverse_onto (replicate n ParentDir) ParentDir []
+    ∙ ap (λ us. us ++ ParentDir ∷ []) (reverse-parent_dir_run n) ∙ replicate_more n ParentDir
+    ∙ ap (λ n. replicate n ParentDir) (add-one n)
+
+parent_dir_count-stack : (ns : List Value) (n : ℕ) → AllNames ns
+    → parent_dir_count (ns ++ replicate n ParentDir) ≡ n
+parent_dir_count-stack [] zero h = refl
+parent_dir_count-stack [] (suc n) h = ap suc (parent_dir_count-stack [] n h)
+parent_dir_count-stack (Normal name ∷ ns) n h = parent_dir_count-stack ns n h
+parent_dir_count-stack (v ∷ ns) n h = absurd h
+
+-- a path without a root resolves to its remaining `..` and then its names
+pub resolved_of-rootless : (s : List ℕ) → is_rooted s ≡ false
+    → resolved_of (values s) ≡ replicate (remaining_parent_dirs (values s)) ParentDir
+    ++ names_below (values s)
+unfolding resolved_of remaining_parent_dirs
+resolved_of-rootless s r =
+    let h = leaves_parent_dirs 0 [] (values s) tt (rootless-no_roots s r) in
+    ap reverse h.stack_is ∙ reverse-append h.names (replicate h.parent_dirs ParentDir)
+    ∙ ap₂ (λ us ns. us ++ ns) (reverse-parent_dir_run h.parent_dirs
+    ∙ ap (λ n. replicate n ParentDir)
+    (sym (ap parent_dir_count h.stack_is ∙ parent_dir_count-stack h.names h.parent_dirs h.are)))
+    (sym (names_below-stack (values s) h.names h.below_is))
+
+pub straight : (n : ℕ) (vs : List Value) → AllNames vs
+    → ParentDirsThenNames (replicate n ParentDir ++ vs)
+straight zero vs h = names_straight vs h
+straight (suc n) vs h = straight n vs h
+
+-- the resolved bytes of a path without a root are its remaining `..` and then its names, with
+-- slashes between them
+pub resolved_bytes_of-rootless : (s : List ℕ) → is_rooted s ≡ false
+    → resolved_bytes_of s
+    ≡ slashed_bytes (replicate (remaining_parent_dirs (values s)) ParentDir
+    ++ names_below (values s))
+resolved_bytes_of-rootless s r =
+    let n = remaining_parent_dirs (values s) in
+    ap spelling_of (resolved_of-rootless s r)
+    ∙ spelling_of-straight (replicate n ParentDir ++ names_below (values s))
+    (straight n (names_below (values s)) (AllNames-names_below (values s)))
+
+-- a path with a root resolves to the root and its names
+pub resolved_of-rooted : (s : List ℕ) → is_rooted s ≡ true
+    → resolved_of (values s) ≡ RootDir ∷ names_below (values s)
+resolved_of-rooted s r =
+    let t = is_rooted-slash s r in
+    ap (λ s. resolved_of (values s)) t.1 ∙ resolved_of-slash t.0
+    ∙ ap (λ vs. RootDir ∷ vs) (sym (ap (λ s. names_below (values s)) t.1 ∙ names_below-slash t.0))
+
+-- the root of a path, if it has one
+abbrev pub root_if : Bool → List Value
+root_if true = RootDir ∷ []
+root_if false = []
+
+-- the components of a path of names only are its root, if it has one, and its names
+pub names_only_values : (s : List ℕ) → is_names_only s ≡ true
+    → values s ≡ root_if (is_rooted s) ++ names_below (values s)
+names_only_values s h = by_test (is_rooted s)
+    (λ r. sym (resolved_values s (resolved-names_only s h)) ∙ resolved_of-rooted s r
+    ∙ ap (λ b. root_if b ++ names_below (values s)) (sym r))
+    (λ r. sym (names_below-names (values s) (names_only_has_names s h r).names)
+    ∙ ap (λ b. root_if b ++ names_below (values s)) (sym r))
+
+-- no `..` remains of a path with a root
+pub remaining_parent_dirs-rooted : (s : List ℕ) → is_rooted s ≡ true
+    → remaining_parent_dirs (values s) ≡ 0
+unfolding remaining_parent_dirs
+remaining_parent_dirs-rooted s r =
+    let t = is_rooted-slash s r in
+    let found = names_on_stack (inner_values t.0) in
+    ap (λ s. parent_dir_count (resolve_onto [] (values s))) t.1
+    ∙ ap (λ vs. parent_dir_count (resolve_onto [] vs)) (values-slash t.0)
+    ∙ ap parent_dir_count found.2 ∙ none found.0 found.1
+  where
+    none : (ns : List Value) → AllNames ns → parent_dir_count (ns ++ RootDir ∷ []) ≡ 0
+    none [] h = refl
+    none (Normal name ∷ ns) h = none ns h
+    none (v ∷ ns) h = absurd h

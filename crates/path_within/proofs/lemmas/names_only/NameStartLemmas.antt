@@ -1,0 +1,91 @@
+-- All pieces are names if a name starts at the beginning and after each slash.
+use Rattle.std.proofs.Common.{◌≡◌, ℕ, suc, ◌<◌, true, eqb, ◌&&◌, List, [], ◌∷◌, length, get_or}
+use Rattle.std.proofs.Common.{refl, ap, ◌∙◌, arith, ◌+◌, cond, drop, false, subst, Bool}
+use Rattle.std.specs.Int.{from_bool}
+use Rattle.std.proofs.lemmas.List.{get_or_default, get_or_past}
+use Rattle.unix_path.specs.Parts.{is_rooted, is_slash, parent_dir}
+use Rattle.unix_path.specs.NameRunEnds.{ends_name_run_of}
+use native.Mathlib.Numerals.{unary_clauses}
+use Rattle.std.specs.List.{list_all, onto_first, slice_split}
+use Rattle.std.specs.Str.{bytes_eq}
+use Rattle.std.proofs.lemmas.Bool.{and_from}
+use Rattle.std.proofs.lemmas.List.Splits.{slice_split-cons_yes, slice_split-cons_no}
+use Rattle.unix_bytes.proofs.lemmas.lists.ListLemmas.{by_test}
+use Rattle.unix_path.proofs.lemmas.filler.FillerLemmas.{first_piece_empty, first_piece_dot}
+use Rattle.unix_path.proofs.lemmas.parts.PieceLemmas.{first_piece, first_piece-slash}
+use Rattle.unix_path.proofs.lemmas.parts.PieceLemmas.{first_piece-other, slice_split-first}
+use Rattle.path_within.specs.NamePieces.{is_name_piece, has_only_name_pieces, name_starts_at}
+use Rattle.path_within.specs.NamePieces.{name_follows_slash_at, is_names_only}
+
+-- the first three bytes determine whether the first piece is `..`
+first_piece_parent_dir : (s : List ℕ)
+    → bytes_eq (first_piece s) parent_dir
+    ≡ (eqb (get_or s 0 0) 46 && (eqb (get_or s 1 0) 46 && eqb (get_or s 2 47) 47))
+first_piece_parent_dir [] = refl
+first_piece_parent_dir (b ∷ s) =
+    grind (arith, first_piece-slash b s, first_piece-other b s, first_piece_dot s)
+
+-- if a name starts at index 0, the first piece is a name
+first_piece_is_name : (s : List ℕ) → name_starts_at s 0 ≡ true → is_name_piece (first_piece s)
+    ≡ true
+first_piece_is_name s h =
+    grind (arith, first_piece_empty s, first_piece_dot s, first_piece_parent_dir s)
+
+-- all pieces except the first
+abbrev after_first : List (List ℕ) → List (List ℕ)
+after_first [] = []
+after_first (p ∷ ps) = ps
+
+-- adding a byte to the start of the first piece leaves the pieces after it unchanged
+after_first-onto : (b : ℕ) (ps : List (List ℕ)) → after_first (onto_first b ps) ≡ after_first ps
+after_first-onto b [] = refl
+after_first-onto b (p ∷ ps) = refl
+
+-- if a name starts at index 0 and the pieces after the first are names, all pieces are names
+all_name_pieces : (s : List ℕ) → name_starts_at s 0 ≡ true
+    → list_all is_name_piece (after_first (slice_split is_slash s)) ≡ true
+    → has_only_name_pieces s ≡ true
+all_name_pieces s first others =
+    rw (slice_split-first s) (and_from _ _ (first_piece_is_name s first)
+    (rw (slice_split-first s) at others))
+
+-- if a name starts after each slash, all pieces except the first are names
+later_pieces_are_names : (s : List ℕ) → ((k : ℕ) → k < length s → name_follows_slash_at s k ≡ true)
+    → list_all is_name_piece (after_first (slice_split is_slash s)) ≡ true
+later_pieces_are_names [] h = refl
+later_pieces_are_names (b ∷ s) h =
+    let later : (k : ℕ) → k < length s → name_follows_slash_at s k ≡ true =
+    λ k l. simp unary_clauses (simp unary_clauses at (h (suc k) (omega arith))) in
+    by_test (is_slash b)
+    (λ e. ap (λ ps. list_all is_name_piece (after_first ps)) (slice_split-cons_yes is_slash b s e)
+    ∙ all_name_pieces s (rw e at (h 0 (omega arith))) (later_pieces_are_names s later))
+    (λ e. ap (λ ps. list_all is_name_piece (after_first ps)) (slice_split-cons_no is_slash b s e)
+    ∙ ap (list_all is_name_piece) (after_first-onto b (slice_split is_slash s))
+    ∙ later_pieces_are_names s later)
+
+-- if a name starts at index 0 and after each slash, all pieces are names
+pub only_name_pieces : (s : List ℕ) → name_starts_at s 0 ≡ true
+    → ((k : ℕ) → k < length s → name_follows_slash_at s k ≡ true) → has_only_name_pieces s ≡ true
+only_name_pieces s h k = all_name_pieces s h (later_pieces_are_names s k)
+
+-- a slash that does not end a run of names has a name after it
+pub name_follows_unless_stop : (s : List ℕ) (k : ℕ) → ends_name_run_of 47 46 s k ≡ false
+    → name_follows_slash_at s k ≡ true
+name_follows_unless_stop s k h = grind (
+  arith,
+  get_or_default s (k + 1) 0 47,
+  get_or_past s (k + 1) 0,
+  get_or_default s (k + 1 + 1) 0 47,
+  get_or_past s (k + 1 + 1) 0,
+)
+
+-- a path is one of names only if all its pieces are names, after the root if there is one
+pub names_only_without_root : (s : List ℕ) (n : ℕ) → n ≡ from_bool (is_rooted s)
+    → has_only_name_pieces (drop n s) ≡ true → is_names_only s ≡ true
+names_only_without_root s n e h =
+    by (is_rooted s) (subst (λ n. has_only_name_pieces (drop n s) ≡ true) e h)
+  where
+    by : (r : Bool) → has_only_name_pieces (drop (from_bool r) s) ≡ true
+        → has_only_name_pieces (cond r (drop 1 s) s) ≡ true
+    by true h = h
+    by false h = h

@@ -1,0 +1,86 @@
+-- The common prefix of two lists of components, and the relative path between the rests.
+use Rattle.std.proofs.Common.{◌≡◌, ℕ, ◌+◌, true, false, List, [], ◌∷◌, ◌++◌, length, take, drop}
+use Rattle.std.proofs.Common.{map, reverse, Option, Some, None, refl, arith}
+use Rattle.std.specs.List.{common_prefix_len, list_all, list_any}
+use Rattle.std.proofs.Math.Seq.{drop-append-add}
+use Rattle.std.proofs.lemmas.Grind.{common_steps, reverse_onto}
+use Rattle.std.proofs.lemmas.List.Folds.{list_all-append, list_any-append}
+use Rattle.unix_path.specs.Order.{same_value}
+use Rattle.unix_path.specs.Parts.{Value, ParentDir}
+use Rattle.unix_bytes.proofs.lemmas.lists.ListLemmas.{take-suc_cons}
+use Rattle.unix_path.proofs.lemmas.callers.CallerLemmas.{same_value-Decides}
+use Rattle.path_within.specs.Escapes.{is_name}
+use Rattle.path_within.specs.RelativePaths.{is_root, steps_between}
+
+-- the length of the common prefix of two lists
+abbrev pub shared_count : List Value → List Value → ℕ
+shared_count v w = common_prefix_len same_value v w
+
+-- the relative path from one list to another, both without their common prefix
+abbrev pub steps_from : List Value → List Value → Option (List Value)
+steps_from v w = let n = shared_count v w in steps_between (drop n v) (drop n w)
+
+-- `..` once for each component
+abbrev pub parent_dirs_for : List Value → List Value
+parent_dirs_for vs = map (λ v. ParentDir) vs
+
+-- the first `shared_count` components of two lists are the same
+pub take-shared : (v w : List Value) → take (shared_count v w) v ≡ take (shared_count v w) w
+take-shared [] w = grind (arith, common_steps)
+take-shared (x ∷ v) [] = refl
+take-shared (x ∷ v) (y ∷ w) = let n = shared_count v w in grind (
+  arith,
+  take-shared v w,
+  take-suc_cons n x v,
+  take-suc_cons n y w,
+  same_value-Decides x y,
+)
+
+-- a prefix that is put before two lists adds its length to the number of components they share
+pub shared_count-behind : (f x y : List Value)
+    → shared_count (f ++ x) (f ++ y) ≡ length f + shared_count x y
+shared_count-behind [] x y = grind arith
+shared_count-behind (z ∷ f) x y =
+    let same = (same_value-Decides z z).1 refl in rw same (grind (arith, shared_count-behind f x y))
+
+-- the order makes no difference to whether a root is among components
+pub list_any-reverse : (vs : List Value) → list_any is_root (reverse vs) ≡ list_any is_root vs
+list_any-reverse [] = refl
+list_any-reverse (v ∷ vs) = grind (
+  arith,
+  reverse_onto vs v [],
+  list_any-append is_root (reverse vs) (v ∷ []),
+  list_any-reverse vs,
+)
+
+-- a suffix of names is names
+pub names_drop : (n : ℕ) (vs : List Value) → list_all is_name vs ≡ true
+    → list_all is_name (drop n vs) ≡ true
+names_drop n vs h = grind (arith, common_steps, list_all-append is_name (take n vs) (drop n vs))
+
+no_root_drop : (n : ℕ) (vs : List Value) → list_any is_root vs ≡ false
+    → list_any is_root (drop n vs) ≡ false
+no_root_drop n vs h = grind (arith, common_steps, list_any-append is_root (take n vs) (drop n vs))
+
+-- from names after f there is a relative path to components without a root after f
+pub some_steps : (f x y : List Value) → list_all is_name x ≡ true → list_any is_root y ≡ false
+    → steps_from (f ++ x) (f ++ y) ≡ None → ⊥
+some_steps f x y h k none =
+    let m = shared_count x y in
+    let names = names_drop m x h in
+    let no_root = no_root_drop m y k in
+    let n = shared_count-behind f x y in
+    let some : Some (parent_dirs_for (drop m x) ++ drop m y) ≡ None =
+    rw (n, drop-append-add f x m, drop-append-add f y m, names, no_root) at none in cc
+
+-- `steps` is the relative path from v to w: v has only names, and w no root
+pub record AreSteps (v w steps : List Value) : Type 0 where
+  pub names : list_all is_name v ≡ true
+  pub no_root : list_any is_root w ≡ false
+  pub steps_are : parent_dirs_for v ++ w ≡ steps
+
+-- if there is a relative path, it leads from names to components without a root
+pub steps_between-is : (v w steps : List Value) → steps_between v w ≡ Some steps
+    → AreSteps v w steps
+steps_between-is v w steps e =
+    record { names = grind (arith, e); no_root = grind (arith, e); steps_are = grind (arith, e) }

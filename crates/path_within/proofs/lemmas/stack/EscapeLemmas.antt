@@ -1,0 +1,129 @@
+-- Components that escape, determined by a depth that is counted from the first component on, and
+-- the stack of components that do not escape.
+use Rattle.std.proofs.Common.{◌≡◌, ℕ, suc, zero, ◌+◌, ◌-◌, ◌<◌, Bool, true, false, cond, List, []}
+use Rattle.std.proofs.Common.{◌∷◌, ◌++◌, length, take, refl, sym, ap, ◌∙◌, arith, inl, inr, ⊎_elim}
+use Rattle.std.proofs.Common.{◌↔◌}
+use Rattle.std.specs.List.{AllByRecursion, count_by}
+use Rattle.std.proofs.lemmas.Bool.{false_from_ne_true}
+use Rattle.std.proofs.lemmas.List.Sums.{sum_by-cons}
+use Rattle.unix_path.specs.Parts.{Value, RootDir, CurDir, ParentDir, Normal, is_rooted, values}
+use Rattle.unix_bytes.proofs.lemmas.lists.ListLemmas.{by_test}
+use Rattle.unix_path.specs.Prefixes.{IsPrefixOf}
+use Rattle.unix_path.proofs.lemmas.parts.PartLemmas.{root_first, root_first-values}
+use Rattle.unix_path.proofs.lemmas.rests.RootLemmas.{NoRoot, rooted-IsPrefixOf}
+use Rattle.path_runs.proofs.lemmas.joins.LeadLemmas.{IsInner, inner-behind}
+use Rattle.path_within.specs.Resolved.{AllNames, resolve_onto}
+use Rattle.path_within.specs.Escapes.{Escapes, is_name, is_parent_dir}
+
+-- after n names, these components have a root, or some `..` finds no name to drop
+abbrev pub escapes_from : ℕ → List Value → Bool
+escapes_from n [] = false
+escapes_from n (RootDir ∷ vs) = true
+escapes_from n (CurDir ∷ vs) = escapes_from n vs
+escapes_from zero (ParentDir ∷ vs) = true
+escapes_from (suc n) (ParentDir ∷ vs) = escapes_from n vs
+escapes_from n (Normal name ∷ vs) = escapes_from (suc n) vs
+
+-- some prefix has more `..` than n plus the number of its names
+abbrev pub GoesAboveFrom : ℕ → List Value → Type 0
+GoesAboveFrom n vs =
+    (k : ℕ) × (n + count_by is_name (take k vs) < count_by is_parent_dir (take k vs))
+
+-- a first component that passes adds one to the count
+count_by-cons : (p : Value → Bool) (v : Value) (vs : List Value)
+    → count_by p (v ∷ vs) ≡ cond (p v) 1 0 + count_by p vs
+count_by-cons p v vs = sum_by-cons (λ v. cond (p v) 1 0) v vs
+
+-- if v moves the depth from n to m, components that go above from m go above from n with v before
+-- them
+one_more : (n m : ℕ) (v : Value) (vs : List Value)
+    → n + cond (is_name v) 1 0 ≡ m + cond (is_parent_dir v) 1 0
+    → GoesAboveFrom m vs → GoesAboveFrom n (v ∷ vs)
+one_more n m v vs e (k, h) =
+    let names = count_by-cons is_name v (take k vs) in
+    let parent_dirs = count_by-cons is_parent_dir v (take k vs) in (suc k, omega arith)
+
+-- for components without a root that escape by depth, some prefix has more `..`
+escapes_from-goes : (n : ℕ) (vs : List Value) → NoRoot vs → escapes_from n vs ≡ true
+    → GoesAboveFrom n vs
+escapes_from-goes n [] r e = absurd (let d : false ≡ true = e in cc)
+escapes_from-goes n (RootDir ∷ vs) r e = absurd r
+escapes_from-goes n (CurDir ∷ vs) r e =
+    one_more n n CurDir vs refl (escapes_from-goes n vs r e)
+escapes_from-goes n (Normal name ∷ vs) r e =
+    one_more n (suc n) (Normal name) vs (omega arith) (escapes_from-goes (suc n) vs r e)
+escapes_from-goes zero (ParentDir ∷ vs) r e =
+    (1, omega (arith, count_by-cons is_name ParentDir [], count_by-cons is_parent_dir ParentDir []))
+escapes_from-goes (suc n) (ParentDir ∷ vs) r e =
+    one_more (suc n) n ParentDir vs (omega arith) (escapes_from-goes n vs r e)
+
+-- components of which some prefix has more `..` escape by depth
+goes-escapes_from : (n k : ℕ) (vs : List Value)
+    → n + count_by is_name (take k vs) < count_by is_parent_dir (take k vs) → escapes_from n vs
+    ≡ true
+goes-escapes_from n zero vs h = absurd (omega arith)
+goes-escapes_from n (suc k) [] h = absurd (omega arith)
+goes-escapes_from n (suc k) (v ∷ vs) h = grind (
+  arith,
+  count_by-cons is_name v (take k vs),
+  count_by-cons is_parent_dir v (take k vs),
+  goes-escapes_from n k vs,
+  goes-escapes_from (suc n) k vs,
+  goes-escapes_from (n - 1) k vs,
+)
+
+-- no inner component is the root
+pub inner-no_roots : (vs : List Value) → AllByRecursion IsInner vs → NoRoot vs
+inner-no_roots [] h = tt
+inner-no_roots (RootDir ∷ vs) h = absurd h.0
+inner-no_roots (v ∷ vs) h = inner-no_roots vs h.1
+
+-- no component of a rootless path is the root
+pub rootless-no_roots : (s : List ℕ) → is_rooted s ≡ false → NoRoot (values s)
+rootless-no_roots s r = by (values s) refl
+  where
+    by : (vs : List Value) → values s ≡ vs → NoRoot vs
+    by [] e = tt
+    by (RootDir ∷ vs) e =
+        absurd (let no : true ≡ false = sym (ap root_first e) ∙ root_first-values s ∙ r in cc)
+    by (v ∷ vs) e = inner-no_roots vs (inner-behind s v vs e)
+
+-- a path escapes if and only if it escapes by depth, counted from 0
+pub escapes_by_depth : (s : List ℕ) → Escapes (values s) ↔ (escapes_from 0 (values s) ≡ true)
+escapes_by_depth s =
+    let root = rooted-IsPrefixOf s (is_rooted s) refl in (
+      λ h. ⊎_elim (λ r. begins (values s) r)
+          (λ a. goes-escapes_from 0 a.0 (values s) (omega (arith, a.1))) h,
+      λ e. by_test (is_rooted s) (λ r. inl (root.0 r))
+          (λ r. let found = escapes_from-goes 0 (values s) (rootless-no_roots s r) e in
+          inr (found.0, omega (arith, found.1))),
+    )
+  where
+    begins : (vs : List Value) → IsPrefixOf (RootDir ∷ []) vs → escapes_from 0 vs ≡ true
+    begins vs (ws, e) = ap (escapes_from 0) (sym e)
+
+-- a path that does not escape has no root
+pub rootless-stays : (b : List ℕ) → (Escapes (values b) → ⊥) → is_rooted b ≡ false
+rootless-stays b h =
+    false_from_ne_true (is_rooted b) (λ r. h (inl ((rooted-IsPrefixOf b (is_rooted b) refl).0 r)))
+
+-- the stack `all` is the stack ks with only names on top
+pub record Stays (ks all names : List Value) : Type 0 where
+  pub stack : all ≡ names ++ ks
+  pub are_names : AllNames names
+
+-- components that do not escape after the names ns leave the stack below ns unchanged
+stays : (ks ns vs : List Value) → AllNames ns → escapes_from (length ns) vs ≡ false
+    → Stays ks (resolve_onto (ns ++ ks) vs) (resolve_onto ns vs)
+stays ks ns [] h e = record { stack = refl; are_names = h }
+stays ks ns (CurDir ∷ vs) h e = stays ks ns vs h e
+stays ks ns (Normal name ∷ vs) h e = stays ks (Normal name ∷ ns) vs h e
+stays ks (Normal name ∷ ns) (ParentDir ∷ vs) h e = stays ks ns vs h e
+stays ks (n ∷ ns) (ParentDir ∷ vs) h e = absurd h
+stays ks ns (v ∷ vs) h e = absurd (let no : true ≡ false = e in cc)
+
+-- a path that does not escape leaves a stack unchanged, and adds only names on top
+pub keeps_stack : (ks : List Value) (b : List ℕ) → (Escapes (values b) → ⊥)
+    → Stays ks (resolve_onto ks (values b)) (resolve_onto [] (values b))
+keeps_stack ks b h = stays ks [] (values b) tt
+    (false_from_ne_true (escapes_from 0 (values b)) (λ e. h ((escapes_by_depth b).1 e)))

@@ -1,0 +1,95 @@
+-- The components of a resolved path, and of a resolved join.
+use Rattle.std.proofs.Common.{◌≡◌, ℕ, List, [], ◌∷◌, ◌++◌, true, reverse, refl, sym, ap, ◌∙◌, drop}
+use Rattle.std.proofs.Common.{subst, take, take-append-drop}
+use Rattle.unix_path.specs.Joins.{join_of}
+use Rattle.unix_path.specs.Parts.{Value, CurDir, is_rooted, values}
+use Rattle.unix_bytes.proofs.lemmas.lists.ListLemmas.{by_test}
+use Rattle.unix_path.proofs.lemmas.edits.JoinLemmas.{join_of_rooted}
+use Rattle.path_runs.specs.JoinLaws.{drop_dot, values_added}
+use Rattle.path_runs.specs.Spelling.{spelling_of}
+use Rattle.path_runs.proofs.lemmas.joins.LeadLemmas.{values-join_of_values_added}
+use Rattle.path_runs.proofs.lemmas.spelling.PieceValueLemmas.{is_rooted-slash, values-rooted}
+use Rattle.path_runs.proofs.lemmas.lists.AllLemmas.{AllByRecursion-end}
+use Rattle.path_within.specs.Resolved.{resolve_onto, resolved_of, resolved_bytes_of}
+use Rattle.path_within.specs.Steps.{ReadsAsItself, ValueReadsAsItself}
+use Rattle.path_within.proofs.lemmas.stack.StackLemmas.{IsStack-resolve_onto, resolve_onto-append}
+use Rattle.path_within.proofs.lemmas.stack.StackLemmas.{resolved_of-append, resolved_of-resolved_of}
+use Rattle.path_within.proofs.lemmas.stack.PathOfLemmas.{ReadsAsItself-resolve_onto}
+use Rattle.path_within.proofs.lemmas.stack.PathOfLemmas.{ReadsAsItself-values}
+use Rattle.path_within.proofs.lemmas.stack.PathOfLemmas.{path_of-spelled, values-path_of}
+
+-- the canonical form of resolved components has these components
+pub values-spelling_of_resolved : (vs : List Value) → ReadsAsItself vs
+    → values (spelling_of (resolved_of vs)) ≡ resolved_of vs
+unfolding resolved_of
+values-spelling_of_resolved vs h =
+    let ks = resolve_onto [] vs in
+    let stack = IsStack-resolve_onto [] vs tt in
+    let one = ReadsAsItself-resolve_onto [] vs tt h in
+    ap values (sym (path_of-spelled ks stack one)) ∙ values-path_of ks stack one
+
+-- a resolved path has the resolved components
+pub values-resolved : (s : List ℕ) → values (resolved_bytes_of s) ≡ resolved_of (values s)
+values-resolved s = values-spelling_of_resolved (values s) (ReadsAsItself-values s)
+
+-- resolving again changes nothing
+pub resolved_bytes_of-again : (s : List ℕ)
+    → resolved_bytes_of (resolved_bytes_of s) ≡ resolved_bytes_of s
+resolved_bytes_of-again s =
+    ap spelling_of (ap resolved_of (values-resolved s) ∙ resolved_of-resolved_of (values s))
+
+-- the bytes of each component in a suffix of a path's components are a path of only that component
+pub ReadsAsItself-drop : (n : ℕ) (s : List ℕ) → ReadsAsItself (drop n (values s))
+ReadsAsItself-drop n s = AllByRecursion-end ValueReadsAsItself (take n (values s)) _
+    (subst ReadsAsItself (sym (take-append-drop n (values s))) (ReadsAsItself-values s))
+
+-- the bytes of each component in a suffix of a path's resolved components are a path of only that
+-- component
+pub ReadsAsItself-resolved : (n : ℕ) (s : List ℕ) → ReadsAsItself (drop n (resolved_of (values s)))
+ReadsAsItself-resolved n s = subst (λ vs. ReadsAsItself (drop n vs)) (values-resolved s)
+    (ReadsAsItself-drop n (resolved_bytes_of s))
+
+-- a leading `.` changes nothing on the stack
+pub resolve_onto-drop_dot : (ks vs : List Value) → resolve_onto ks (drop_dot vs)
+    ≡ resolve_onto ks vs
+resolve_onto-drop_dot ks (CurDir ∷ vs) = refl
+resolve_onto-drop_dot ks vs = refl
+
+-- the components that b adds to a join change the stack in the same way as the components of b
+resolve_onto-added : (ks : List Value) (a b : List ℕ)
+    → resolve_onto ks (values_added a b) ≡ resolve_onto ks (values b)
+resolve_onto-added ks [] b = refl
+resolve_onto-added ks (x ∷ a) b = resolve_onto-drop_dot ks (values b)
+
+-- the components of a rooted path replace the stack
+pub resolve_onto-rooted : (ks : List Value) (b : List ℕ) → is_rooted b ≡ true
+    → resolve_onto [] (values b) ≡ resolve_onto ks (values b)
+resolve_onto-rooted ks b r =
+    let t = is_rooted-slash b r in
+    let lead = ap values t.1 ∙ values-rooted t.0 in
+    ap (resolve_onto []) lead ∙ sym (ap (resolve_onto ks) lead)
+
+-- the stack of a join is the stack of the first path after the components of the second
+pub resolve_onto-join : (a b : List ℕ)
+    → resolve_onto [] (values (join_of a b)) ≡ resolve_onto (resolve_onto [] (values a)) (values b)
+resolve_onto-join a b = by_test (is_rooted b)
+    (λ r. ap (λ s. resolve_onto [] (values s)) (join_of_rooted a b r)
+    ∙ resolve_onto-rooted (resolve_onto [] (values a)) b r)
+    (λ r. ap (resolve_onto []) (values-join_of_values_added a b r)
+    ∙ resolve_onto-append [] (values a) (values_added a b)
+    ∙ resolve_onto-added (resolve_onto [] (values a)) a b)
+
+-- the components of a join resolve as those of the first path and then those of the second
+pub resolved_of-both : (a b : List ℕ)
+    → resolved_of (values (join_of a b)) ≡ resolved_of (values a ++ values b)
+unfolding resolved_of
+resolved_of-both a b =
+    ap reverse (resolve_onto-join a b ∙ sym (resolve_onto-append [] (values a) (values b)))
+
+-- resolving the first path of a join beforehand does not change what the join resolves to
+pub resolved_of-join : (a b : List ℕ)
+    → resolved_bytes_of (join_of a b) ≡ resolved_bytes_of (join_of (resolved_bytes_of a) b)
+resolved_of-join a b = ap spelling_of (resolved_of-both a b
+    ∙ sym (resolved_of-both (resolved_bytes_of a) b
+    ∙ ap (λ vs. resolved_of (vs ++ values b)) (values-resolved a)
+    ∙ resolved_of-append (values a) (values b)))

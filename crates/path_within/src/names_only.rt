@@ -1,0 +1,31 @@
+//! Paths of names only: their bytes are a root, if they have one, and then names with one slash
+//! between two of them.
+ghost use Rattle.std.specs.Prelude.{◌≡◌, true, IsTrue};
+ghost use Rattle.path_within.specs.NamePieces.{name_starts_at, is_names_only};
+
+use unix_path::Path;
+use unix_path::filler::is_filler;
+use unix_path::first_component::starts_with_parent_dir;
+use unix_path::name_run_ends::has_no_name_run_end;
+
+// Returns true if the piece that begins at `at` is a name: neither empty, nor `.`, nor `..`.
+#[inline]
+pub(crate) fn name_starts_at(bytes: &[u8], at: usize) -> bool
+    ensures { result ≡ name_starts_at bytes.now at }
+{
+    at < bytes.len() && !is_filler(bytes, at) && !starts_with_parent_dir(&bytes[at..])
+}
+
+// Returns true only if the path is one of names only. Returns false even for such a path if its
+// last byte is a dot. The first piece and the last byte are read first, because they rule out most
+// paths that escape.
+#[inline(always)]
+pub(crate) fn is_names_only(path: Path<'_>) -> bool
+    ensures { IsTrue result → is_names_only path.entry.bytes.now ≡ true }
+{
+    let bytes = &path.bytes[usize::from(path.has_root())..];
+    if !name_starts_at(bytes, 0) || matches!(bytes.last(), Some(b'/' | b'.')) {
+        return false;
+    }
+    has_no_name_run_end(bytes, b'/', b'.')
+}

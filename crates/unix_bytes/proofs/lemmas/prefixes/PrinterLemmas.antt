@@ -1,0 +1,120 @@
+-- Lossy forms, written one buffer at a time.
+use Rattle.std.proofs.Common.{◌≡◌, ℕ, ◌+◌, ◌<◌, ◌≤◌, List, [], ◌∷◌, ◌++◌, length, take, drop, refl}
+use Rattle.std.proofs.Common.{sym, ap, ◌∙◌, subst, arith, append_assoc, append-nil}
+use Rattle.std.proofs.Common.{take-append-drop}
+use Rattle.std.proofs.Common.{length-take-le, ⊎_elim, slice_index, slice_set}
+use Rattle.std.proofs.lemmas.List.{drop-drop, take-take, take_more_set, nil_from_length}
+use Rattle.std.proofs.lemmas.Str.Ascii.{IsAscii-more, IsAscii-nil}
+use Rattle.std.specs.Str.{IsUtf8}
+use Rattle.std.proofs.Math.Seq.{take-append-add}
+use Rattle.unix_bytes.specs.Utf8.{is_sequence, IsText}
+use Rattle.unix_bytes.specs.Lossy.{lossy_of, replacement}
+use Rattle.unix_bytes.specs.Steps.{longest_len, longest_front_of, broken_len}
+use Rattle.unix_bytes.specs.Printer.{Shows}
+use Rattle.unix_bytes.proofs.lemmas.sequences.SequenceLemmas.{sequence_len}
+use Rattle.unix_bytes.proofs.lemmas.sequences.LongestLemmas.{longest_len-longest}
+use Rattle.unix_bytes.proofs.lemmas.text.TextLemmas.{IsText-append, IsText-sequence, IsText-nil}
+use Rattle.unix_bytes.proofs.lemmas.text.TextLemmas.{IsUtf8-from_IsText}
+use Rattle.unix_bytes.proofs.lemmas.lossy.LossyLemmas.{lossy_of-append, lossy_of-none, lossy_of-nil}
+use Rattle.unix_bytes.proofs.lemmas.lossy.BrokenLemmas.{broken_len-empty, no_sequence_first}
+use Rattle.unix_bytes.proofs.lemmas.lossy.BrokenLemmas.{broken_len-none}
+use Rattle.unix_bytes.proofs.lemmas.lossy.BrokenLemmas.{broken_len_within}
+use Rattle.unix_bytes.proofs.lemmas.prefixes.TextPrefixLemmas.{ascii_is_text, sequence_within}
+use Rattle.unix_bytes.proofs.lemmas.lossy.LawLemmas.{replacement_is_sequence}
+
+-- valid UTF-8 is written unchanged
+pub shows_text : (s before : List ℕ) (n : ℕ) (after : List ℕ) → IsText (take n s)
+    → after ≡ before ++ take n s → Shows s before n after
+shows_text s before n after h e = record {
+  lossy =
+      ap (λ t. t ++ lossy_of (drop n s)) e ∙ append_assoc before (take n s) (lossy_of (drop n s))
+      ∙ ap (λ t. before ++ t) (sym (lossy_of-append (take n s) (drop n s) h)
+      ∙ ap lossy_of (take-append-drop n s));
+  text = λ k. subst IsText (sym e) (IsText-append before (take n s) k h);
+}
+
+-- U+FFFD is written for an invalid front
+pub shows_broken : (s before : List ℕ) (n : ℕ) (after : List ℕ) → (0 < n) × (n ≡ broken_len s)
+    → after ≡ before ++ replacement → Shows s before n after
+shows_broken [] before n after (some, is) e = absurd (omega (arith, broken_len-empty [] refl))
+shows_broken (b ∷ bs) before n after (some, is) e =
+    let s = b ∷ bs in
+    let none : longest_len is_sequence s ≡ 0 = no_sequence_first s (omega arith) in
+    let len : length (longest_front_of s) ≡ n = sym (is ∙ broken_len-none s none) in
+    record {
+      lossy =
+          ap (λ t. t ++ lossy_of (drop n s)) e
+          ∙ append_assoc before replacement (lossy_of (drop n s))
+          ∙ ap (λ t. before ++ t) (ap (λ k. replacement ++ lossy_of (drop k s)) (sym len)
+          ∙ sym (lossy_of-none b bs none));
+      text = λ k. subst IsText (sym e)
+          (IsText-append before replacement k
+          (IsText-sequence replacement replacement_is_sequence));
+    }
+
+-- if `Shows` holds for the first n bytes, and then for the next k, it holds for the first n + k
+pub shows_more : (s t before middle after : List ℕ) (n k : ℕ) → t ≡ drop n s
+    → Shows s before n middle → Shows t middle k after → Shows s before (n + k) after
+shows_more s t before middle after n k e p q = record {
+  lossy =
+      ap (λ u. after ++ lossy_of u) (sym (drop-drop k n s) ∙ ap (drop k) (sym e)) ∙ q.lossy
+      ∙ ap (λ u. middle ++ lossy_of u) e ∙ p.lossy;
+  text = λ h. q.text (p.text h);
+}
+
+-- items, then a buffer, then the lossy form of the bytes not read yet are the items and then the
+-- lossy form of all bytes
+pub pushes_buffer : (items buffer s t : List ℕ) (n : ℕ) → t ≡ drop n s → Shows s [] n buffer
+    → (items ++ buffer) ++ lossy_of t ≡ items ++ lossy_of s
+pushes_buffer items buffer s t n e p =
+    append_assoc items buffer (lossy_of t)
+    ∙ ap (λ u. items ++ u) (ap (λ u. buffer ++ lossy_of u) e ∙ p.lossy)
+
+-- a buffer that contains only a lossy form is UTF-8
+pub buffer_is_utf8 : (s buffer : List ℕ) (n : ℕ) → Shows s [] n buffer → IsUtf8 buffer
+buffer_is_utf8 s buffer n p = IsUtf8-from_IsText buffer (p.text IsText-nil)
+
+-- if no bytes remain to be read, what was written is the whole
+pub writes_whole : (items s whole : List ℕ) → length s ≡ 0 → items ++ lossy_of s ≡ whole
+    → items ≡ whole
+writes_whole items s whole z e =
+    sym (append-nil items)
+    ∙ ap (λ u. items ++ u) (sym (ap lossy_of (nil_from_length s z) ∙ lossy_of-nil)) ∙ e
+
+-- if no bytes remain to be read after the last buffer, what was written with this buffer is the
+-- whole
+pub writes_last : (items buffer s t whole : List ℕ) (n : ℕ) → t ≡ drop n s → length t ≡ 0
+    → Shows s [] n buffer → items ++ lossy_of s ≡ whole → items ++ buffer ≡ whole
+writes_last items buffer s t whole n cut z p e =
+    writes_whole (items ++ buffer) t whole z (pushes_buffer items buffer s t n cut p ∙ e)
+
+-- if the first n bytes of s were written at an index, so were the first k
+pub takes_fewer : (out old s : List ℕ) (at n k : ℕ) → k ≤ n → at ≤ length old
+    → take (at + n) out ≡ take at old ++ take n s → take (at + k) out ≡ take at old ++ take k s
+takes_fewer out old s at n k few within e =
+    let long : length (take at old) ≡ at = length-take-le at old within in
+    sym (take-take (at + k) (at + n) out (omega arith)) ∙ ap (take (at + k)) e
+    ∙ ap (λ j. take (j + k) (take at old ++ take n s)) (sym long)
+    ∙ take-append-add (take at old) (take n s) k
+    ∙ ap (λ t. take at old ++ t) (take-take k n s few)
+
+-- one byte that was written at an index comes after the bytes before the index
+pub takes_one : (out s : List ℕ) (at : ℕ) → 0 < length s → at < length out
+    → take (at + 1) (slice_set out at (slice_index s 0)) ≡ take at out ++ take 1 s
+takes_one out [] at some within = absurd (omega arith)
+takes_one out (b ∷ bs) at some within = take_more_set out at b within
+
+-- one byte of ASCII is valid UTF-8
+pub first_is_text : (s : List ℕ) → 0 < length s → slice_index s 0 < 0x80 → IsText (take 1 s)
+first_is_text s some h = ascii_is_text (take 1 s) (IsAscii-more s 0 some IsAscii-nil h)
+
+-- the longest prefix that is a sequence has at most four bytes
+pub sequence_is_short : (s : List ℕ) → longest_len is_sequence s ≤ 4
+sequence_is_short s =
+    ⊎_elim (λ z. omega arith)
+    (λ h. let few = sequence_len (take (longest_len is_sequence s) s) h in
+    omega (arith, length-take-le (longest_len is_sequence s) s (sequence_within s)))
+    (longest_len-longest is_sequence s).passes
+
+-- a sequence has at most four bytes, and an invalid front is no longer than the bytes
+pub ruleset front_bounds = (sequence_is_short, broken_len_within)

@@ -1,0 +1,154 @@
+-- The lossy form, built from the first chunk and the lossy form of the rest.
+use Rattle.std.proofs.Common.{◌≡◌, ℕ, ◌+◌, ◌<◌, ◌≤◌, List, [], ◌∷◌, ◌++◌, length, take, drop, refl}
+use Rattle.std.proofs.Common.{sym, ap, ◌∙◌, subst, arith, eqb, false, append_assoc, length-drop}
+use Rattle.std.proofs.Common.{length-take-le, eq-eqb, if◌then◌else◌}
+use Rattle.std.specs.Str.{IsUtf8}
+use Rattle.std.proofs.lemmas.Bool.{ne_eqb, cond-true, cond-false, true≢false}
+use Rattle.std.proofs.lemmas.List.{nil_from_length, take_all, drop_all, take-take}
+use Rattle.std.proofs.Math.Seq.{take-append-add}
+use Rattle.std.proofs.lemmas.Str.{IsUtf8-append, IsUtf8-nil}
+use Rattle.unix_bytes.specs.Utf8.{IsText}
+use Rattle.unix_bytes.specs.Lossy.{is_text, lossy_of, replacement}
+use Rattle.unix_bytes.specs.Chunks.{Chunk, chunks_of, shown_chunk, replacement_for}
+use Rattle.unix_bytes.specs.Steps.{longest_len, broken_len, chunk_len, Splits}
+use Rattle.unix_bytes.proofs.lemmas.text.TextLemmas.{IsUtf8-sequence, IsUtf8-from_IsText}
+use Rattle.unix_bytes.proofs.lemmas.text.TextLemmas.{IsText-nil}
+use Rattle.unix_bytes.proofs.lemmas.lossy.BrokenLemmas.{broken_len_within}
+use Rattle.unix_bytes.proofs.lemmas.prefixes.TextPrefixLemmas.{text_within}
+use Rattle.unix_bytes.proofs.lemmas.lossy.LossyLemmas.{is_text-from_IsText, is_text-not}
+use Rattle.unix_bytes.proofs.lemmas.chunks.ChunkLemmas.{chunk_some, flat_map-shown_chunk}
+use Rattle.unix_bytes.proofs.lemmas.chunks.SplitLemmas.{splits_first_chunk}
+use Rattle.unix_bytes.proofs.lemmas.lossy.LawLemmas.{replacement_is_sequence, lossy_is_text}
+use Rattle.unix_bytes.proofs.lemmas.chunks.OnlyLemmas.{first_chunk_is, only_chunk, only_text}
+use Rattle.unix_bytes.proofs.lemmas.chunks.OnlyLemmas.{lossy_of-first_chunk, text_has_none_broken}
+
+-- the rest after the first chunk is shorter than the bytes
+pub rest_is_shorter : {s valid broken rest : List ℕ} → eqb (length s) 0 ≡ false
+    → Splits s valid broken rest → length rest < length s
+rest_is_shorter {s = []} some p = absurd (true≢false some)
+rest_is_shorter {s = x ∷ xs} {valid} {broken} {rest} some p =
+    let s = x ∷ xs in
+    let n = longest_len is_text s in
+    let k = broken_len (drop n s) in
+    let c : Chunk = record { valid = valid; broken = broken } in
+    let e = ap chunk_len (first_chunk_is s c (chunks_of rest)
+    (splits_first_chunk (omega arith) p)) in
+    let l = broken_len_within (drop n s) in
+    omega (
+      arith,
+      e,
+      chunk_some x xs,
+      ap length p.text,
+      ap length p.front,
+      ap length p.after,
+      length-take-le n s (text_within s),
+      length-take-le k (drop n s) l,
+      length-drop n s,
+      length-drop k (drop n s),
+    )
+
+-- if the invalid front is empty, the valid prefix is the whole byte string, which is valid UTF-8
+pub all_is_text : {s valid broken rest : List ℕ} → Splits s valid broken rest
+    → length broken ≡ 0 → (valid ≡ s) × IsText s
+all_is_text {s = []} p none =
+    (p.text ∙ take_all (longest_len is_text []) [] (omega arith), IsText-nil)
+all_is_text {s = x ∷ xs} {valid} {broken} {rest} p none =
+    let s = x ∷ xs in
+    let c : Chunk = record { valid = valid; broken = broken } in
+    let e = splits_first_chunk (omega arith) p in
+    let z = nil_from_length broken none in
+    (only_chunk s c (chunks_of rest) e z, only_text s c (chunks_of rest) e z)
+
+-- the invalid front that is split off valid UTF-8 is empty
+pub none_is_broken : {s valid broken rest : List ℕ} → Splits s valid broken rest
+    → IsText s → length broken ≡ 0
+none_is_broken {s = []} p t =
+    let n = longest_len is_text [] in
+    let k = broken_len (drop n []) in
+    let l = broken_len_within (drop n []) in
+    omega (arith, ap length p.front, length-take-le k (drop n []) l, length-drop {A = ℕ} n [])
+none_is_broken {s = x ∷ xs} {valid} {broken} {rest} p t =
+    let s = x ∷ xs in
+    let c : Chunk = record { valid = valid; broken = broken } in
+    ap length
+    (text_has_none_broken s c (chunks_of rest) (splits_first_chunk (omega arith) p) t)
+
+-- if the invalid front is not empty, the whole byte string is not valid UTF-8
+pub not_text : {s valid broken rest : List ℕ} → Splits s valid broken rest
+    → eqb (length broken) 0 ≡ false → IsText s → ⊥
+not_text {broken = broken} p some t =
+    true≢false (sym (eq-eqb (length broken) 0 (none_is_broken p t)) ∙ some)
+
+-- the first chunk as it is shown, and the lossy form of the rest, are the lossy form
+pub lossy_of-split : {s valid broken rest : List ℕ} → Splits s valid broken rest
+    → (valid ++ replacement_for broken) ++ lossy_of rest ≡ lossy_of s
+lossy_of-split {s = []} {valid} {broken} {rest} p =
+    let none = nil_from_length broken (none_is_broken p IsText-nil) in
+    let n = longest_len is_text [] in
+    let k = broken_len (drop n []) in
+    let no_rest : rest ≡ [] =
+    p.after ∙ drop_all k (drop n []) (omega (arith, length-drop {A = ℕ} n [])) in
+    let no_text : valid ≡ [] = p.text ∙ take_all n [] (omega arith) in
+    rw (no_text, none, no_rest) refl
+lossy_of-split {s = x ∷ xs} {valid} {broken} {rest} p =
+    let s = x ∷ xs in
+    let c : Chunk = record { valid = valid; broken = broken } in
+    ap (λ t. shown_chunk c ++ t) (sym (flat_map-shown_chunk rest))
+    ∙ lossy_of-first_chunk s c (chunks_of rest) (splits_first_chunk (omega arith) p)
+
+-- bytes without an invalid front are padded like a `str`
+pub pads_text : (pad : List ℕ → List ℕ) {s valid broken rest : List ℕ}
+    → Splits s valid broken rest → length broken ≡ 0
+    → pad valid ≡ (if is_text s then pad s else lossy_of s)
+pads_text pad {s} p none =
+    let (all, text) = all_is_text p none in
+    ap pad all ∙ sym (cond-true _ _ _ (is_text-from_IsText s text))
+
+-- bytes with an invalid front are shown in lossy form without padding
+pub shows_lossy_text : (pad : List ℕ → List ℕ) {s valid broken rest : List ℕ}
+    → Splits s valid broken rest → eqb (length broken) 0 ≡ false
+    → lossy_of s ≡ (if is_text s then pad s else lossy_of s)
+shows_lossy_text pad {s} {valid} {broken} p some =
+    sym (cond-false _ _ _ (is_text-not s (not_text p some)))
+
+-- items, then the first chunk as it is shown, then the lossy form of the rest are the items and
+-- then the lossy form of all bytes
+pub pushes_split : (items : List ℕ) {s valid broken rest : List ℕ} → Splits s valid broken rest
+    → ((items ++ take (length valid) s) ++ replacement_for broken) ++ lossy_of rest
+    ≡ items ++ lossy_of s
+pushes_split items {s} {valid} {broken} {rest} p =
+    let n = longest_len is_text s in
+    let text : take (length valid) s ≡ valid =
+    ap (λ k. take k s) (ap length p.text ∙ length-take-le n s (text_within s)) ∙ sym p.text in
+    let mark = replacement_for broken in
+    ap (λ t. ((items ++ t) ++ mark) ++ lossy_of rest) text
+    ∙ ap (λ t. t ++ lossy_of rest) (append_assoc items valid mark)
+    ∙ append_assoc items (valid ++ mark) (lossy_of rest)
+    ∙ ap (λ t. items ++ t) (lossy_of-split p)
+
+-- U+FFFD is UTF-8
+replacement_is_utf8 : IsUtf8 replacement
+replacement_is_utf8 = IsUtf8-sequence replacement replacement_is_sequence
+
+-- what is shown for an invalid front is UTF-8
+replacement_for_is_utf8 : (broken : List ℕ) → IsUtf8 (replacement_for broken)
+replacement_for_is_utf8 [] = IsUtf8-nil
+replacement_for_is_utf8 (b ∷ bs) =
+    let some = ne_eqb (length (b ∷ bs)) 0 (omega arith) in
+    subst IsUtf8 (sym (cond-false _ _ _ some)) replacement_is_utf8
+
+-- UTF-8, what is shown for an invalid front, and a lossy form are UTF-8 together
+pub lossy_is_utf8 : (text broken rest : List ℕ) → IsUtf8 text
+    → IsUtf8 ((text ++ replacement_for broken) ++ lossy_of rest)
+lossy_is_utf8 text broken rest h =
+    IsUtf8-append (text ++ replacement_for broken) (lossy_of rest)
+    (IsUtf8-append text (replacement_for broken) h (replacement_for_is_utf8 broken))
+    (IsUtf8-from_IsText (lossy_of rest) (lossy_is_text rest))
+
+-- if the first 16 bytes are appended, and then all except n of them are removed, the first n remain
+-- appended
+pub first_of_sixteen : (items s : List ℕ) (k n : ℕ) → k ≡ length items → n ≤ 16
+    → take (k + n) (items ++ take 16 s) ≡ items ++ take n s
+first_of_sixteen items s k n e few =
+    ap (λ j. take (j + n) (items ++ take 16 s)) e ∙ take-append-add items (take 16 s) n
+    ∙ ap (λ t. items ++ t) (take-take n 16 s few)

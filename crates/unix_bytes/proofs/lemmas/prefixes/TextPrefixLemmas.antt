@@ -1,0 +1,205 @@
+-- The valid prefix, extended one run at a time.
+use Rattle.std.proofs.Common.{◌≡◌, ℕ, ◌+◌, ◌-◌, ◌<◌, ◌≤◌, List, ◌++◌, length, take, drop}
+use Rattle.std.proofs.Common.{slice_index, get_or-drop, ⊎_elim, inr, sym, ap, ◌∙◌, subst}
+use Rattle.std.proofs.Common.{eqb, true, le_refl, arith, length-drop}
+use Rattle.std.proofs.lemmas.Bool.{eqb-true, false_from_ne_true}
+use Rattle.std.specs.Str.{IsAscii, IsUtf8}
+use Rattle.std.proofs.lemmas.List.{take_all, take_rest, drop-drop}
+use Rattle.std.proofs.lemmas.Str.{IsUtf8-from_ascii}
+use Rattle.std.proofs.Math.Seq.{take-add}
+use Rattle.unix_bytes.specs.Utf8.{is_sequence, IsSequence, IsText}
+use Rattle.unix_bytes.specs.Lossy.{is_text}
+use Rattle.unix_bytes.specs.Steps.{longest_len, broken_len}
+use Rattle.unix_bytes.proofs.lemmas.text.TextLemmas.{IsUtf8-from_IsText, IsText-from_IsUtf8}
+use Rattle.unix_bytes.proofs.lemmas.text.TextLemmas.{IsText-nil}
+use Rattle.unix_bytes.proofs.lemmas.text.TextLemmas.{IsText-append, IsText-sequence}
+use Rattle.unix_bytes.proofs.lemmas.sequences.SequenceLemmas.{IsSequence-two}
+use Rattle.unix_bytes.proofs.lemmas.sequences.HasBegunLemmas.{take-two, first_of_drop}
+use Rattle.unix_bytes.proofs.lemmas.sequences.LongestLemmas.{longest_len-is, longest_len-longest}
+use Rattle.unix_bytes.proofs.lemmas.lossy.LossyLemmas.{is_text-from_IsText, IsText-from_is_text}
+use Rattle.unix_bytes.proofs.lemmas.lossy.LossyLemmas.{text_rest}
+use Rattle.unix_bytes.proofs.lemmas.lossy.LossyLemmas.{no_text}
+use Rattle.unix_bytes.proofs.lemmas.lossy.BrokenLemmas.{broken_len_within, broken_len-empty}
+use Rattle.unix_bytes.proofs.lemmas.lossy.BrokenLemmas.{no_sequence_first}
+use Rattle.unix_bytes.proofs.lemmas.chunks.ChunkLemmas.{whole_text, text_prefix}
+
+-- ASCII is valid UTF-8
+pub ascii_is_text : (s : List ℕ) → IsAscii s → IsText s
+ascii_is_text s h = IsText-from_IsUtf8 s (IsUtf8-from_ascii s h)
+
+-- the first 0 bytes are valid UTF-8
+pub none_is_text : (s : List ℕ) → IsText (take 0 s)
+none_is_text s = IsText-nil
+
+-- a sequence at the beginning is valid UTF-8
+pub sequence_is_text : (s : List ℕ) (n : ℕ) → 0 < n → n ≡ longest_len is_sequence s
+    → IsText (take n s)
+sequence_is_text s n some e =
+    subst (λ j. IsText (take j s)) (sym e)
+    (IsText-sequence _ (⊎_elim (λ z. absurd (omega arith)) (λ t. t)
+    (longest_len-longest is_sequence s).passes))
+
+-- a sequence at the beginning is within the bytes
+pub sequence_within : (s : List ℕ) → longest_len is_sequence s ≤ length s
+sequence_within s = (longest_len-longest is_sequence s).within
+
+-- if the bytes before i and the next n are valid UTF-8, so are the bytes before i + n
+pub more_text : (s : List ℕ) (i n : ℕ) → IsText (take i s) → IsText (take n (drop i s))
+    → IsText (take (i + n) s)
+more_text s i n before here =
+    subst IsText (sym (take-add i n s)) (IsText-append (take i s) (take n (drop i s)) before here)
+
+-- if the bytes before i are valid UTF-8, and the two bytes at i are a sequence, the bytes before
+-- i + 2 are valid UTF-8
+pub pair_at : (s : List ℕ) (i : ℕ) → i + 2 ≤ length s
+    → (0xC2 ≤ slice_index s i) × (slice_index s i ≤ 0xDF)
+    → (0x80 ≤ slice_index s (i + 1)) × (slice_index s (i + 1) ≤ 0xBF)
+    → IsText (take i s) → IsText (take (i + 2) s)
+pair_at s i l lead tail before =
+    let r = drop i s in
+    let second : slice_index r 1 ≡ slice_index s (i + 1) = get_or-drop i s 1 0 in
+    let pair = IsSequence-two (slice_index r 0) (slice_index r 1)
+    (rw (first_of_drop i s, second) (lead.0, lead.1, tail.0, tail.1)) in
+    let two = take-two r (omega (arith, length-drop i s)) in
+    more_text s i 2 before (IsText-sequence (take 2 r) (subst IsSequence (sym two) pair))
+
+-- if all bytes are valid UTF-8, they are the longest valid prefix
+pub text_to_end : (s : List ℕ) (i : ℕ) → length s ≤ i → i ≤ length s → IsText (take i s)
+    → i ≡ longest_len is_text s
+text_to_end s i ge le h =
+    sym (longest_len-is is_text s i le (inr (is_text-from_IsText (take i s) h))
+    (λ k p q. absurd (omega arith)))
+
+-- valid UTF-8 that no sequence follows is the longest valid prefix
+text_until : (s : List ℕ) (i : ℕ) → i ≤ length s → IsText (take i s)
+    → longest_len is_sequence (drop i s) ≡ 0 → i ≡ longest_len is_text s
+text_until s i le h z =
+    sym (longest_len-is is_text s i le (inr (is_text-from_IsText (take i s) h))
+    (λ k p q. false_from_ne_true (is_text (take k s))
+    (λ t. by k p q (IsText-from_is_text (take k s) t))))
+  where
+    by : (k : ℕ) → i < k → k ≤ length s → IsText (take k s) → ⊥
+    by k more within t =
+        let j = k - i in
+        let split : i + j ≡ k = omega arith in
+        let cut : take k s ≡ take i s ++ take j (drop i s) =
+        ap (λ n. take n s) (sym split) ∙ take-add i j s in
+        no_text (drop i s) j
+        (text_rest (take i s) (take j (drop i s)) h (subst IsText cut t))
+        (omega arith) (omega (arith, length-drop i s)) z
+
+-- the bytes of s before index i are valid UTF-8, and r is the rest of s
+module _ (s r : List ℕ) (i : ℕ) (rest : r ≡ drop i s) (before : IsText (take i s)) where
+  pub after_text : (n : ℕ) → i ≤ length s → n ≤ length r → IsText (take n r)
+      → (i + n ≤ length s) × IsText (take (i + n) s)
+  after_text n le bound here = (
+    omega (arith, bound, ap length rest, length-drop i s),
+    more_text s i n before (subst (λ t. IsText (take n t)) rest here),
+  )
+
+  pub after_ascii : (n : ℕ) → i ≤ length s → n ≤ length r → IsAscii (take n r)
+      → (i + n ≤ length s) × IsText (take (i + n) s)
+  after_ascii n le bound here = after_text n le bound (ascii_is_text (take n r) here)
+
+  pub after_sequence : (n : ℕ) → i ≤ length s → (0 < n) × (n ≡ longest_len is_sequence r)
+      → (i + n ≤ length s) × IsText (take (i + n) s)
+  after_sequence n le (some, is) =
+      after_text n le (omega (arith, is, sequence_within r)) (sequence_is_text r n some is)
+
+  -- an invalid front after valid UTF-8 ends the longest valid prefix
+  pub text_before_broken : (n : ℕ) → i ≤ length s → (0 < n) × (n ≡ broken_len r)
+      → i ≡ longest_len is_text s
+  text_before_broken n le (some, is) =
+      text_until s i le before
+      (subst (λ t. longest_len is_sequence t ≡ 0) rest (no_sequence_first r (omega arith)))
+
+-- the index in s at which its suffix r begins
+abbrev pub place_of : List ℕ → List ℕ → ℕ
+place_of s r = length s - length r
+
+-- r is a suffix of s, and the bytes before it in s are valid UTF-8
+pub record TextBefore (s r : List ℕ) : Type 0 where
+  pub within : length r ≤ length s
+  pub rest : r ≡ drop (place_of s r) s
+  pub text : IsText (take (place_of s r) s)
+
+-- the bytes from index n on, written as the definition of slices writes them
+abbrev pub slice_from : ℕ → List ℕ → List ℕ
+slice_from n s = take (length s - n) (drop n s)
+
+-- if r is a suffix with valid UTF-8 before it, so is what remains of r after a valid prefix
+pub text_before : (s r : List ℕ) (n : ℕ) → TextBefore s r → n ≤ length r → IsText (take n r)
+    → TextBefore s (slice_from n r)
+text_before s r n h bound here =
+    let w = h.within in
+    let i = place_of s r in
+    let e = take_rest r n in
+    let l = ap length e ∙ length-drop n r in
+    let place : place_of s (slice_from n r) ≡ i + n = omega (arith, l) in
+    let more = after_text s r i h.rest h.text n (omega arith) bound here in
+    record {
+      within = omega (arith, l);
+      rest = e ∙ ap (drop n) h.rest ∙ drop-drop n i s ∙ ap (λ k. drop k s) (sym place);
+      text = subst (λ k. IsText (take k s)) (sym place) more.1;
+    }
+
+-- if r is a suffix with valid UTF-8 before it, so is what remains of r after a sequence of n bytes;
+-- k is another name for n
+pub sequence_before : (s r : List ℕ) (n k : ℕ) → TextBefore s r
+    → (0 < n) × (n ≡ longest_len is_sequence r) → n ≡ k → TextBefore s (slice_from k r)
+sequence_before s r n k h (some, is) same =
+    let here = subst (λ j. IsText (take j r)) same (sequence_is_text r n some is) in
+    text_before s r k h (omega (arith, same, is, sequence_within r)) here
+
+-- if r is a suffix with valid UTF-8 before it, so is what remains of r after a sequence and then m
+-- bytes of valid UTF-8
+pub sequences_before : (s r : List ℕ) (n k m : ℕ) → TextBefore s r
+    → (0 < n) × (n ≡ longest_len is_sequence r) → n ≡ k → m ≤ length (slice_from k r)
+    → IsText (take m (slice_from k r)) → TextBefore s (slice_from m (slice_from k r))
+sequences_before s r n k m h found same bound here =
+    text_before s (slice_from k r) m (sequence_before s r n k h found same) bound here
+
+-- if the suffix r begins with an invalid front, the longest valid prefix ends where r begins
+pub broken_rest : (s r : List ℕ) (n : ℕ) → TextBefore s r → (0 < n) × (n ≡ broken_len r)
+    → place_of s r ≡ longest_len is_text s
+broken_rest s r n h found =
+    text_before_broken s r (place_of s r) h.rest h.text n (omega arith) found
+
+-- if the suffix r is empty, the longest valid prefix has all bytes
+pub no_rest : (s r : List ℕ) → TextBefore s r → eqb (length r) 0 ≡ true
+    → length s ≡ longest_len is_text s
+no_rest s r h none =
+    let within = h.within in
+    let end : place_of s r ≡ length s = omega (arith, eqb-true (length r) 0 none) in
+    text_to_end s (length s) (le_refl (length s)) (le_refl (length s))
+    (subst (λ n. IsText (take n s)) end h.text)
+
+-- at the end of the bytes there is no invalid front
+pub none_at_end : (s : List ℕ) (i : ℕ) → length s ≤ i → 0 ≡ broken_len (drop i s)
+none_at_end s i end = sym (broken_len-empty (drop i s) (omega (arith, length-drop i s)))
+
+-- valid UTF-8 is no longer than its longest valid prefix
+pub text_ends : (s : List ℕ) (n : ℕ) → n ≡ longest_len is_text s → IsText s → length s ≤ n
+text_ends s n e h =
+    let k = whole_text s (IsUtf8-from_IsText s h) in omega arith
+
+-- the longest valid prefix is `IsUtf8`
+pub prefix_is_utf8 : (s : List ℕ) (n : ℕ) → n ≡ longest_len is_text s → IsUtf8 (take n s)
+prefix_is_utf8 s n e =
+    subst (λ j. IsUtf8 (take j s)) (sym e)
+    (IsUtf8-from_IsText (take (longest_len is_text s) s) (text_prefix s))
+
+-- bytes that are no longer than their longest valid prefix are `IsUtf8`
+pub whole_is_utf8 : (s : List ℕ) (n : ℕ) → n ≡ longest_len is_text s → length s ≤ n → IsUtf8 s
+whole_is_utf8 s n e le = subst IsUtf8 (take_all n s le) (prefix_is_utf8 s n e)
+
+-- bytes that are no longer than their longest valid prefix are `IsText`
+pub whole_is_text : (s : List ℕ) (n : ℕ) → n ≡ longest_len is_text s → length s ≤ n → IsText s
+whole_is_text s n e le = IsText-from_IsUtf8 s (whole_is_utf8 s n e le)
+
+-- the longest valid prefix is within the bytes
+pub text_within : (s : List ℕ) → longest_len is_text s ≤ length s
+text_within s = (longest_len-longest is_text s).within
+
+-- the longest valid prefix, and an invalid front, are within the bytes
+pub ruleset prefix_bounds = (text_within, broken_len_within)

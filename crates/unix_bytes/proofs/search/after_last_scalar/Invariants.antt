@@ -1,0 +1,12 @@
+use Rattle.std.proofs.Common.{◌≡◌, ℕ, ◌<◌, ◌≤◌, ◌==◌, false, get_or}
+use Rattle.unix_bytes.proofs.search.after_last_scalar.Given as goal
+
+-- the byte does not occur from `past` on, up to `len`
+abbrev pub invariant-loop-past : goal.invariant-loop-past
+invariant-loop-past l = record {
+  in_range : l.past ≤ l.len;
+  none_after : (k : ℕ) → l.past ≤ k → k < l.len → (get_or l.bytes k 0 == l.byte) ≡ false;
+}
+
+abbrev pub decreases-loop-past : goal.decreases-loop-past
+decreases-loop-past l = l.past

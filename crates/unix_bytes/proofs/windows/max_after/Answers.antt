@@ -1,0 +1,10 @@
+use Rattle.std.proofs.Common.{cond, eqb, ap, ◌∙◌}
+use Rattle.std.specs.Simd.Lanes.{zip2}
+use Rattle.unix_bytes.proofs.lemmas.vectors.SelectLemmas.{zip2-zip2}
+use Rattle.unix_bytes.proofs.windows.max_after.Goals as goal
+
+pub returns : goal.returns
+returns c =
+    c.select_eq.ensures
+    ∙ ap (zip2 (λ b o. cond (eqb b 0xED) 0x9F o) c.args.bytes) c.select_eq-four.ensures
+    ∙ zip2-zip2 _ _ 0xF4 16 c.args.bytes c.fits-bytes.0

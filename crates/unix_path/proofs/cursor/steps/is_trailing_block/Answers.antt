@@ -1,7 +1,0 @@
-use Rattle.std.proofs.Common.{eqb-true}
-use Rattle.unix_path.proofs.lemmas.filler.TrailingBlockLemmas.{trailing_block}
-use Rattle.unix_path.proofs.cursor.steps.is_trailing_block.Goals as goal
-
-pub returns : goal.returns
-returns c = λ e.
-    trailing_block c.args.path.now c.args.at c.requires.behind c.requires.in_range (eqb-true _ 0 e)

@@ -1,0 +1,13 @@
+use Rattle.std.proofs.Common.{◌≡◌, ℕ, ◌+◌, ◌-◌, ◌<◌, false}
+use Rattle.unix_path.specs.NameRunEnds.{ends_name_run_of}
+use Rattle.unix_path.proofs.name_run_ends.name_run_end_min.Given as goal
+
+-- no byte read so far ends a run of names
+abbrev pub invariant-loop-at : goal.invariant-loop-at
+invariant-loop-at l = record {
+  in_range : l.at < l.last + 16;
+  none_before : (i : ℕ) → i < l.at → ends_name_run_of l.separator l.dot l.bytes i ≡ false;
+}
+
+abbrev pub decreases-loop-at : goal.decreases-loop-at
+decreases-loop-at l = l.last + 16 - l.at

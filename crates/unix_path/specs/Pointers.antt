@@ -1,0 +1,27 @@
+-- Definitions for contracts of boxed, shared and borrowed-or-owned paths.
+use Rattle.std.specs.Prelude.{ℕ, List, ⊤}
+use Rattle.std.specs.Box.{boxed_slice_items}
+use Rattle.std.specs.Rc.{rc_slice_items}
+use Rattle.unix_path.specs.Buffers.{path_bytes}
+use Rattle.unix_path.specs.declared.pointers.boxed.BoxedPath.{BoxedPath}
+use Rattle.unix_path.specs.declared.pointers.rc.RcPath.{RcPath}
+use Rattle.unix_path.specs.declared.pointers.cow.CowPath.{CowPath}
+use Rattle.unix_path.specs.declared.pointers.cow.CowPath.TheVariants.{Borrowed, Owned}
+
+-- the bytes of a boxed path
+abbrev pub boxed_bytes : BoxedPath → List ℕ
+boxed_bytes path = boxed_slice_items path.bytes
+
+-- the bytes of a shared path
+abbrev pub rc_bytes : RcPath → List ℕ
+rc_bytes path = rc_slice_items path.bytes
+
+-- the bytes of a path that is borrowed or owned
+abbrev pub cow_bytes : CowPath → List ℕ
+cow_bytes (Borrowed path) = path.bytes.now
+cow_bytes (Owned path) = path_bytes path
+
+-- the path borrows its bytes
+abbrev pub IsBorrowed : CowPath → Type 0
+IsBorrowed (Borrowed path) = ⊤
+IsBorrowed (Owned path) = ⊥

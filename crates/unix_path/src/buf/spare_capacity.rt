@@ -1,0 +1,75 @@
+//! The spare capacity of an owned path: how it is reserved and released.
+ghost use Rattle.std.specs.Prelude.{◌≡◌, ◌≤◌, length, max, min, OnOk, IsOk};
+ghost use Rattle.unix_path.specs.Buffers.{path_bytes, spare_capacity, capacity};
+
+use crate::buf::PathBuf;
+use std::alloc::AllocError;
+
+impl PathBuf {
+    /// Reserves spare capacity for at least `count` more bytes. If it allocates, it may reserve
+    /// more.
+    ///
+    /// Allocates only if the spare capacity is less than `count`. If the allocation fails, the
+    /// bytes are unchanged.
+    ///
+    /// After `reserve(6)` a push that adds 6 bytes does not allocate.
+    pub fn reserve(&mut self, count: usize) -> Result<(), AllocError>
+        ensures bytes { path_bytes self.new ≡ path_bytes self.old }
+        ensures ok { OnOk result (count ≤ spare_capacity self.new) }
+        ensures succeeds { count ≤ spare_capacity self.old → IsOk result }
+        ensures capacity { capacity self.old ≤ capacity self.new }
+    {
+        self.inner.reserve(count)
+    }
+
+    /// Reserves spare capacity for at least `count` more bytes. If it allocates, it reserves
+    /// exactly `count`.
+    ///
+    /// Allocates only if the spare capacity is less than `count`. If the allocation fails, the
+    /// bytes are unchanged.
+    ///
+    /// After `reserve_exact(6)` a push that adds 6 bytes does not allocate.
+    pub fn reserve_exact(&mut self, count: usize) -> Result<(), AllocError>
+        ensures bytes { path_bytes self.new ≡ path_bytes self.old }
+        ensures ok { OnOk result (spare_capacity self.new ≡ max count (spare_capacity self.old)) }
+        ensures succeeds { count ≤ spare_capacity self.old → IsOk result }
+        ensures capacity { capacity self.old ≤ capacity self.new }
+    {
+        self.inner.reserve_exact(count)
+    }
+
+    /// Releases the spare capacity, so that the capacity equals the length.
+    ///
+    /// If there is no spare capacity, it does not allocate. Otherwise moving the bytes can fail.
+    /// The bytes are then unchanged, and the capacity is no greater than before.
+    ///
+    /// For `foo` with the capacity 10, the capacity is then 3.
+    pub fn shrink_to_fit(&mut self) -> Result<(), AllocError>
+        ensures bytes { path_bytes self.new ≡ path_bytes self.old }
+        ensures ok { OnOk result (spare_capacity self.new ≡ 0) }
+        ensures succeeds { spare_capacity self.old ≡ 0 → IsOk result }
+        ensures shrinks { capacity self.new ≤ capacity self.old }
+    {
+        self.inner.shrink_to_fit()
+    }
+
+    /// Lowers the capacity to `min_capacity` bytes, or to the path's length if that is greater.
+    ///
+    /// If the capacity is already no greater, it is kept and nothing is allocated. Otherwise moving
+    /// the bytes can fail. The bytes are then unchanged, and the capacity is no greater than
+    /// before.
+    ///
+    /// For `foo` with the capacity 10, `shrink_to(5)` makes it 5, `shrink_to(0)` makes it 3, and
+    /// `shrink_to(20)` leaves it.
+    pub fn shrink_to(&mut self, min_capacity: usize) -> Result<(), AllocError>
+        ensures bytes { path_bytes self.new ≡ path_bytes self.old }
+        ensures ok { OnOk result
+            (capacity self.new ≤ max min_capacity (length (path_bytes self.old))) }
+        ensures succeeds { capacity self.old ≤ max min_capacity (length (path_bytes self.old))
+            → IsOk result }
+        ensures capacity { min min_capacity (capacity self.old) ≤ capacity self.new }
+        ensures shrinks { capacity self.new ≤ capacity self.old }
+    {
+        self.inner.shrink_to(min_capacity)
+    }
+}

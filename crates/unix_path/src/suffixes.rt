@@ -1,0 +1,81 @@
+//! Suffixes of paths, compared by components. Usually the last bytes decide.
+ghost use Rattle.std.specs.Prelude.{◌≡◌, ◌↔◌, ◌≤◌, ◌-◌, ℕ, IsTrue, None, IfSome, length, take};
+ghost use Rattle.unix_path.specs.Parts.{values};
+ghost use Rattle.unix_path.specs.Prefixes.{IsSuffixOf};
+ghost use Rattle.unix_path.specs.Steps.{EndsInPiece, HasCommonSuffix, SharesSuffix};
+
+use crate::cursor::Components;
+use crate::pair::is_piece_start;
+
+// Returns true only if the last byte belongs to a component and isn't a slash. The last piece is
+// then a component.
+#[inline]
+fn ends_in_part(bytes: &[u8]) -> bool
+    ensures { IsTrue result → EndsInPiece bytes.now }
+{
+    let len = bytes.len();
+    if len == 0 || bytes[len - 1] == b'/' {
+        return false;
+    }
+    bytes[len - 1] != b'.' || len == 1 || bytes[len - 2] != b'/'
+}
+
+// Returns the length of the longest common suffix without a slash.
+#[inline]
+#[tactic(auto, using(crate::proofs::lemmas::order::EndingLemmas::longer_ends))]
+fn common_suffix_len(a: &[u8], b: &[u8]) -> usize
+    ensures end { HasCommonSuffix a.now b.now result }
+    ensures longest { (len : ℕ) → HasCommonSuffix a.now b.now len → len ≤ result }
+{
+    let shorter_len = a.len().min(b.len());
+    let mut len = 0;
+    while len < shorter_len
+        && a[a.len() - 1 - len] == b[b.len() - 1 - len]
+        && a[a.len() - 1 - len] != b'/'
+    {
+        len += 1;
+    }
+    len
+}
+
+// Returns the length of the last component if both paths end in the same one, or `None` if the last
+// components differ. Returns 0 if one of the paths is empty, or ends in a slash or in filler. Reads
+// only the last components and the slashes before them.
+#[inline]
+#[tactic(auto, using(crate::proofs::lemmas::order::EndingLemmas::last_parts))]
+pub(crate) fn shared_last_len(a: &[u8], b: &[u8]) -> Option<usize>
+    ensures apart { result ≡ None → IsSuffixOf (values b.now) (values a.now) → ⊥ }
+    ensures in_first { IfSome result (λ len. len ≤ length a.now) }
+    ensures in_second { IfSome result (λ len. len ≤ length b.now) }
+    ensures shared { IfSome result (λ len. SharesSuffix (values a.now) (values b.now)
+        (values (take (length a.now - len) a.now)) (values (take (length b.now - len) b.now))) }
+{
+    if !ends_in_part(a) || !ends_in_part(b) {
+        return Some(0);
+    }
+    let len = common_suffix_len(a, b);
+    if is_piece_start(a, a.len() - len) && is_piece_start(b, b.len() - len) {
+        Some(len)
+    } else {
+        None
+    }
+}
+
+// Returns true if and only if `path`'s components end with `child`'s, compared one by one. Not
+// inlined, so that a result from the last bytes needs no stack space for two walks.
+#[inline(never)]
+pub(crate) fn ends_with_parts(path: &[u8], child: &[u8]) -> bool
+    ensures { IsTrue result ↔ IsSuffixOf (values child.now) (values path.now) }
+{
+    let mut walk = Components::new(path);
+    let mut child_walk = Components::new(child);
+    while let Some(part) = child_walk.next_back() {
+        let Some(own) = walk.next_back() else {
+            return false;
+        };
+        if !own.has_same_value(part) {
+            return false;
+        }
+    }
+    true
+}

@@ -1,0 +1,37 @@
+//! A fast step over the last component in the rest of a walk. It applies if neither the last byte
+//! nor the byte before the last slash is a slash or a dot: the last component is then a name.
+ghost use Rattle.std.specs.Prelude.{◌≡◌, ◌<◌, ◌==◌, false, length, IfSome, IsTrue};
+ghost use Rattle.unix_path.specs.Parts.{dot, slash};
+ghost use Rattle.unix_path_c.specs.Steps.{EndsInName};
+
+use unix_bytes::search::after_last;
+
+// Returns true if the byte is neither a slash nor a dot.
+#[inline]
+fn is_ordinary(byte: u8) -> bool
+    ensures no_slash { IsTrue result → (byte == slash) ≡ false }
+    ensures no_dot { IsTrue result → (byte == dot) ≡ false }
+{
+    byte != b'/' && byte != b'.'
+}
+
+// Returns two indices: where the rest before the last component ends, and where the last component,
+// a name, begins. Returns `None` if the last byte, or the byte before the last slash, is a slash or
+// a dot.
+#[inline(always)]
+pub(crate) fn last_name(bytes: &[u8]) -> Option<(usize, usize)>
+    requires { 0 < length bytes.now }
+    ensures { IfSome result (λ name. EndsInName bytes.now name.0 name.1) }
+{
+    if !is_ordinary(bytes[bytes.len() - 1]) {
+        return None;
+    }
+    let start = after_last(bytes, b'/');
+    if start < 2 {
+        return Some((start, start));
+    }
+    if is_ordinary(bytes[start - 2]) {
+        return Some((start - 1, start));
+    }
+    None
+}

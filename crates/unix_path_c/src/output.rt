@@ -1,0 +1,56 @@
+//! Writes runs of bytes into a buffer, one after the other, and computes their lengths.
+ghost use Rattle.std.specs.Prelude.{◌≡◌, ◌≤◌, ◌+◌, length};
+ghost use Rattle.unix_path.specs.Scan.{separator_bytes};
+ghost use Rattle.path_runs.specs.Overlay.{overlay};
+ghost use Rattle.unix_path_c.specs.SaturatedSize.{buffer_size};
+
+use unix_bytes::buffers::write_at;
+
+// The error code for a length that no buffer has. It is one more than the greatest length of a
+// buffer.
+const TOO_LONG: usize = 1 << 63;
+
+// Returns the length, or `TOO_LONG` if no buffer has that length.
+#[inline]
+pub(crate) fn len_or_too_long(len: usize) -> usize
+    ensures { result ≡ buffer_size len }
+{
+    if len < TOO_LONG { len } else { TOO_LONG }
+}
+
+// Writes the separator at index `at` if there is one.
+#[inline]
+pub(crate) fn write_separator(out: &mut [u8], at: usize, separator: Option<u8>)
+    requires { at + length (separator_bytes separator) ≤ length out.old }
+    ensures { out.new ≡ overlay at (separator_bytes separator) out.old }
+{
+    if let Some(byte) = separator {
+        out[at] = byte;
+    }
+}
+
+// Returns the length of the separator: 1, or 0 if there is none.
+#[inline]
+pub(crate) fn separator_len(separator: Option<u8>) -> usize
+    ensures { result ≡ length (separator_bytes separator) }
+{
+    match separator {
+        Some(_) => 1,
+        None => 0,
+    }
+}
+
+// Overwrites bytes with `first` and then `second`, beginning at index `at`. Returns the index just
+// after the last byte of `second`.
+#[inline]
+pub(crate) fn write_both(out: &mut [u8], at: usize, first: &[u8], second: &[u8]) -> usize
+    requires { at + length first.now + length second.now ≤ length out.old }
+    ensures out { let middle = at + length first.now in
+        out.new ≡ overlay middle second.now (overlay at first.now out.old) }
+    ensures end { result ≡ at + length first.now + length second.now }
+{
+    let middle = at + first.len();
+    write_at(out, at, first);
+    write_at(out, middle, second);
+    middle + second.len()
+}

@@ -1,0 +1,54 @@
+//! The relative path from one path to another, written to the caller's buffer.
+ghost use Rattle.std.specs.Prelude.{◌≡◌, ◌↔◌, ◌⊎◌, ◌≤◌, ◌+◌, ◌*◌, length, option_map, IfSome};
+ghost use Rattle.std.specs.Prelude.{Some, None};
+ghost use Rattle.unix_path.specs.Parts.{values};
+ghost use Rattle.path_runs.specs.Buffer.{buffer_after};
+ghost use Rattle.path_runs.specs.Spelling.{spelling_of};
+ghost use Rattle.path_within.specs.RelativePaths.{relative_path_of};
+ghost use Rattle.unix_path_c.specs.ErrorCodes.{IsLength, no_relative_path, too_long};
+
+use crate::output::len_or_too_long;
+use path_within::relative::write_relative_path;
+use unix_path::Path;
+
+// The error code if there is no relative path.
+const NO_RELATIVE_PATH: usize = usize::MAX - 7;
+
+/// Writes the relative path from one path to another to `out` if it fits, and returns its length.
+///
+/// Both paths are resolved, and the components that both then start with are left out. The relative
+/// path is a `..` for each name in the rest of `from`, followed by the rest of `to`. Its length is
+/// at most `3 * (from.len() + 1) / 2 + to.len()`.
+///
+/// Returns `UNIX_PATH_NO_RELATIVE_PATH` if and only if one path has a root and the other has none,
+/// or the rest of `from` has a `..`: then no path without a root leads there. Returns
+/// `UNIX_PATH_TOO_LONG` if the relative path has more than `PTRDIFF_MAX` bytes, which no buffer
+/// has.
+///
+/// Purely lexical: if a component may be a symbolic link, only the system knows where `..` leads. A
+/// result of no bytes represents the current directory. Like Python's `PurePath.relative_to` with
+/// `walk_up`, which does not resolve.
+///
+/// From `/a/b/c` to `/a/d` it is `../../d`; from `../x` to `y` there is none.
+#[unsafe(no_mangle)]
+pub extern "C" fn unix_path_relative_path(from: &[u8], to: &[u8], out: &mut [u8]) -> usize
+    ensures answers { IsLength result ⊎ ((result ≡ no_relative_path) ⊎ (result ≡ too_long)) }
+    ensures no_relative_path { (result ≡ no_relative_path)
+        ↔ (relative_path_of (values from.now) (values to.now) ≡ None) }
+    ensures too_long { result ≡ too_long
+        → IfSome (relative_path_of (values from.now) (values to.now))
+        (λ steps. too_long ≤ length (spelling_of steps)) }
+    ensures length { IsLength result → Some result ≡ option_map
+        (λ steps. length (spelling_of steps)) (relative_path_of (values from.now) (values to.now)) }
+    ensures len_bound { IsLength result → 2 * result ≤ 3 * (length from.now + 1)
+        + 2 * length to.now }
+    ensures out { IsLength result → IfSome (relative_path_of (values from.now) (values to.now))
+        (λ steps. out.new ≡ buffer_after (spelling_of steps) out.old) }
+    ensures no_relative_path_unchanged { result ≡ no_relative_path → out.new ≡ out.old }
+    ensures too_long_unchanged { result ≡ too_long → out.new ≡ out.old }
+{
+    match write_relative_path(Path { bytes: from }, Path { bytes: to }, out) {
+        Some(len) => len_or_too_long(len),
+        None => NO_RELATIVE_PATH,
+    }
+}
