@@ -10,8 +10,8 @@ pub record Chunk : Type 0 where
   pub valid : List ℕ
   pub broken : List ℕ
 
--- `text` and then the fronts, grouped into chunks: a front that is a sequence is appended to
--- `text`, and an invalid front ends the chunk
+-- the valid bytes `text` and then the given fronts, grouped into chunks: a front that is a sequence
+-- is appended to `text`, and an invalid front ends the chunk
 abbrev pub chunks_from : List ℕ → List (List ℕ) → List Chunk
 chunks_from text [] = if length text == 0 then [] else record { valid = text; broken = [] } ∷ []
 chunks_from text (u ∷ us) =
@@ -22,7 +22,7 @@ chunks_from text (u ∷ us) =
 unfoldable pub chunks_of : List ℕ → List Chunk
 chunks_of s = chunks_from [] (fronts_of s)
 
--- U+FFFD for invalid bytes, and nothing if there are none
+-- U+FFFD if `broken` is not empty, and otherwise nothing
 abbrev pub replacement_for : List ℕ → List ℕ
 replacement_for broken = if length broken == 0 then [] else replacement
 

@@ -1,7 +1,7 @@
--- What a byte string feeds to a hasher.
+-- The writes that a byte string feeds a hasher.
 use Rattle.std.specs.Prelude.{◌++◌, ◌∷◌, ℕ, length, List, []}
 use Rattle.std.specs.Hash.{HashWrites, usize}
 
--- a name's length, and then its bytes in one write
+-- the length of the byte string `name`, and then its bytes in one write
 abbrev pub name_input : List ℕ → HashWrites
 name_input name = usize (length name) ++ name ∷ []

@@ -1,4 +1,4 @@
--- Tests of bytes, as bits: the lowest bit for the first byte.
+-- Masks: one bit for each byte, with the lowest bit for the first byte.
 use Rattle.std.specs.Prelude.{ℕ, Bool, ◌==◌, List, map, nat_le}
 use Rattle.std.specs.Simd.Lanes.{mask_l}
 

@@ -8,7 +8,8 @@ use Rattle.unix_bytes.specs.Utf8.{IsSequence, IsText, BeginsSequence, begins_seq
 use Rattle.unix_bytes.specs.Lossy.{fronts_of, front_of, is_text, lossy_of, replacement}
 use Rattle.unix_bytes.specs.Chunks.{Chunk, chunks_of, shown_chunk}
 
--- bytes are valid UTF-8 by the table if and only if they are UTF-8 as Rattle's std defines it
+-- bytes are valid UTF-8 by the table of RFC 3629, section 4, if and only if Rattle's std defines
+-- them as UTF-8
 abbrev pub TextIsUtf8 : Type 0
 TextIsUtf8 = (s : List ℕ) → IsText s ↔ IsUtf8 s
 
@@ -48,12 +49,12 @@ BeginsWithNoSequence s = (u : List ℕ) → IsSequence u → ¬ (IsPrefixOf u s)
 abbrev pub BrokenIsShort : Type 0
 BrokenIsShort = (s : List ℕ) → BeginsWithNoSequence s → length (front_of s) ≤ 3
 
--- a sequence at the beginning is copied, and the lossy form of the rest comes after it
+-- the lossy form of a sequence u followed by bytes s is u and then the lossy form of s
 abbrev pub LossyOfSequence : Type 0
 LossyOfSequence = (u s : List ℕ) → IsSequence u → lossy_of (u ++ s) ≡ u ++ lossy_of s
 
--- if no prefix is a sequence, U+FFFD represents the first front, and the lossy form of the rest
--- comes after it
+-- if there is a byte and no prefix is a sequence, the lossy form is U+FFFD and then the lossy form
+-- of the bytes after the first front
 abbrev pub LossyOfBroken : Type 0
 LossyOfBroken =
     (s : List ℕ) → 0 < length s → BeginsWithNoSequence s
@@ -103,6 +104,6 @@ WholeChunkIsLast =
     (s : List ℕ) (before after : List Chunk) (c : Chunk)
     → chunks_of s ≡ before ++ c ∷ after → c.broken ≡ [] → after ≡ []
 
--- the chunks as they are shown, one after the other, are the lossy form
+-- the chunks, each shown with U+FFFD for its invalid front, concatenate to the lossy form
 abbrev pub ChunksShowLossy : Type 0
 ChunksShowLossy = (s : List ℕ) → flat_map shown_chunk (chunks_of s) ≡ lossy_of s

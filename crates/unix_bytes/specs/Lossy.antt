@@ -3,8 +3,8 @@ use Rattle.std.specs.Prelude.{ℕ, Bool, List, [], ◌∷◌, take, if◌then◌
 use Rattle.std.specs.List.{concat, flat_map, list_all, push}
 use Rattle.unix_bytes.specs.Utf8.{is_sequence, begins_sequence}
 
--- u and then s, cut into fronts: the next byte extends the front u if some sequence begins with u
--- and this byte, and otherwise begins a new front
+-- u and then s, cut into fronts, where u is the current front: the first byte of s extends u if
+-- some sequence begins with u and this byte, and otherwise begins a new front
 abbrev pub fronts_from : List ℕ → List ℕ → List (List ℕ)
 fronts_from u [] = u ∷ []
 fronts_from u (b ∷ s) =

@@ -1,4 +1,4 @@
--- What the clauses about `UnixString` use (Rust's `OsString`).
+-- The bytes and the capacity of a `UnixString`, as its contracts state them.
 use Rattle.std.specs.Prelude.{ℕ, ◌+◌, ◌-◌, List, length, vec_len, vec_capacity}
 use Rattle.unix_bytes.specs.declared.bytes.owned.UnixString.{UnixString}
 
@@ -6,10 +6,10 @@ use Rattle.unix_bytes.specs.declared.bytes.owned.UnixString.{UnixString}
 abbrev pub owned_bytes : UnixString → List ℕ
 owned_bytes s = s.bytes.items
 
--- its spare capacity: how many more bytes it can hold before it grows
+-- the spare capacity of a `UnixString`: how many more bytes it can hold before it grows
 abbrev pub owned_spare_capacity : UnixString → ℕ
 owned_spare_capacity s = vec_capacity s.bytes - vec_len s.bytes
 
--- its capacity: how many bytes it can hold before it grows
+-- the capacity of a `UnixString`: how many bytes it can hold before it grows
 abbrev pub owned_capacity : UnixString → ℕ
 owned_capacity s = length (owned_bytes s) + owned_spare_capacity s

@@ -1,22 +1,22 @@
--- What the code finds at the beginning of bytes, and how it splits them. No public clause cites
--- these definitions.
+-- The prefixes that the code finds in bytes, and how it splits bytes. No public clause cites these
+-- definitions.
 use Rattle.std.specs.Prelude.{ℕ, zero, suc, ◌+◌, ◌≤◌, ◌≡◌, Bool, true, List, length, take, drop}
 use Rattle.std.specs.Prelude.{max, if◌then◌else◌}
 use Rattle.unix_bytes.specs.Utf8.{is_sequence, begins_sequence}
 use Rattle.unix_bytes.specs.Lossy.{is_text}
 use Rattle.unix_bytes.specs.Chunks.{Chunk}
 
--- the greatest n up to m for which the first n bytes pass the test, or 0
+-- the greatest n from 1 to m such that the first n bytes pass the test, or 0 if there is none
 abbrev pub longest_len_to : ℕ → (List ℕ → Bool) → List ℕ → ℕ
 longest_len_to zero test s = 0
 longest_len_to (suc m) test s = if test (take (suc m) s) then suc m else longest_len_to m test s
 
--- the length of the longest prefix that passes the test, or 0
+-- the length of the longest nonempty prefix that passes the test, or 0 if there is none
 unfoldable pub longest_len : (List ℕ → Bool) → List ℕ → ℕ
 longest_len test s = longest_len_to (length s) test s
 
--- the first front (`front_of`), by its length: the longest prefix that begins some sequence, or the
--- first byte if that begins none
+-- the first front, computed from its length (`front_of` is the same): the longest prefix that
+-- begins some sequence, or the first byte if that begins none
 unfoldable pub longest_front_of : List ℕ → List ℕ
 longest_front_of s = take (max 1 (longest_len begins_sequence s)) s
 
@@ -34,7 +34,7 @@ first_chunk_of s =
     let n = longest_len is_text s in
     record { valid = take n s; broken = longest_front_of (drop n s) }
 
--- how many bytes a chunk has
+-- the number of bytes in a chunk
 abbrev pub chunk_len : Chunk → ℕ
 chunk_len c = length c.valid + length c.broken
 

@@ -28,15 +28,15 @@ fits [] (b ∷ u) = false
 fits (r ∷ row) [] = false
 fits (r ∷ row) (b ∷ u) = fits row u && is_in_range r.0 r.1 b
 
--- the bytes fit a row of the table
+-- the bytes fit some row of the table
 unfoldable pub is_sequence : List ℕ → Bool
 is_sequence u = list_any (λ row. fits row u) table
 
--- one well-formed sequence
+-- the bytes are one well-formed sequence
 abbrev pub IsSequence : List ℕ → Type 0
 IsSequence u = is_sequence u ≡ true
 
--- well-formed sequences, one after the other
+-- the bytes are well-formed sequences, one after the other
 abbrev pub IsText : List ℕ → Type 0
 IsText s = (us : List (List ℕ)) × All IsSequence us × (concat us ≡ s)
 

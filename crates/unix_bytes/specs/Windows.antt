@@ -1,4 +1,4 @@
--- Windows of UTF-8: which byte may follow the three before it.
+-- Windows of bytes, and which byte may follow the three bytes before it in UTF-8.
 use Rattle.std.specs.Prelude.{◌≤◌, ◌<◌, ◌⊎◌, ◌==◌, ℕ, List, [], ◌∷◌, take, if◌then◌else◌, ⊤}
 use Rattle.std.specs.Prelude.{nat_le}
 
@@ -34,18 +34,18 @@ abbrev pub AllAtLeast : List ℕ → List ℕ → Type 0
 AllAtLeast (d ∷ s) (l ∷ t) = (l ≤ d) × AllAtLeast s t
 AllAtLeast s t = ⊤
 
--- d may follow a, b and c
+-- the byte d may follow the bytes a, b and c in UTF-8
 pub record Fits (a b c d : ℕ) : Type 0 where
   pub goes : Continues a b c d
   pub min : min_second c ≤ d
   pub max : d ≤ max_second c
 
--- each byte may follow the three before it; a, b and c come before the first
+-- each byte of the list may follow the three bytes before it; a, b and c come before the first byte
 abbrev pub FitAfter : ℕ → ℕ → ℕ → List ℕ → Type 0
 FitAfter a b c [] = ⊤
 FitAfter a b c (d ∷ s) = Fits a b c d × FitAfter b c d s
 
--- each of the 16 bytes after the first three may follow the three before it
+-- each of the first 16 bytes from index 3 on may follow the three bytes before it
 abbrev pub FitsWindow : List ℕ → Type 0
 FitsWindow (a ∷ b ∷ c ∷ s) = FitAfter a b c (take 16 s)
 FitsWindow s = ⊤

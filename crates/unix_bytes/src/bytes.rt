@@ -1,4 +1,4 @@
-//! Byte strings as Unix has them in paths and names.
+//! Borrowed byte strings, as Unix uses them for paths and names.
 ghost use Rattle.std.specs.Prelude.{◌≡◌, ◌↔◌, ◌++◌, ◌≤◌, [], length, take, IsTrue, IfOk, IsOk};
 ghost use Rattle.std.specs.Prelude.{OnOk, IsSome, IfSome, Some};
 ghost use Rattle.std.specs.Cmp.{on_po, on_total};
@@ -125,7 +125,7 @@ impl<'a> UnixStr<'a> {
     }
 }
 
-/// The order of `cmp`.
+/// Returns the order that `cmp` returns, and never `None`.
 impl PartialOrd for UnixStr<'_> {
     ghost partial_cmp = { λ x y. Some (slice_cmp nat_cmp x.bytes.now y.bytes.now) };
 
@@ -151,9 +151,9 @@ impl Ord for UnixStr<'_> {
     }
 }
 
-/// Feeds the hasher the length, and then all bytes in one write. The length marks where a byte
-/// string ends when several are fed, and one write is fast for many bytes. The format is specific
-/// to this crate.
+/// Feeds the hasher the length, and then all bytes in one write. If several byte strings are hashed
+/// together, the length shows where each of them ends. One write is fast for many bytes. The format
+/// is specific to this crate.
 impl Hash for UnixStr<'_> {
     ghost use Rattle.unix_bytes.specs.Hashed.{name_input};
     ghost use Rattle.std.specs.Cmp.Lexicographic.{bytes_decides};
@@ -179,7 +179,7 @@ impl fmt::Debug for UnixStr<'_> {
 }
 
 // Returns `text`, then U+FFFD if `broken` is not empty, then the lossy form of `rest`. If
-// `show_first` reads all of `rest`, the string never grows.
+// `show_first` reads all of `rest`, the string is allocated once and never grows.
 fn lossy_string(alloc: Global, text: &str, broken: &[u8], rest: &[u8]) -> Result<String, AllocError>
     ensures { let whole = (text.now ++ replacement_for broken.now) ++ lossy_of rest.now in
         IfOk result (λ lossy. string_bytes lossy ≡ whole) }
@@ -197,8 +197,8 @@ fn lossy_string(alloc: Global, text: &str, broken: &[u8], rest: &[u8]) -> Result
     Ok(unsafe { String::from_utf8_unchecked(bytes) })
 }
 
-// Appends the lossy form of `source`: a chunk, then what `show_first` writes to `buffer`, then
-// again a chunk, until all bytes are read.
+// Appends the lossy form of `source`. Each round appends the lossy form of the next chunk, and then
+// the bytes that `show_first` writes to `buffer`, until all of `source` is read.
 fn push_lossy(bytes: &mut Vec<u8>, source: &[u8], buffer: &mut [u8]) -> Result<(), AllocError>
     ensures { OnOk result (bytes.new.items ≡ bytes.old.items ++ lossy_of source.now) }
 {

@@ -25,9 +25,9 @@ pub fn sequences_stand_alone()
     ensures { SequencesStandAlone }
 {}
 
-/// The tests that the definitions use are right: `begins_sequence` is true if and only if some
-/// sequence begins with the bytes (`beginning`), and `is_text` if and only if they are valid UTF-8
-/// (`text`).
+/// The two tests of the definitions are right. `begins_sequence` is true if and only if some
+/// sequence begins with the bytes (`beginning`). `is_text` is true if and only if the bytes are
+/// valid UTF-8 (`text`).
 pub fn tests_are_right()
     ensures beginning { BeginningIsTested }
     ensures text { TextIsTested }
@@ -91,7 +91,8 @@ pub fn chunks_partition()
     ensures last { WholeChunkIsLast }
 {}
 
-/// The chunks, each with U+FFFD for its invalid front, concatenate to the lossy form of the bytes.
+/// The chunks, with U+FFFD instead of each invalid front, concatenate to the lossy form of the
+/// bytes.
 pub fn chunks_show_lossy()
     ensures { ChunksShowLossy }
 {}

@@ -77,12 +77,12 @@ impl<'a> Utf8Lossy<'a> {
     }
 }
 
-/// A run of sequences, and the invalid front after it.
+/// A run of valid UTF-8, and the invalid front after it, if there is one.
 ///
 /// Corresponds to Rust's `Utf8Chunk`.
 #[derive(Clone, Copy, Debug, PartialEq, Eq)]
 pub struct Utf8LossyChunk<'a> {
-    /// The sequences. Empty if the chunk begins with its invalid front.
+    /// The valid UTF-8. Empty if the chunk begins with its invalid front.
     pub valid: &'a str,
     /// The invalid front: a proper prefix of a sequence, or one byte that begins no sequence. It
     /// has at most 3 bytes, and can be empty only in the last chunk.
@@ -127,7 +127,7 @@ impl<'a> Iterator for Utf8LossyChunksIter<'a> {
 
 impl FusedIterator for Utf8LossyChunksIter<'_> {}
 
-// Writes the chunk's sequences, and U+FFFD for its invalid front.
+// Writes the chunk's valid UTF-8, and U+FFFD for its invalid front.
 fn write_chunk<W: fmt::Write>(chunk: Utf8LossyChunk<'_>, f: &mut fmt::Formatter<W>) -> fmt::Result
     ensures writes { WritesOnOk W.write_str_gives f.old result
         (shown_chunk (chunk_of chunk.entry)) f.new }
@@ -211,7 +211,7 @@ impl fmt::Debug for Utf8Lossy<'_> {
     }
 }
 
-// Writes the chunk's sequences with the escapes of the debug form, and U+FFFD for its invalid
+// Writes the chunk's valid UTF-8 with the escapes of the debug form, and U+FFFD for its invalid
 // front.
 fn write_escaped_chunk<W: fmt::Write>(
     chunk: Utf8LossyChunk<'_>,

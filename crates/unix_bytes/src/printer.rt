@@ -44,9 +44,9 @@ fn show_replacement(out: &mut [u8], at: usize) -> usize
     at + 3
 }
 
-// Writes the lossy form of the first front into `out` at index `at`. The source must have at least
-// four bytes, and its first byte must not be ASCII. Returns how many bytes were read, and the index
-// in `out` just after the bytes written.
+// Writes the lossy form of the first front of `source` into `out` at index `at`. `source` must have
+// at least four bytes, and its first byte must not be ASCII. Returns how many bytes were read, and
+// the index in `out` just after the bytes written.
 #[inline(always)]
 #[tactic(auto, using(crate::proofs::lemmas::prefixes::PrinterLemmas::front_bounds))]
 fn show_front(source: &[u8], out: &mut [u8], at: usize) -> (usize, usize)
@@ -67,12 +67,13 @@ fn show_front(source: &[u8], out: &mut [u8], at: usize) -> (usize, usize)
     }
 }
 
-// Writes into `out` at index `at` either 16 bytes of ASCII, or the ASCII bytes before the first
-// front that is not ASCII and then the lossy form of this front. Returns how many bytes were read,
-// and the index in `out` just after the bytes written.
+// Writes the lossy form of a prefix of `source` into `out` at index `at`. If the first 16 bytes are
+// ASCII, they are the prefix; otherwise the prefix ends with the first front that is not ASCII.
+// Returns how many bytes were read, and the index in `out` just after the bytes written.
 //
-// Reads nothing where a long run seems to begin, because a long run is read faster all at once: if
-// the first 64 bytes are ASCII, or if `may_begin` is true and the eighth byte is not ASCII.
+// Reads nothing if the first 64 bytes are ASCII, or if `may_begin` is true and the eighth byte is
+// not ASCII. Then a long run of valid UTF-8 seems to begin, which the caller reads faster all at
+// once.
 #[inline(always)]
 fn show_block(source: &[u8], out: &mut [u8], at: usize) -> (usize, usize)
     requires some { 20 ≤ length source.now }
@@ -103,9 +104,9 @@ fn show_block(source: &[u8], out: &mut [u8], at: usize) -> (usize, usize)
     (ascii + size, end)
 }
 
-// Writes the lossy form of the first front into `out` at index `at`. The source may have fewer than
-// four bytes, and its first byte must not be ASCII. Returns how many bytes were read, and the index
-// in `out` just after the bytes written.
+// Writes the lossy form of the first front of `source` into `out` at index `at`. `source` may have
+// fewer than four bytes, and its first byte must not be ASCII. Returns how many bytes were read,
+// and the index in `out` just after the bytes written.
 #[inline(never)]
 #[tactic(auto, using(crate::proofs::lemmas::prefixes::PrinterLemmas::front_bounds))]
 fn show_last_front(source: &[u8], out: &mut [u8], at: usize) -> (usize, usize)
@@ -126,8 +127,8 @@ fn show_last_front(source: &[u8], out: &mut [u8], at: usize) -> (usize, usize)
     }
 }
 
-// Writes the lossy form of the first front into `out` at index `at`. Returns how many bytes were
-// read, and the index in `out` just after the bytes written.
+// Writes the lossy form of the first front of `source` into `out` at index `at`. Returns how many
+// bytes were read, and the index in `out` just after the bytes written.
 #[inline(always)]
 fn show_one_front(source: &[u8], out: &mut [u8], at: usize) -> (usize, usize)
     requires some { 0 < length source.now }

@@ -6,8 +6,8 @@ ghost use Rattle.unix_bytes.specs.Lanes.{hit_mask};
 
 use std::simd::prelude::*;
 
-// Returns a bit for each of the 16 bytes from `at` on, the lowest for the first. A bit is set if
-// and only if its byte is `byte`.
+// Returns a mask of the 16 bytes from `at` on, whose lowest bit is for the first byte. A bit is set
+// if and only if its byte equals `byte`.
 #[inline]
 fn hits(bytes: &[u8], at: usize, byte: u8) -> u64
     requires { at + 16 ≤ length bytes.now }
@@ -191,8 +191,8 @@ pub fn after_last_of_two(bytes: &[u8], first: u8, second: u8) -> usize
     after_last_of_two_scalar(bytes, end, first, second)
 }
 
-// Returns the length of the longest common prefix, comparing one byte at a time. `shorter_len` must
-// be the length of the shorter byte string.
+// Returns the length of the longest common prefix of `a` and `b`, comparing one byte at a time.
+// `shorter_len` must be the length of the shorter byte string.
 #[inline]
 fn common_len_scalar(a: &[u8], b: &[u8], shorter_len: usize) -> usize
     requires { shorter_len ≡ min (length a.now) (length b.now) }
@@ -206,8 +206,8 @@ fn common_len_scalar(a: &[u8], b: &[u8], shorter_len: usize) -> usize
     len
 }
 
-// Returns how many of the 16 bytes from `at` on come before the first at which `a` and `b` differ,
-// or 16 if they are the same.
+// Compares the 16 bytes of `a` and of `b` from `at` on. Returns how many bytes come before the
+// first difference, or 16 if there is none.
 #[inline]
 fn common_len_simd16(a: &[u8], b: &[u8], at: usize) -> usize
     requires in_first { at + 16 ≤ length a.now }
@@ -228,8 +228,8 @@ fn common_len_simd16(a: &[u8], b: &[u8], at: usize) -> usize
     }
 }
 
-// Returns how many of the 8 bytes from `at` on come before the first at which `a` and `b` differ,
-// or 8 if they are the same.
+// Compares the 8 bytes of `a` and of `b` from `at` on. Returns how many bytes come before the first
+// difference, or 8 if there is none.
 #[inline]
 fn common_len_simd8(a: &[u8], b: &[u8], at: usize) -> usize
     requires in_first { at + 8 ≤ length a.now }
@@ -250,9 +250,9 @@ fn common_len_simd8(a: &[u8], b: &[u8], at: usize) -> usize
     }
 }
 
-// Returns the length of the longest common prefix. `shorter_len` must be the length of the shorter
-// byte string, and less than 16. If it is at least 8, compares the first 8 bytes at once, and then
-// the 8 bytes before index `shorter_len`.
+// Returns the length of the longest common prefix of `a` and `b`. `shorter_len` must be the length
+// of the shorter byte string, and less than 16. If `shorter_len` is at least 8, compares the first
+// 8 bytes at once, and then the 8 bytes before index `shorter_len`.
 #[inline]
 fn common_len_under_16(a: &[u8], b: &[u8], shorter_len: usize) -> usize
     requires lesser { shorter_len ≡ min (length a.now) (length b.now) }
@@ -283,8 +283,8 @@ fn is_common_simd64(a: &[u8], b: &[u8], at: usize) -> bool
     other.to_bitmask() == 0
 }
 
-// Returns the length of a common prefix, found in whole blocks of 64 bytes. `shorter_len` must be
-// the length of the shorter byte string.
+// Returns the length of a common prefix of `a` and `b`, which is a multiple of 64. Compares blocks
+// of 64 bytes. `shorter_len` must be the length of the shorter byte string.
 #[inline]
 fn common_blocks_len(a: &[u8], b: &[u8], shorter_len: usize) -> usize
     requires { shorter_len ≡ min (length a.now) (length b.now) }

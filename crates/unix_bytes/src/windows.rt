@@ -50,8 +50,8 @@ fn max_after(bytes: u8x16) -> u8x16
     select_eq(bytes, 0xED, 0x9F, four)
 }
 
-// Returns a bit for each byte, the lowest for the first. A bit is set if and only if its byte is
-// not less than `min`.
+// Returns a mask of the bytes, whose lowest bit is for the first byte. A bit is set if and only if
+// its byte is at least `min`.
 #[inline(always)]
 pub(crate) fn lanes_ge(bytes: u8x16, min: u8) -> u64
     ensures bits { result ≡ mask_l (map (nat_le min) bytes) }
@@ -60,7 +60,7 @@ pub(crate) fn lanes_ge(bytes: u8x16, min: u8) -> u64
     bytes.simd_ge(u8x16::splat(min)).to_bitmask()
 }
 
-// Returns true only if no byte is less than the bound in the same lane.
+// Returns true only if each byte is at least the bound in the same lane.
 #[inline(always)]
 fn all_lanes_ge(bytes: u8x16, bounds: u8x16) -> bool
     ensures { IsTrue result → AllAtLeast bytes bounds }
@@ -68,9 +68,9 @@ fn all_lanes_ge(bytes: u8x16, bounds: u8x16) -> bool
     bytes.simd_lt(bounds).to_bitmask() == 0
 }
 
-// Returns true only if each byte after an unfinished sequence is a tail byte, and each other byte
-// is ASCII or at least C2. The three bytes before a byte are in the same lane of `first`, `second`
-// and `third`.
+// Returns true only if each byte of `bytes` that comes after an unfinished sequence is a tail byte,
+// and each other byte of `bytes` is ASCII or at least C2. In each lane, `first`, `second` and
+// `third` have the three bytes that come before the byte of `bytes`.
 #[inline(always)]
 fn all_continue(first: u8x16, second: u8x16, third: u8x16, bytes: u8x16) -> bool
     ensures { IsTrue result → AllContinue first second third bytes }
@@ -81,7 +81,8 @@ fn all_continue(first: u8x16, second: u8x16, third: u8x16, bytes: u8x16) -> bool
     lanes_ge(unfinished, 0x80) + begin == lanes_ge(bytes, 0x80) && begin == lanes_ge(bytes, 0xC2)
 }
 
-// Returns true only if each of the 16 bytes after the first three may follow the three before it.
+// Returns true only if each of the 16 bytes from index 3 on may follow the three bytes before it in
+// UTF-8.
 #[inline(always)]
 fn fits(window: &[u8]) -> bool
     requires { 19 ≤ length window.now }
@@ -96,7 +97,8 @@ fn fits(window: &[u8]) -> bool
         && all_lanes_ge(max_after(third), bytes)
 }
 
-// Returns the number of bytes at the end of the window that belong to an unfinished sequence.
+// Returns how many of the first 19 bytes belong to a sequence that is unfinished after them: 0 to
+// 3.
 #[inline(always)]
 fn unfinished_len(window: &[u8]) -> usize
     requires { 19 ≤ length window.now }
@@ -115,9 +117,8 @@ fn unfinished_len(window: &[u8]) -> usize
     }
 }
 
-// Returns the length of a valid prefix of the 16 bytes after the first three, or 0 if one of the 16
-// may not follow the three bytes before it. The first three bytes must leave no sequence
-// unfinished.
+// Returns the length of a valid prefix of the 16 bytes from index 3 on, or 0 if one of the 16 may
+// not follow the three bytes before it. The first three bytes must leave no sequence unfinished.
 #[inline(always)]
 pub(crate) fn window_len(window: &[u8]) -> usize
     requires some { 19 ≤ length window.now }

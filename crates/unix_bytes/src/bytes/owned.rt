@@ -128,8 +128,8 @@ impl UnixString {
         self.bytes.truncate(len);
     }
 
-    /// Reserves spare capacity for at least `count` more bytes. If it has to grow, it may reserve
-    /// more.
+    /// Reserves spare capacity for at least `count` more bytes. If the byte string has to grow, the
+    /// call may reserve more than that.
     ///
     /// Allocates only if the spare capacity is less than `count`. If the allocation fails, the
     /// bytes are unchanged.
@@ -144,8 +144,8 @@ impl UnixString {
         self.bytes.reserve(count)
     }
 
-    /// Reserves spare capacity for at least `count` more bytes. If it has to grow, it reserves no
-    /// more.
+    /// Reserves spare capacity for at least `count` more bytes. If the byte string has to grow, the
+    /// call reserves no more than that.
     ///
     /// Allocates only if the spare capacity is less than `count`. If the allocation fails, the
     /// bytes are unchanged.
@@ -178,9 +178,9 @@ impl UnixString {
 
     /// Lowers the capacity to `min_capacity`, or to the length if that is greater.
     ///
-    /// If the capacity is no greater than that already, allocates nothing and changes nothing.
-    /// Otherwise moving the bytes can fail. Then the bytes are unchanged, and the capacity is no
-    /// greater than before.
+    /// If the capacity is already as low, the call allocates nothing and changes nothing. Otherwise
+    /// moving the bytes can fail. Then the bytes are unchanged, and the capacity is no greater than
+    /// before.
     ///
     /// For `foo` with the capacity 10, `shrink_to(5)` makes the capacity 5, and `shrink_to(0)`
     /// makes it 3.
@@ -231,7 +231,7 @@ impl<'a> UnixStr<'a> {
     }
 }
 
-/// Keeps the bytes of the vector, in the same memory. Corresponds to Rust's
+/// Makes a byte string of the vector's bytes, in the same memory. Corresponds to Rust's
 /// `OsStringExt::from_vec`.
 ///
 /// A vector of the 3 bytes of `tmp` becomes the byte string `tmp`.
@@ -244,7 +244,7 @@ impl From<Vec<u8>> for UnixString {
     }
 }
 
-/// Keeps the bytes of the string, in the same memory.
+/// Makes a byte string of the string's bytes, in the same memory.
 ///
 /// The string `tmp` becomes the byte string `tmp`.
 impl From<String> for UnixString {
@@ -258,7 +258,7 @@ impl From<String> for UnixString {
     }
 }
 
-/// The order of `cmp`.
+/// Returns the order that `cmp` returns, and never `None`.
 impl PartialOrd for UnixString {
     ghost partial_cmp = { λ x y. Some (slice_cmp nat_cmp (owned_bytes x) (owned_bytes y)) };
 

@@ -84,7 +84,7 @@ impl Eq for LossyText<'_> {
     ghost laws = { on_equiv text_bytes nat_list_eq_equiv };
 }
 
-/// The order of `cmp`.
+/// Returns the order that `cmp` returns, and never `None`.
 impl PartialOrd for LossyText<'_> {
     ghost partial_cmp = { λ x y. Some (slice_cmp nat_cmp (text_bytes x) (text_bytes y)) };
 

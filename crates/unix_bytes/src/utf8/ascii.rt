@@ -6,8 +6,8 @@ ghost use Rattle.unix_bytes.specs.Lanes.{non_ascii_mask};
 use crate::windows::lanes_ge;
 use std::simd::{u8x8, u8x16, u8x64};
 
-// Returns a bit for each of the 16 bytes from `at` on, the lowest for the first. A bit is set if
-// and only if its byte is not ASCII.
+// Returns a mask of the 16 bytes from `at` on, whose lowest bit is for the first byte. A bit is set
+// if and only if its byte is not ASCII.
 #[inline(always)]
 pub(crate) fn non_ascii_bits(source: &[u8], at: usize) -> u64
     requires { at + 16 ≤ length source.now }
@@ -26,7 +26,7 @@ pub(crate) fn is_ascii_simd64(source: &[u8], at: usize) -> bool
     block.simd_ge(u8x64::splat(0x80)).to_bitmask() == 0
 }
 
-// Returns the length of a prefix that is ASCII, read in whole blocks of 64 bytes.
+// Returns the length of an ASCII prefix, which is a multiple of 64. Reads blocks of 64 bytes.
 fn ascii_blocks_len(source: &[u8]) -> usize
     ensures bound { result ≤ length source.now }
     ensures ascii { IsAscii (take result source.now) }
@@ -38,8 +38,9 @@ fn ascii_blocks_len(source: &[u8]) -> usize
     at
 }
 
-// Returns the length of a prefix that is ASCII, read in blocks of 64 bytes and then 16 bytes at a
-// time. The last 16 bytes may overlap the bytes before them.
+// Returns the length of an ASCII prefix of `source`, which must have at least 16 bytes. Reads
+// blocks of 64 bytes, and then 16 bytes at a time. The last 16 bytes are read at once, even if some
+// of them were read before.
 fn ascii_len(source: &[u8]) -> usize
     requires { 16 ≤ length source.now }
     ensures bound { result ≤ length source.now }
@@ -62,7 +63,7 @@ fn ascii_len(source: &[u8]) -> usize
     last + non_ascii.trailing_zeros() as usize
 }
 
-// Returns the length of a prefix that is ASCII, read one byte at a time.
+// Returns the length of an ASCII prefix, reading one byte at a time.
 #[tactic(auto, using(crate::proofs::lemmas::vectors::LaneLemmas::one_more_ascii))]
 fn ascii_len_scalar(source: &[u8]) -> usize
     ensures bound { result ≤ length source.now }
@@ -98,8 +99,8 @@ fn is_short_ascii(source: &[u8]) -> bool
     is_ascii_simd8(source, 0) && is_ascii_simd8(source, source.len() - 8)
 }
 
-// Returns the length of a prefix that is ASCII, at least 1. The first byte must be ASCII. Returns 1
-// if there are fewer than 8 bytes, or if the second byte is not ASCII.
+// Returns the length of an ASCII prefix, at least 1. The first byte must be ASCII. Returns 1 if
+// there are fewer than 8 bytes, or if the second byte is not ASCII.
 #[inline(always)]
 pub(crate) fn ascii_prefix_len(source: &[u8]) -> usize
     requires some { 0 < length source.now }
@@ -120,7 +121,8 @@ pub(crate) fn ascii_prefix_len(source: &[u8]) -> usize
     }
 }
 
-// Returns the index of the first of 16 bytes that is not ASCII, or 16 if there is none.
+// Returns the index of the first byte that is not ASCII among the first 16 bytes, or 16 if all 16
+// are ASCII.
 #[inline(always)]
 pub(crate) fn ascii_len_simd16(source: &[u8]) -> usize
     requires { 16 ≤ length source.now }

@@ -20,7 +20,8 @@ pub(crate) fn may_begin(source: &[u8]) -> bool
     is_lead(source[0]) && 1 < source.len() && is_tail(source[1])
 }
 
-// Returns true if and only if there are two bytes and some sequence begins with them.
+// Returns true if and only if there are at least two bytes and some sequence begins with the first
+// two.
 #[inline(always)]
 #[tactic(auto, using(crate::proofs::lemmas::sequences::HasBegunLemmas::beginnings))]
 fn begins_two(source: &[u8]) -> bool
@@ -30,8 +31,8 @@ fn begins_two(source: &[u8]) -> bool
     1 < source.len() && may_follow(source[0], source[1])
 }
 
-// Returns true if and only if there are three bytes and some sequence begins with them. The first
-// byte must be at least E0.
+// Returns true if and only if there are at least three bytes and some sequence begins with the
+// first three. The first byte must be at least E0.
 #[inline(always)]
 #[tactic(auto, using(crate::proofs::lemmas::sequences::HasBegunLemmas::all_beginnings))]
 fn begins_three(source: &[u8]) -> bool
@@ -42,8 +43,8 @@ fn begins_three(source: &[u8]) -> bool
     2 < source.len() && begins_two(source) && is_tail(source[2])
 }
 
-// Returns true if and only if there are four bytes and some sequence begins with them. The first
-// byte must be at least F0.
+// Returns true if and only if there are at least four bytes and some sequence begins with the first
+// four. The first byte must be at least F0.
 #[inline(always)]
 #[tactic(auto, using(crate::proofs::lemmas::sequences::HasBegunLemmas::all_beginnings))]
 pub(crate) fn begins_four(source: &[u8]) -> bool
@@ -54,8 +55,8 @@ pub(crate) fn begins_four(source: &[u8]) -> bool
     3 < source.len() && begins_three(source) && is_tail(source[3])
 }
 
-// Returns the length of the sequence at the beginning as `Ok`, or the length of the invalid front
-// there as `Err`. The first byte must not be ASCII.
+// Returns `Ok` with the length of the leading sequence, or `Err` with the length of the leading
+// invalid front. The first byte must not be ASCII.
 #[inline(always)]
 #[tactic(auto, using(crate::proofs::lemmas::lossy::BrokenLemmas::two_byte_fronts))]
 pub(crate) fn non_ascii_front(source: &[u8]) -> Result<usize, usize>
@@ -78,8 +79,8 @@ pub(crate) fn non_ascii_front(source: &[u8]) -> Result<usize, usize>
     Err(1)
 }
 
-// Returns the length of the sequence at the beginning as `Ok`, or the length of the invalid front
-// there as `Err`. The first byte must be from E0 to EF.
+// Returns `Ok` with the length of the leading sequence, or `Err` with the length of the leading
+// invalid front. The first byte must be from E0 to EF.
 #[inline(always)]
 #[tactic(auto, using(crate::proofs::lemmas::lossy::BrokenLemmas::three_byte_fronts))]
 fn three_front(source: &[u8]) -> Result<usize, usize>
@@ -96,8 +97,8 @@ fn three_front(source: &[u8]) -> Result<usize, usize>
     if begins_two(source) { Err(2) } else { Err(1) }
 }
 
-// Returns the length of the sequence at the beginning as `Ok`, or the length of the invalid front
-// there as `Err`. The first byte must be at least F0.
+// Returns `Ok` with the length of the leading sequence, or `Err` with the length of the leading
+// invalid front. The first byte must be at least F0.
 #[inline(always)]
 #[tactic(auto, using(crate::proofs::lemmas::lossy::BrokenLemmas::four_byte_fronts))]
 fn four_front(source: &[u8]) -> Result<usize, usize>

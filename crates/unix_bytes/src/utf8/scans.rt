@@ -9,9 +9,9 @@ use crate::utf8::classes::{is_lead_of_four, is_lead_of_two, is_tail};
 use crate::utf8::fronts::{begins_four, may_begin, non_ascii_front};
 use crate::windows::window_len;
 
-// Returns two lengths: of the longest prefix that is valid UTF-8, and of the invalid front after
-// it. Scans no further if there are at least 16 bytes, the first byte that is not ASCII is among
-// the first 16, and `may_begin` is false there.
+// Returns the length of the longest prefix that is valid UTF-8, and the length of the invalid front
+// after it. If there are at least 16 bytes, and `may_begin` is false at the first byte that is not
+// ASCII among the first 16, the scan ends at that byte.
 #[inline(always)]
 #[tactic(auto, using(crate::proofs::lemmas::prefixes::TextPrefixLemmas::none_is_text))]
 pub(crate) fn scan_text(source: &[u8]) -> (usize, usize)
@@ -28,8 +28,8 @@ pub(crate) fn scan_text(source: &[u8]) -> (usize, usize)
     scan_from_non_ascii(source, at)
 }
 
-// Returns two lengths: of the longest prefix that is valid UTF-8, and of the invalid front after
-// it. The bytes before `at` must be valid UTF-8, and the byte at `at` must not be ASCII.
+// Returns the length of the longest prefix that is valid UTF-8, and the length of the invalid front
+// after it. The bytes before `at` must be valid UTF-8, and the byte at `at` must not be ASCII.
 #[inline(always)]
 fn scan_from_non_ascii(source: &[u8], at: usize) -> (usize, usize)
     requires some { at < length source.now }
@@ -44,8 +44,8 @@ fn scan_from_non_ascii(source: &[u8], at: usize) -> (usize, usize)
     (at, 1)
 }
 
-// Returns two lengths: of the longest prefix that is valid UTF-8, and of the invalid front after
-// it. The bytes before `from` must be valid UTF-8.
+// Returns the length of the longest prefix that is valid UTF-8, and the length of the invalid front
+// after it. The bytes before `from` must be valid UTF-8.
 #[inline(always)]
 pub(crate) fn scan(source: &[u8], from: usize) -> (usize, usize)
     requires bound { from ≤ length source.now }
@@ -60,9 +60,9 @@ pub(crate) fn scan(source: &[u8], from: usize) -> (usize, usize)
     }
 }
 
-// Returns two lengths: of the longest prefix that is valid UTF-8, and of the invalid front after
-// it. The bytes before `from` must be valid UTF-8. Reads one sequence or one run of sequences at a
-// time, which is faster for few bytes.
+// Returns the length of the longest prefix that is valid UTF-8, and the length of the invalid front
+// after it. The bytes before `from` must be valid UTF-8. Reads one sequence or one run of sequences
+// at a time, which is faster for few bytes.
 #[inline(never)]
 fn scan_by_sequence(source: &[u8], from: usize) -> (usize, usize)
     requires bound { from ≤ length source.now }
@@ -118,9 +118,9 @@ fn four_byte_prefix_len(source: &[u8]) -> usize
     source.len() - rest.len()
 }
 
-// Returns two lengths: of the longest prefix that is valid UTF-8, and of the invalid front after
-// it. The bytes before `from` must be valid UTF-8. After each sequence that is not ASCII, tries to
-// read windows of 16 bytes (`text_end`), which is faster for many bytes.
+// Returns the length of the longest prefix that is valid UTF-8, and the length of the invalid front
+// after it. The bytes before `from` must be valid UTF-8. After each sequence that is not ASCII,
+// tries to read windows of 16 bytes (`text_end`), which is faster for many bytes.
 #[inline(never)]
 fn scan_by_window(source: &[u8], from: usize) -> (usize, usize)
     requires bound { from ≤ length source.now }
@@ -144,8 +144,8 @@ fn scan_by_window(source: &[u8], from: usize) -> (usize, usize)
 
 // Returns an index, at least `from`, before which all bytes are valid UTF-8. The bytes before
 // `from` must be valid UTF-8. Reads one window of 16 bytes at a time. Stops where fewer than 16
-// bytes remain, at a window of only ASCII, and at a window in which a byte may not follow the three
-// before it. Returns `from` at once if `from` is less than 3.
+// bytes remain, at a window of only ASCII, and at a window with a byte that may not follow the
+// three bytes before it. Returns `from` at once if `from` is less than 3.
 #[inline(always)]
 fn text_end(source: &[u8], from: usize) -> usize
     requires bound { from ≤ length source.now }

@@ -47,7 +47,7 @@ pub first_chunk_of-text : (s : List ℕ) → IsText (first_chunk_of s).valid
 unfolding first_chunk_of
 first_chunk_of-text s = text_prefix s
 
--- of the bytes after the longest valid prefix, no prefix is a sequence
+-- no sequence begins just after the longest valid prefix
 pub none_after_text : (s : List ℕ)
     → longest_len is_sequence (drop (longest_len is_text s) s) ≡ 0
 none_after_text s =
@@ -94,7 +94,7 @@ pub chunks_of-empty : (s : List ℕ) → length s ≡ 0 → chunks_of s ≡ []
 chunks_of-empty [] e = chunks_of-nil
 chunks_of-empty (b ∷ bs) e = absurd (omega arith)
 
--- sequences are appended to the `valid` part of a chunk
+-- leading fronts us that are sequences are appended to `text`, the `valid` part of the chunk
 chunks_from-sequences : (us : List (List ℕ)) (text : List ℕ) (rest : List (List ℕ))
     → list_all is_sequence us ≡ true
     → chunks_from text (us ++ rest) ≡ chunks_from (text ++ concat us) rest
@@ -105,7 +105,8 @@ chunks_from-sequences (u ∷ us) text rest h =
     cond-true _ _ _ k.0 ∙ chunks_from-sequences us (text ++ u) rest k.1
     ∙ ap (λ t. chunks_from t rest) (append_assoc text u (concat us))
 
--- an invalid front, or the end, ends a chunk
+-- if no prefix of t is a sequence, the chunk with the `valid` part `text` ends with the first front
+-- of t, which is empty if t is
 chunks_from-rest : (text t : List ℕ) → longest_len is_sequence t ≡ 0 → 0 < length (text ++ t)
     → chunks_from text (fronts_of t) ≡ record { valid = text; broken = longest_front_of t }
     ∷ chunks_from [] (fronts_of (drop (length (longest_front_of t)) t))
@@ -147,7 +148,8 @@ chunks_of-some b bs =
     ∙ ap (λ x. first_chunk_of s ∷ chunks_of x)
     (drop-drop k n s ∙ ap (λ j. drop (j + k) s) (sym e))
 
--- if no prefix is a sequence, U+FFFD is shown for the first front, or nothing if there are no bytes
+-- if no prefix of t is a sequence, the lossy form of t is U+FFFD, or nothing if t is empty, and
+-- then the lossy form of the bytes after the first front
 lossy_of-rest : (t : List ℕ) → longest_len is_sequence t ≡ 0
     → lossy_of t ≡ replacement_for (longest_front_of t)
     ++ lossy_of (drop (length (longest_front_of t)) t)
@@ -160,7 +162,8 @@ lossy_of-rest (b ∷ bs) z =
     lossy_of-none b bs z
     ∙ ap (λ c. (if c then [] else replacement) ++ lossy_of (drop k s)) (sym e)
 
--- the lossy form is the first chunk as it is shown, and the lossy form of the rest
+-- the lossy form of s is the first chunk, shown with U+FFFD for its invalid front, and then the
+-- lossy form of the rest
 lossy_of-chunk : (s : List ℕ) → lossy_of s
     ≡ shown_chunk (first_chunk_of s) ++ lossy_of (drop (chunk_len (first_chunk_of s)) s)
 unfolding first_chunk_of
@@ -177,7 +180,7 @@ lossy_of-chunk s =
     ∙ ap (λ x. (v ++ mark) ++ lossy_of x)
     (drop-drop (length b) n s ∙ ap (λ j. drop (j + length b) s) (sym e))
 
--- the chunks of at most n bytes, as they are shown, are the lossy form
+-- if s has at most n bytes, its chunks as they are shown concatenate to its lossy form
 shows_lossy_within : (n : ℕ) (s : List ℕ) → length s ≤ n
     → flat_map shown_chunk (chunks_of s) ≡ lossy_of s
 shows_lossy_within n [] le = ap (flat_map shown_chunk) chunks_of-nil ∙ sym lossy_of-nil
@@ -191,6 +194,6 @@ shows_lossy_within (suc n) (b ∷ bs) le =
     (shows_lossy_within n (drop k s) (length-drop-some n k b bs (chunk_some b bs) le))
     ∙ sym (lossy_of-chunk s)
 
--- the chunks as they are shown are the lossy form
+-- the chunks of s as they are shown concatenate to its lossy form
 pub flat_map-shown_chunk : (s : List ℕ) → flat_map shown_chunk (chunks_of s) ≡ lossy_of s
 flat_map-shown_chunk s = shows_lossy_within (length s) s (le_refl (length s))

@@ -13,7 +13,7 @@ use Rattle.unix_bytes.proofs.lemmas.chunks.ChunkLemmas.{whole_text, chunks_of-ni
 use Rattle.unix_bytes.proofs.lemmas.chunks.ChunkLemmas.{first_chunk_of-text, flat_map-shown_chunk}
 use Rattle.unix_bytes.proofs.lemmas.chunks.PartitionLemmas.{chunks_partition, whole_chunk_is_last}
 
--- the first chunk is `first_chunk_of`
+-- the first chunk of s is `first_chunk_of s`
 pub first_chunk_is : (s : List ℕ) (c : Chunk) (cs : List Chunk) → chunks_of s ≡ c ∷ cs
     → first_chunk_of s ≡ c
 first_chunk_is [] c cs e = let h = chunks_of-nil in cc
@@ -35,7 +35,7 @@ only_text s c cs e z =
     subst IsText (ap (λ (x : Chunk). x.valid) (first_chunk_is s c cs e) ∙ only_chunk s c cs e z)
     (first_chunk_of-text s)
 
--- the first chunk and the chunks after it, as they are shown, are the lossy form
+-- the first chunk and the chunks after it, as they are shown, concatenate to the lossy form
 pub lossy_of-first_chunk : (s : List ℕ) (c : Chunk) (cs : List Chunk) → chunks_of s ≡ c ∷ cs
     → shown_chunk c ++ flat_map shown_chunk cs ≡ lossy_of s
 lossy_of-first_chunk s c cs e = ap (flat_map shown_chunk) (sym e) ∙ flat_map-shown_chunk s

@@ -22,7 +22,7 @@ use Rattle.unix_bytes.proofs.lemmas.chunks.ChunkLemmas.{chunks_of-nil}
 use Rattle.unix_bytes.proofs.lemmas.chunks.ChunkLemmas.{chunks_of-some}
 use Rattle.unix_bytes.proofs.lemmas.lossy.LawLemmas.{longest_front_is_short}
 
--- the first chunk and the chunks of the rest fit `FollowFirst`
+-- `FollowFirst` holds of the first chunk and the chunks of the rest
 follow_first : (s : List ℕ)
     → FollowFirst s (first_chunk_of s) (chunks_of (drop (chunk_len (first_chunk_of s)) s))
 unfolding first_chunk_of
@@ -52,7 +52,7 @@ chunks_of_some (b ∷ bs) c cs e =
     subst (λ x. FollowFirst s x cs) first
     (subst (λ xs. FollowFirst s (first_chunk_of s) xs) rest (follow_first s))
 
--- at most n bytes have no more chunks than bytes
+-- if s has at most n bytes, it has no more chunks than bytes
 length_within : (n : ℕ) (s : List ℕ) → length s ≤ n → length (chunks_of s) ≤ length s
 length_within n [] le = omega (arith, ap length chunks_of-nil)
 length_within zero (b ∷ bs) le = absurd (omega arith)
@@ -66,7 +66,7 @@ length_within (suc n) (b ∷ bs) le =
 pub length-chunks_of : (s : List ℕ) → length (chunks_of s) ≤ length s
 length-chunks_of s = length_within (length s) s (le_refl (length s))
 
--- a prefix, a prefix of the rest, and what remains after both are together the bytes
+-- the first n bytes, at most k bytes after them, and the remaining bytes concatenate to s
 two_prefixes : (s : List ℕ) (n k : ℕ) → n ≤ length s
     → (take n s ++ take k (drop n s)) ++ drop (length (take n s) + length (take k (drop n s))) s ≡ s
 two_prefixes s n k w =
@@ -80,7 +80,7 @@ two_prefixes s n k w =
     append_assoc v b _ ∙ ap (λ x. v ++ (b ++ x)) back
     ∙ ap (λ x. v ++ x) (sym e) ∙ take-append-drop n s
 
--- the two parts of the first chunk, and the rest, are together the bytes
+-- the two parts of the first chunk and the bytes after it concatenate to s
 first_chunk_of-drop : (s : List ℕ) → (first_chunk_of s).valid ++ (first_chunk_of s).broken
     ++ drop (chunk_len (first_chunk_of s)) s ≡ s
 unfolding first_chunk_of longest_front_of
@@ -89,7 +89,7 @@ first_chunk_of-drop s =
     let k = max 1 (longest_len begins_sequence (drop n s)) in
     two_prefixes s n k (longest_len-longest is_text s).within
 
--- the chunks of at most n bytes, one after the other, are the bytes
+-- if s has at most n bytes, its chunks concatenate to s
 partition_within : (n : ℕ) (s : List ℕ) → length s ≤ n
     → flat_map (λ c. c.valid ++ c.broken) (chunks_of s) ≡ s
 partition_within n [] l = ap (flat_map (λ c. c.valid ++ c.broken)) chunks_of-nil
@@ -115,7 +115,7 @@ first_is_short s = longest_front_is_short (drop (longest_len is_text s) s) (none
 abbrev IsShort : Chunk → Type 0
 IsShort c = length c.broken ≤ 3
 
--- at most three bytes of each chunk of at most n bytes are invalid
+-- if s has at most n bytes, at most three bytes of each of its chunks are invalid
 short_within : (n : ℕ) (s : List ℕ) → length s ≤ n → All IsShort (chunks_of s)
 short_within n [] l = subst (All IsShort) (sym chunks_of-nil) (All-nil IsShort)
 short_within zero (b ∷ bs) l = absurd (omega arith)
@@ -137,7 +137,7 @@ longest_front_of-empty (b ∷ bs) e =
     let none : length (longest_front_of (b ∷ bs)) ≡ 0 = ap length e in
     absurd (omega arith)
 
--- if the first chunk has no invalid bytes, nothing follows it
+-- if the first chunk has no invalid bytes, no byte follows it
 nothing_follows : (s : List ℕ) → (first_chunk_of s).broken ≡ []
     → drop (chunk_len (first_chunk_of s)) s ≡ []
 unfolding first_chunk_of
@@ -148,7 +148,7 @@ nothing_follows s e =
     omega (arith, v, ap length e) in
     ap (λ j. drop j s) k ∙ longest_front_of-empty (drop n s) e
 
--- among the chunks of at most n bytes, a chunk without invalid bytes is the last
+-- if s has at most n bytes, a chunk of s without invalid bytes is the last
 last_within : (n : ℕ) (s : List ℕ) (before after : List Chunk) (c : Chunk) → length s ≤ n
     → chunks_of s ≡ before ++ c ∷ after → c.broken ≡ [] → after ≡ []
 last_within n [] [] after c l e z = let h = chunks_of-nil in cc

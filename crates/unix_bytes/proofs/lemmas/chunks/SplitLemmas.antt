@@ -9,7 +9,8 @@ use Rattle.unix_bytes.specs.Steps.{chunk_len, rest_after_text, Splits}
 use Rattle.unix_bytes.proofs.lemmas.lossy.BrokenLemmas.{longest_front_of-none}
 use Rattle.unix_bytes.proofs.lemmas.chunks.ChunkLemmas.{none_after_text, chunks_of-some}
 
--- the chunks of bytes whose first chunk and rest are known
+-- if s is `valid`, `broken` and then `rest`, and the first two are its first chunk, then the chunks
+-- of s are this chunk and the chunks of `rest`
 chunks_of-parts : (s valid broken rest : List ℕ) → 0 < length s → s ≡ valid ++ (broken ++ rest)
     → first_chunk_of s ≡ record { valid = valid; broken = broken }
     → chunks_of s ≡ record { valid = valid; broken = broken } ∷ chunks_of rest

@@ -6,7 +6,7 @@ use Rattle.std.specs.List.{last_or}
 use Rattle.std.specs.Prelude.{slice_range}
 use Rattle.std.proofs.lemmas.List.{length-take, take-take}
 
--- a goal that holds if b is true, and if b is false, holds
+-- a goal holds if it holds both when b is true and when b is false
 pub by_test : {G : Type 0} (b : Bool) → (b ≡ true → G) → (b ≡ false → G) → G
 by_test true holds fails = holds refl
 by_test false holds fails = fails refl
@@ -29,7 +29,7 @@ take-take_front zero s = refl
 take-take_front (suc n) [] = refl
 take-take_front (suc n) (b ∷ s) = ap (λ t. b ∷ t) (take-take_front n s)
 
--- the range from a to b has b - a bytes
+-- the range from index a up to b, exclusive, has b - a bytes
 pub length-range : (s : List ℕ) (a b : ℕ) → b ≤ length s → length (slice_range s a b) ≡ b - a
 length-range s a b l = omega (arith, length-take (b - a) (drop a s), length-drop a s)
 

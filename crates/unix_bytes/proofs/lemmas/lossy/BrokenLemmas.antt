@@ -1,4 +1,4 @@
--- The length of an invalid front at the beginning.
+-- The length of a leading invalid front.
 use Rattle.std.proofs.Common.{◌≡◌, ℕ, ◌<◌, ◌≤◌, List, [], ◌∷◌, length, take, drop, slice_index}
 use Rattle.std.proofs.Common.{⊎_elim, sym, ap, ◌∙◌, arith, take-append-drop, length-drop}
 use Rattle.std.proofs.lemmas.Bool.{cases_Bool, cond-true, cond-false}
@@ -60,22 +60,22 @@ broken_len_within s =
     let e : broken_len s ≡ length (longest_front_of s) = cond-false _ _ _ f in
     omega (arith, longest_front_within s)) (cases_Bool (is_sequence (longest_front_of s)))
 
--- the invalid front is one byte if that byte is not ASCII, and either no byte follows it or the
--- first two bytes begin no sequence
+-- if the first byte is not ASCII, and it is the only byte or the first two bytes begin no sequence,
+-- the invalid front has one byte
 pub one_byte_broken : (s : List ℕ) → 0 < length s → (HasBegun s 2 → ⊥) → 0x80 ≤ slice_index s 0
     → broken_len s ≡ 1
 one_byte_broken s some end non_ascii =
     broken_len-none s (none_of_two s end non_ascii) ∙ one_byte_front s some end
 
--- the invalid front is two bytes if these begin a sequence, the first three bytes begin none, and
--- the first is at least E0
+-- if the first byte is at least E0, the first two bytes begin a sequence, and there is no third
+-- byte or the first three begin none, the invalid front has two bytes
 pub two_byte_broken : (s : List ℕ) → HasBegun s 2 → (HasBegun s 3 → ⊥) → 0xE0 ≤ slice_index s 0
     → broken_len s ≡ 2
 two_byte_broken s h end non_ascii =
     broken_len-none s (none_of_three s end non_ascii) ∙ two_byte_front s h end
 
--- the invalid front at index i is one byte if that byte is not ASCII, and either it is the last
--- byte or the two bytes at i and i + 1 begin no sequence
+-- if the byte at index i is not ASCII, and it is the last byte or the bytes at i and i + 1 begin no
+-- sequence, the invalid front at index i has one byte
 pub one_broken_at : (s r : List ℕ) (i : ℕ) → r ≡ drop i s → i < length s → 0x80 ≤ slice_index s i
     → (HasBegun r 2 → ⊥) → 1 ≡ broken_len r
 one_broken_at s r i rest some non_ascii end =
@@ -83,8 +83,8 @@ one_broken_at s r i rest some non_ascii end =
     ap (λ t. slice_index t 0) rest ∙ first_of_drop i s in
     sym (one_byte_broken r (omega (arith, ap length rest, length-drop i s)) end (omega arith))
 
--- the invalid front is three bytes if these begin a sequence, the first four bytes begin none, and
--- the first is at least F0
+-- if the first byte is at least F0, the first three bytes begin a sequence, and there is no fourth
+-- byte or the first four begin none, the invalid front has three bytes
 pub three_byte_broken : (s : List ℕ) → HasBegun s 3 → (HasBegun s 4 → ⊥) → 0xF0 ≤ slice_index s 0
     → broken_len s ≡ 3
 three_byte_broken s h end non_ascii =

@@ -49,7 +49,7 @@ longest_front_begins b bs =
 abbrev MayStand : List ℕ → Type 0
 MayStand u = BeginsSequence u ⊎ (length u ≡ 1)
 
--- each front of at most n bytes begins a sequence, or is one byte
+-- if s has at most n bytes, each of its fronts begins a sequence, or is one byte
 may_stand_within : (n : ℕ) (s : List ℕ) → length s ≤ n → All MayStand (fronts_of s)
 may_stand_within n [] le = subst (All MayStand) (sym fronts_of-nil) (All-nil MayStand)
 may_stand_within zero (b ∷ bs) le = absurd (omega arith)
@@ -109,7 +109,7 @@ pub replacement_is_sequence : is_sequence replacement ≡ true
 unfolding is_sequence
 replacement_is_sequence = refl
 
--- what is shown for a front is a sequence
+-- the bytes that are shown for a front, either the front itself or U+FFFD, are a sequence
 shown_front_is_sequence : (u : List ℕ) → is_sequence (shown_front u) ≡ true
 shown_front_is_sequence u =
     ⊎_elim (λ t. ap is_sequence (cond-true _ _ _ t) ∙ t)
@@ -152,7 +152,7 @@ broken_is_short s none =
     subst (λ u. length u ≤ 3) (sym (front_of-longest s))
     (longest_front_is_short s (longest_len-BeginsWithNoSequence s none))
 
--- for each front a sequence is shown
+-- the bytes that are shown for each of the fronts us are a sequence
 shown_fronts_are_sequences : (us : List (List ℕ))
     → list_all is_sequence (map shown_front us) ≡ true
 shown_fronts_are_sequences [] = refl

@@ -10,7 +10,7 @@ use Rattle.unix_bytes.proofs.lemmas.sequences.FrontLemmas.{front_within}
 use Rattle.unix_bytes.proofs.lemmas.sequences.GrowLemmas.{fronts_of-some}
 use Rattle.unix_bytes.proofs.lemmas.lossy.LossyLemmas.{length-drop-some, lossy_of-nil, shown_front}
 
--- what is shown for a front of at least one byte is at most three times as long
+-- the bytes that are shown for a nonempty front are at most three times as long as the front
 length-shown_front : (u : List ℕ) → 1 ≤ length u → length (shown_front u) ≤ 3 * length u
 length-shown_front u some =
     ⊎_elim
@@ -18,7 +18,7 @@ length-shown_front u some =
     (λ f. let e : shown_front u ≡ replacement = cond-false _ _ _ f in omega (arith, ap length e))
     (cases_Bool (is_sequence u))
 
--- the lossy form of at most n bytes is at most three times as long as the bytes
+-- if s has at most n bytes, its lossy form is at most three times as long as s
 length-lossy_within : (n : ℕ) (s : List ℕ) → length s ≤ n → length (lossy_of s) ≤ 3 * length s
 unfolding lossy_of
 length-lossy_within n [] le = omega (arith, ap length lossy_of-nil)

@@ -19,7 +19,7 @@ use Rattle.unix_bytes.proofs.lemmas.sequences.FrontLemmas.{longest_front_of-take
 use Rattle.unix_bytes.proofs.lemmas.sequences.FrontLemmas.{front_within}
 use Rattle.unix_bytes.proofs.lemmas.sequences.GrowLemmas.{fronts_of-nil, fronts_of-some}
 
--- what is shown for a front: a sequence unchanged, and U+FFFD for an invalid front
+-- the bytes that are shown for a front: a sequence unchanged, and U+FFFD for an invalid front
 abbrev pub shown_front : List ℕ → List ℕ
 shown_front u = if is_sequence u then u else replacement
 
@@ -32,7 +32,7 @@ fronts_of-sequence (b ∷ u) s h =
     ∙ ap (λ f. f ∷ fronts_of (drop (length f) (b ∷ u ++ s))) e
     ∙ ap (λ t. (b ∷ u) ∷ fronts_of t) (drop_at (b ∷ u) s (length (b ∷ u)) refl)
 
--- sequences, one after the other, and then s are cut into these sequences and the fronts of s
+-- the fronts of the sequences us followed by s are the sequences us and then the fronts of s
 fronts_of-concat : (us : List (List ℕ)) (s : List ℕ) → list_all is_sequence us ≡ true
     → fronts_of (concat us ++ s) ≡ us ++ fronts_of s
 fronts_of-concat [] s h = refl
@@ -41,12 +41,12 @@ fronts_of-concat (u ∷ us) s h =
     ap fronts_of (append_assoc u (concat us) s) ∙ fronts_of-sequence u (concat us ++ s) k.0
     ∙ ap (λ fs. u ∷ fs) (fronts_of-concat us s k.1)
 
--- if at least one of at most n + 1 bytes is dropped, at most n remain
+-- if at least one byte is dropped from a string of at most n + 1 bytes, at most n bytes remain
 pub length-drop-some : (n k b : ℕ) (bs : List ℕ) → 1 ≤ k → length (b ∷ bs) ≤ suc n
     → length (drop k (b ∷ bs)) ≤ n
 length-drop-some n k b bs some le = omega (arith, length-drop k (b ∷ bs))
 
--- the fronts of at most n bytes, one after the other, are the bytes
+-- if s has at most n bytes, its fronts concatenate to s
 concat-fronts_within : (n : ℕ) (s : List ℕ) → length s ≤ n → concat (fronts_of s) ≡ s
 concat-fronts_within n [] le = ap concat fronts_of-nil
 concat-fronts_within zero (b ∷ bs) le = absurd (omega arith)
@@ -58,7 +58,7 @@ concat-fronts_within (suc n) (b ∷ bs) le =
     (concat-fronts_within n (drop k s) (length-drop-some n k b bs (front_within b bs).0 le))
     ∙ take-append-drop k s
 
--- the fronts, one after the other, are the bytes
+-- the fronts of s concatenate to s
 pub concat-fronts_of : (s : List ℕ) → concat (fronts_of s) ≡ s
 concat-fronts_of s = concat-fronts_within (length s) s (le_refl (length s))
 
@@ -68,7 +68,8 @@ unfolding is_text
 IsText-from_is_text s h =
     (fronts_of s, AllPass-from_list_all is_sequence (fronts_of s) h, concat-fronts_of s)
 
--- valid UTF-8 at the beginning is cut into its sequences
+-- if t is valid UTF-8, the fronts of t followed by s are the sequences of t and then the fronts of
+-- s
 pub fronts_of-text : (t s : List ℕ) → IsText t → (us : List (List ℕ))
     × (list_all is_sequence us ≡ true) × (concat us ≡ t) × (fronts_of (t ++ s) ≡ us ++ fronts_of s)
 fronts_of-text t s (us, h, e) =
@@ -107,7 +108,7 @@ pub lossy_of-nil : lossy_of [] ≡ []
 unfolding lossy_of
 lossy_of-nil = ap (flat_map shown_front) fronts_of-nil
 
--- valid UTF-8 at the beginning is shown unchanged
+-- if t is valid UTF-8, the lossy form of t followed by s is t and then the lossy form of s
 pub lossy_of-append : (t s : List ℕ) → IsText t → lossy_of (t ++ s) ≡ t ++ lossy_of s
 unfolding lossy_of
 lossy_of-append t s h =
@@ -138,7 +139,8 @@ is_sequence-longest_front_of s z =
     false_from_ne_true (is_sequence (longest_front_of s))
     (no_sequence s (longest_front_of s) (drop k s) z e)
 
--- if no prefix is a sequence, U+FFFD is shown for the first front
+-- if no prefix is a sequence, the lossy form is U+FFFD and then the lossy form of the bytes after
+-- the first front
 pub lossy_of-none : (b : ℕ) (bs : List ℕ) → longest_len is_sequence (b ∷ bs) ≡ 0
     → lossy_of (b ∷ bs)
     ≡ replacement ++ lossy_of (drop (length (longest_front_of (b ∷ bs))) (b ∷ bs))

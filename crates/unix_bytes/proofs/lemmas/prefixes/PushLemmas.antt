@@ -22,7 +22,7 @@ use Rattle.unix_bytes.proofs.lemmas.lossy.LawLemmas.{replacement_is_sequence, lo
 use Rattle.unix_bytes.proofs.lemmas.chunks.OnlyLemmas.{first_chunk_is, only_chunk, only_text}
 use Rattle.unix_bytes.proofs.lemmas.chunks.OnlyLemmas.{lossy_of-first_chunk, text_has_none_broken}
 
--- the rest after the first chunk is shorter than the bytes
+-- if s is not empty, its rest after the first chunk is shorter than s
 pub rest_is_shorter : {s valid broken rest : List ℕ} → eqb (length s) 0 ≡ false
     → Splits s valid broken rest → length rest < length s
 rest_is_shorter {s = []} some p = absurd (true≢false some)
@@ -79,7 +79,8 @@ pub not_text : {s valid broken rest : List ℕ} → Splits s valid broken rest
 not_text {broken = broken} p some t =
     true≢false (sym (eq-eqb (length broken) 0 (none_is_broken p t)) ∙ some)
 
--- the first chunk as it is shown, and the lossy form of the rest, are the lossy form
+-- the first chunk, shown with U+FFFD for its invalid front, and the lossy form of the rest
+-- concatenate to the lossy form of s
 pub lossy_of-split : {s valid broken rest : List ℕ} → Splits s valid broken rest
     → (valid ++ replacement_for broken) ++ lossy_of rest ≡ lossy_of s
 lossy_of-split {s = []} {valid} {broken} {rest} p =
@@ -96,7 +97,7 @@ lossy_of-split {s = x ∷ xs} {valid} {broken} {rest} p =
     ap (λ t. shown_chunk c ++ t) (sym (flat_map-shown_chunk rest))
     ∙ lossy_of-first_chunk s c (chunks_of rest) (splits_first_chunk (omega arith) p)
 
--- bytes without an invalid front are padded like a `str`
+-- if the bytes have no invalid front, they are shown with the padding of a `str`
 pub pads_text : (pad : List ℕ → List ℕ) {s valid broken rest : List ℕ}
     → Splits s valid broken rest → length broken ≡ 0
     → pad valid ≡ (if is_text s then pad s else lossy_of s)
@@ -104,15 +105,15 @@ pads_text pad {s} p none =
     let (all, text) = all_is_text p none in
     ap pad all ∙ sym (cond-true _ _ _ (is_text-from_IsText s text))
 
--- bytes with an invalid front are shown in lossy form without padding
+-- if the bytes have an invalid front, their lossy form is shown without padding
 pub shows_lossy_text : (pad : List ℕ → List ℕ) {s valid broken rest : List ℕ}
     → Splits s valid broken rest → eqb (length broken) 0 ≡ false
     → lossy_of s ≡ (if is_text s then pad s else lossy_of s)
 shows_lossy_text pad {s} {valid} {broken} p some =
     sym (cond-false _ _ _ (is_text-not s (not_text p some)))
 
--- items, then the first chunk as it is shown, then the lossy form of the rest are the items and
--- then the lossy form of all bytes
+-- `items`, the first chunk as it is shown, and the lossy form of the rest concatenate to the same
+-- bytes as `items` and the lossy form of s
 pub pushes_split : (items : List ℕ) {s valid broken rest : List ℕ} → Splits s valid broken rest
     → ((items ++ take (length valid) s) ++ replacement_for broken) ++ lossy_of rest
     ≡ items ++ lossy_of s
@@ -130,14 +131,15 @@ pushes_split items {s} {valid} {broken} {rest} p =
 replacement_is_utf8 : IsUtf8 replacement
 replacement_is_utf8 = IsUtf8-sequence replacement replacement_is_sequence
 
--- what is shown for an invalid front is UTF-8
+-- the bytes that are shown for `broken`, U+FFFD or none, are UTF-8
 replacement_for_is_utf8 : (broken : List ℕ) → IsUtf8 (replacement_for broken)
 replacement_for_is_utf8 [] = IsUtf8-nil
 replacement_for_is_utf8 (b ∷ bs) =
     let some = ne_eqb (length (b ∷ bs)) 0 (omega arith) in
     subst IsUtf8 (sym (cond-false _ _ _ some)) replacement_is_utf8
 
--- UTF-8, what is shown for an invalid front, and a lossy form are UTF-8 together
+-- if `text` is UTF-8, then `text`, the bytes that are shown for `broken`, and the lossy form of
+-- `rest` concatenate to UTF-8
 pub lossy_is_utf8 : (text broken rest : List ℕ) → IsUtf8 text
     → IsUtf8 ((text ++ replacement_for broken) ++ lossy_of rest)
 lossy_is_utf8 text broken rest h =
@@ -145,8 +147,8 @@ lossy_is_utf8 text broken rest h =
     (IsUtf8-append text (replacement_for broken) h (replacement_for_is_utf8 broken))
     (IsUtf8-from_IsText (lossy_of rest) (lossy_is_text rest))
 
--- if the first 16 bytes are appended, and then all except n of them are removed, the first n remain
--- appended
+-- if the first 16 bytes of s are appended to k items, and then only the first k + n items are kept,
+-- the first n bytes of s have been appended
 pub first_of_sixteen : (items s : List ℕ) (k n : ℕ) → k ≡ length items → n ≤ 16
     → take (k + n) (items ++ take 16 s) ≡ items ++ take n s
 first_of_sixteen items s k n e few =

@@ -31,7 +31,7 @@ ascii_is_text s h = IsText-from_IsUtf8 s (IsUtf8-from_ascii s h)
 pub none_is_text : (s : List ℕ) → IsText (take 0 s)
 none_is_text s = IsText-nil
 
--- a sequence at the beginning is valid UTF-8
+-- the first n bytes are valid UTF-8 if they are a sequence
 pub sequence_is_text : (s : List ℕ) (n : ℕ) → 0 < n → n ≡ longest_len is_sequence s
     → IsText (take n s)
 sequence_is_text s n some e =
@@ -39,7 +39,7 @@ sequence_is_text s n some e =
     (IsText-sequence _ (⊎_elim (λ z. absurd (omega arith)) (λ t. t)
     (longest_len-longest is_sequence s).passes))
 
--- a sequence at the beginning is within the bytes
+-- the longest prefix that is a sequence is no longer than the bytes
 pub sequence_within : (s : List ℕ) → longest_len is_sequence s ≤ length s
 sequence_within s = (longest_len-longest is_sequence s).within
 
@@ -70,7 +70,8 @@ text_to_end s i ge le h =
     sym (longest_len-is is_text s i le (inr (is_text-from_IsText (take i s) h))
     (λ k p q. absurd (omega arith)))
 
--- valid UTF-8 that no sequence follows is the longest valid prefix
+-- if the bytes before i are valid UTF-8, and no sequence begins at i, the longest valid prefix ends
+-- at i
 text_until : (s : List ℕ) (i : ℕ) → i ≤ length s → IsText (take i s)
     → longest_len is_sequence (drop i s) ≡ 0 → i ≡ longest_len is_text s
 text_until s i le h z =
@@ -123,11 +124,12 @@ pub record TextBefore (s r : List ℕ) : Type 0 where
   pub rest : r ≡ drop (place_of s r) s
   pub text : IsText (take (place_of s r) s)
 
--- the bytes from index n on, written as the definition of slices writes them
+-- the bytes of s from index n on, in the form that the definition of slices uses
 abbrev pub slice_from : ℕ → List ℕ → List ℕ
 slice_from n s = take (length s - n) (drop n s)
 
--- if r is a suffix with valid UTF-8 before it, so is what remains of r after a valid prefix
+-- if `TextBefore` holds of the suffix r, it also holds of the rest of r after n bytes of valid
+-- UTF-8
 pub text_before : (s r : List ℕ) (n : ℕ) → TextBefore s r → n ≤ length r → IsText (take n r)
     → TextBefore s (slice_from n r)
 text_before s r n h bound here =
@@ -143,29 +145,30 @@ text_before s r n h bound here =
       text = subst (λ k. IsText (take k s)) (sym place) more.1;
     }
 
--- if r is a suffix with valid UTF-8 before it, so is what remains of r after a sequence of n bytes;
--- k is another name for n
+-- if `TextBefore` holds of the suffix r, it also holds of the rest of r after a sequence of n
+-- bytes, where k equals n
 pub sequence_before : (s r : List ℕ) (n k : ℕ) → TextBefore s r
     → (0 < n) × (n ≡ longest_len is_sequence r) → n ≡ k → TextBefore s (slice_from k r)
 sequence_before s r n k h (some, is) same =
     let here = subst (λ j. IsText (take j r)) same (sequence_is_text r n some is) in
     text_before s r k h (omega (arith, same, is, sequence_within r)) here
 
--- if r is a suffix with valid UTF-8 before it, so is what remains of r after a sequence and then m
--- bytes of valid UTF-8
+-- if `TextBefore` holds of the suffix r, it also holds of the rest of r after a sequence of n bytes
+-- and then m bytes of valid UTF-8, where k equals n
 pub sequences_before : (s r : List ℕ) (n k m : ℕ) → TextBefore s r
     → (0 < n) × (n ≡ longest_len is_sequence r) → n ≡ k → m ≤ length (slice_from k r)
     → IsText (take m (slice_from k r)) → TextBefore s (slice_from m (slice_from k r))
 sequences_before s r n k m h found same bound here =
     text_before s (slice_from k r) m (sequence_before s r n k h found same) bound here
 
--- if the suffix r begins with an invalid front, the longest valid prefix ends where r begins
+-- if `TextBefore` holds of the suffix r, and r begins with an invalid front, the longest valid
+-- prefix of s ends where r begins
 pub broken_rest : (s r : List ℕ) (n : ℕ) → TextBefore s r → (0 < n) × (n ≡ broken_len r)
     → place_of s r ≡ longest_len is_text s
 broken_rest s r n h found =
     text_before_broken s r (place_of s r) h.rest h.text n (omega arith) found
 
--- if the suffix r is empty, the longest valid prefix has all bytes
+-- if `TextBefore` holds of the suffix r, and r is empty, the longest valid prefix of s is all of s
 pub no_rest : (s r : List ℕ) → TextBefore s r → eqb (length r) 0 ≡ true
     → length s ≡ longest_len is_text s
 no_rest s r h none =
@@ -197,9 +200,9 @@ whole_is_utf8 s n e le = subst IsUtf8 (take_all n s le) (prefix_is_utf8 s n e)
 pub whole_is_text : (s : List ℕ) (n : ℕ) → n ≡ longest_len is_text s → length s ≤ n → IsText s
 whole_is_text s n e le = IsText-from_IsUtf8 s (whole_is_utf8 s n e le)
 
--- the longest valid prefix is within the bytes
+-- the longest valid prefix is no longer than the bytes
 pub text_within : (s : List ℕ) → longest_len is_text s ≤ length s
 text_within s = (longest_len-longest is_text s).within
 
--- the longest valid prefix, and an invalid front, are within the bytes
+-- neither the longest valid prefix nor an invalid front is longer than the bytes
 pub ruleset prefix_bounds = (text_within, broken_len_within)

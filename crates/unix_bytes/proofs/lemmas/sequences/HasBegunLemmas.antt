@@ -61,18 +61,19 @@ fourth_begins x y z w b g r =
     let k = third_of x y z u is in
     begins_sequence-from (x ∷ y ∷ z ∷ w ∷ []) ([], IsSequence-four x y z w (grind arith))
 
--- the first two bytes of a string, by their indices
+-- the first two bytes of s are its bytes at indices 0 and 1
 pub take-two : (s : List ℕ) → 1 < length s
     → take 2 s ≡ slice_index s 0 ∷ slice_index s 1 ∷ []
 take-two [] l = absurd (omega arith)
 take-two (x ∷ []) l = absurd (omega arith)
 take-two (x ∷ y ∷ s) l = refl
 
--- the first byte after i bytes is the byte at index i
+-- the first byte that remains after i bytes are dropped is the byte at index i
 pub first_of_drop : (i : ℕ) (s : List ℕ) → slice_index (drop i s) 0 ≡ slice_index s i
 first_of_drop i s = get_or-drop i s 0 0 ∙ ap (slice_index s) (add-zero i)
 
--- the ranges of the first two bytes, if these begin a sequence
+-- if the first two bytes begin a sequence, the first is from C2 to F4, and the second is a tail
+-- byte
 pub pair_bounds : (s : List ℕ) → HasBegun s 2 → (0xC2 ≤ slice_index s 0)
     × (slice_index s 0 ≤ 0xF4) × (1 < length s) × IsTail (slice_index s 1)
 pair_bounds [] h = absurd (omega arith)
@@ -91,7 +92,7 @@ HasBegun-three (x ∷ []) h g l t = absurd (omega arith)
 HasBegun-three (x ∷ y ∷ []) h g l t = absurd (omega arith)
 HasBegun-three (x ∷ y ∷ z ∷ s) h g l t = (omega arith, third_begins x y z h.1 g t)
 
--- the ranges of the first and the third byte, if the first three bytes begin a sequence
+-- if the first three bytes begin a sequence, the first is at least E0, and the third is a tail byte
 pub third_byte_bounds : (s : List ℕ) → HasBegun s 3
     → (0xE0 ≤ slice_index s 0) × (2 < length s) × IsTail (slice_index s 2)
 third_byte_bounds [] h = absurd (omega arith)
@@ -112,7 +113,7 @@ HasBegun-four (x ∷ y ∷ []) h g l t = absurd (omega arith)
 HasBegun-four (x ∷ y ∷ z ∷ []) h g l t = absurd (omega arith)
 HasBegun-four (x ∷ y ∷ z ∷ w ∷ s) h g l t = (omega arith, fourth_begins x y z w h.1 g t)
 
--- the ranges of the first and the fourth byte, if the first four bytes begin a sequence
+-- if the first four bytes begin a sequence, the first is at least F0, and the fourth is a tail byte
 pub fourth_byte_bounds : (s : List ℕ) → HasBegun s 4
     → (0xF0 ≤ slice_index s 0) × (3 < length s) × IsTail (slice_index s 3)
 fourth_byte_bounds [] h = absurd (omega arith)

@@ -1,4 +1,4 @@
--- The length of a sequence at the beginning, by how many of the first bytes begin a sequence.
+-- The length of a leading sequence, by how many of the first bytes begin a sequence.
 use Rattle.std.proofs.Common.{◌≡◌, ℕ, zero, suc, ◌<◌, ◌≤◌, List, [], ◌∷◌, ◌++◌, length, take, drop}
 use Rattle.std.proofs.Common.{⊎_elim, sym, ap, ◌∙◌, subst, arith, append-nil, slice_index}
 use Rattle.std.proofs.Common.{length-append, length-take-le, take-append-drop}

@@ -11,7 +11,7 @@ use Rattle.unix_bytes.proofs.lemmas.sequences.SequenceLemmas.{IsSequence-three}
 use Rattle.unix_bytes.proofs.lemmas.sequences.SequenceLemmas.{IsSequence-four, is_sequence-nil}
 use Rattle.unix_bytes.proofs.lemmas.sequences.SequenceLemmas.{is_sequence-more}
 
--- n is the length of a sequence, by its first byte b
+-- n is the length of the sequences that begin with the byte b
 pub record HasWidth (b n : ℕ) : Type 0 where
   pub one : b < 0xC2 → (b ≤ 0x7F) × (n ≡ 1)
   pub two : 0xC2 ≤ b → b ≤ 0xDF → n ≡ 2
@@ -115,6 +115,7 @@ leads_none b u lone h =
     ⊎_elim (λ l. let p = (w.one l.1).0 in omega arith)
     (λ g. let p = (w.four (omega arith)).0 in omega arith) lone
 
--- if b is such a byte: 0 is 0 if and only if b begins no sequence, as both are true
+-- if b is from 80 to C1, or greater than F4: 0 is 0 if and only if b begins no sequence, as both
+-- are true
 pub no_width : (b : ℕ) → LeadsNone b → ◌≡◌ {A = ℕ} 0 0 ↔ ¬ (BeginsSequence (b ∷ []))
 no_width b lone = (λ e (u, h). leads_none b u lone h, λ none. refl)

@@ -40,7 +40,8 @@ text_keeps_finished (u ∷ us) all =
     sequence_keeps_finished u (concat us) (All-head IsSequence u us all)
     (text_keeps_finished us (All-tail IsSequence u us all))
 
--- if u and then the first three bytes of w leave no sequence unfinished, neither do these three
+-- if a, b, c, then u and then the first three bytes of w leave no sequence unfinished at their end,
+-- neither do these three bytes of w
 IsFinished-last : (u w : List ℕ) (a b c : ℕ) → 3 ≤ length w → EndsFinished a b c (u ++ take 3 w)
     → IsFinished (slice_index w 0) (slice_index w 1) (slice_index w 2)
 IsFinished-last [] [] a b c l h = absurd (omega arith)

@@ -1,5 +1,5 @@
--- Bytes are valid by the table (`IsText`) if and only if Rattle's std defines them as UTF-8
--- (`IsUtf8`).
+-- Bytes are valid by the table of RFC 3629 (`IsText`) if and only if Rattle's std defines them as
+-- UTF-8 (`IsUtf8`).
 use Rattle.std.proofs.Common.{◌≡◌, ℕ, ◌+◌, ◌/◌, ◌%◌, ◌<◌, List, [], ◌∷◌, ◌++◌, map, true, ⊎_elim}
 use Rattle.std.proofs.Common.{inl, inr, refl, ap, ◌∙◌, subst, arith}
 use Rattle.std.specs.List.{concat, list_all}

@@ -43,7 +43,8 @@ max_bound c = by (c == 0xED) (c == 0xF4)
 no_prefix : (a b c : ℕ) (s : List ℕ) → unfinished_after a b c s ≡ length s → TextPrefix a b c s
 no_prefix a b c s e = record { len = 0; whole = omega (arith, e); text = IsText-nil }
 
--- a sequence, and the valid prefix of the bytes after it, are a valid prefix of the whole
+-- `TextPrefix` holds of a sequence u followed by s if it holds of s, and the same number of bytes
+-- is unfinished at the end of both
 more_prefix : (u s : List ℕ) (a b c x y z n : ℕ) → IsSequence u → length u ≡ n → TextPrefix x y z s
     → unfinished_after a b c (u ++ s) ≡ unfinished_after x y z s → TextPrefix a b c (u ++ s)
 more_prefix u s a b c x y z n h l f e = record {
@@ -78,15 +79,15 @@ second_bounds d e l m = (
   λ h. subst (λ x. e ≤ max_second x) h m,
 )
 
--- up to n bytes that each may follow the three before it, where a, b and c leave no sequence
--- unfinished, have a valid prefix
+-- `TextPrefix` holds of each s of at most n bytes if a, b and c leave no sequence unfinished and
+-- each byte of s may follow the three bytes before it
 abbrev HasPrefixUpTo : ℕ → Type 0
 HasPrefixUpTo n =
     (a b c : ℕ) (s : List ℕ) → length s ≤ n → IsFinished a b c → FitAfter a b c s
     → TextPrefix a b c s
 
 module _ (n : ℕ) (fewer : HasPrefixUpTo n) (a b c d : ℕ) (k : IsFinished a b c) where
-  -- at most n + 1 such bytes have a valid prefix if the first is from C2 to DF
+  -- `TextPrefix` holds of d followed by such bytes s, at most n, if d is from C2 to DF
   two_byte_prefix : (s : List ℕ) → length s ≤ n → 0xC2 ≤ d → d ≤ 0xDF → FitAfter b c d s
       → TextPrefix a b c (d ∷ s)
   two_byte_prefix [] le g l hs = no_prefix _ _ _ _ (unfinished_len-one b c d (omega arith))
@@ -95,7 +96,7 @@ module _ (n : ℕ) (fewer : HasPrefixUpTo n) (a b c d : ℕ) (k : IsFinished a b
       more_prefix (d ∷ e ∷ []) s a b c c d e 2 (IsSequence-two d e (g, l, lo, hi)) refl
       (fewer c d e s (omega arith) (omega arith, omega arith, omega arith) hs) refl
 
-  -- at most n + 1 such bytes have a valid prefix if the first is from E0 to EF
+  -- `TextPrefix` holds of d followed by such bytes s, at most n, if d is from E0 to EF
   three_byte_prefix : (s : List ℕ) → length s ≤ n → 0xE0 ≤ d → d ≤ 0xEF → FitAfter b c d s
       → TextPrefix a b c (d ∷ s)
   three_byte_prefix [] le g l hs = no_prefix _ _ _ _ (unfinished_len-one b c d (omega arith))
@@ -110,7 +111,7 @@ module _ (n : ℕ) (fewer : HasPrefixUpTo n) (a b c d : ℕ) (k : IsFinished a b
       (IsSequence-three d e f (g, l, lo, hi, lo2, hi2, second.0, second.1)) refl
       (fewer d e f s (omega arith) (omega arith, omega arith, omega arith) hs) refl
 
-  -- at most n + 1 such bytes have a valid prefix if the first is from F0 to F4
+  -- `TextPrefix` holds of d followed by such bytes s, at most n, if d is from F0 to F4
   four_byte_prefix : (s : List ℕ) → length s ≤ n → 0xF0 ≤ d → d ≤ 0xF4 → FitAfter b c d s
       → TextPrefix a b c (d ∷ s)
   four_byte_prefix [] le g l hs = no_prefix _ _ _ _ (unfinished_len-one b c d (omega arith))
@@ -130,7 +131,7 @@ module _ (n : ℕ) (fewer : HasPrefixUpTo n) (a b c d : ℕ) (k : IsFinished a b
       (IsSequence-four d e f x (g, l, lo, hi, lo2, hi2, lo3, hi3, second.2, second.3)) refl
       (fewer e f x s (omega arith) (omega arith, omega arith, omega arith) hs) refl
 
-  -- at most n + 1 such bytes have a valid prefix, whatever the first is
+  -- `TextPrefix` holds of d followed by such bytes s, at most n, if d may follow a, b and c
   any_prefix : (s : List ℕ) → length s ≤ n → Fits a b c d → FitAfter b c d s
       → TextPrefix a b c (d ∷ s)
   any_prefix s le h hs =
@@ -146,15 +147,15 @@ module _ (n : ℕ) (fewer : HasPrefixUpTo n) (a b c d : ℕ) (k : IsFinished a b
       (cases_lt d 0xE0))
       (h.goes.begins k)
 
--- any number of such bytes have a valid prefix
+-- `HasPrefixUpTo` holds of every n
 has_prefix : (n : ℕ) → HasPrefixUpTo n
 has_prefix n a b c [] le k h = no_prefix _ _ _ _ (unfinished_len-finished a b c k)
 has_prefix zero a b c (d ∷ s) le k h = absurd (omega arith)
 has_prefix (suc n) a b c (d ∷ s) le k (h, hs) =
     any_prefix n (has_prefix n) a b c d k s (omega arith) h hs
 
--- how many bytes at the end of the first n belong to an unfinished sequence, by the last three
--- bytes
+-- the last three bytes of a, b, c and the first n bytes of s determine how many bytes belong to an
+-- unfinished sequence there
 unfinished_after-take : (n a b c : ℕ) (s : List ℕ) → n ≤ length s
     → unfinished_after a b c (take n s)
     ≡ unfinished_len (slice_index (a ∷ b ∷ c ∷ s) n) (slice_index (a ∷ b ∷ c ∷ s) (suc n))
@@ -163,7 +164,8 @@ unfinished_after-take zero a b c s le = refl
 unfinished_after-take (suc n) a b c [] le = absurd (omega arith)
 unfinished_after-take (suc n) a b c (d ∷ s) le = unfinished_after-take n b c d s (omega arith)
 
--- the bytes of a window after its first three are valid UTF-8 up to an unfinished sequence
+-- if the first three bytes of w leave no sequence unfinished, and each of the next 16 may follow
+-- the three bytes before it, these 16 are valid UTF-8 up to an unfinished sequence at their end
 pub window_text : (w : List ℕ) → 19 ≤ length w
     → IsFinished (slice_index w 0) (slice_index w 1) (slice_index w 2) → FitsWindow w
     → let last = slice_index w in

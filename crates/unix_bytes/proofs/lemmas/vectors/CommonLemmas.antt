@@ -47,7 +47,7 @@ common_prefix_len-same (x ∷ a) (y ∷ b) (suc k) l =
     (λ (other : eqb x y ≡ false). let m : suc k < 0 = rw other at l in absurd (omega arith))
     (cases_Bool (eqb x y))
 
--- two strings that continue after their common prefix differ there
+-- if both strings continue after their common prefix of n bytes, they differ at index n
 pub common_prefix_len-differs : (a b : List ℕ) (n : ℕ) → n ≡ common_prefix_len eqb a b
     → n < length a
     → n < length b → eqb (get_or a n 0) (get_or b n 0) ≡ false
@@ -74,7 +74,8 @@ differ pair = not (eqb pair.0 pair.1)
 abbrev pairs : List ℕ → List ℕ → List (ℕ × ℕ)
 pairs a b = zip2 (λ x y. (x, y)) a b
 
--- whether two strings differ at each index, by their pairs
+-- the tests whether two strings differ at each index are the tests whether the bytes of each pair
+-- differ
 zip2-pairs : (a b : List ℕ) → zip2 (λ x y. not (eqb x y)) a b ≡ map differ (pairs a b)
 zip2-pairs [] b = refl
 zip2-pairs (x ∷ a) [] = refl
@@ -108,8 +109,8 @@ other_mask-pairs a b n few l m =
     ap (λ ts. mask_l ts % 2 ^ 64) (tops_compared w8 (λ x y. not (eqb x y)) a b ∙ zip2-pairs a b)
     ∙ mask_l-mod (map differ (pairs a b)) 64 size
 
--- the length of the common prefix is n if no bit is set, and otherwise the index of the lowest bit
--- that is set
+-- the common prefix of two strings of n bytes has n bytes if no bit of `other_mask` is set;
+-- otherwise its length is the index of the lowest bit set
 first_other : (a b : List ℕ) (n : ℕ) → n ≤ 64 → length a ≡ n → length b ≡ n
     → cond (eqb (other_mask a b) 0) n (count_trailing_zeros 64 (other_mask a b))
     ≡ common_prefix_len eqb a b
@@ -118,13 +119,15 @@ first_other a b n few l m =
     ∙ first_set_mask_l differ (pairs a b) n (length-pairs a b (l ∙ sym m) ∙ l) few
     ∙ prefix_len-pairs a b
 
--- of the n bytes from `at` on, `len` come before the first index at which two strings differ
+-- of the n bytes from `at` on, `len` come before the first index at which a and b differ; if they
+-- do not differ there, `len` is n
 pub record CommonInLanes (a b : List ℕ) (n at len : ℕ) : Type 0 where
   pub in_range : len ≤ n
   pub same : (k : ℕ) → at ≤ k → k < at + len → get_or a k 0 ≡ get_or b k 0
   pub differs : len < n → eqb (get_or a (at + len) 0) (get_or b (at + len) 0) ≡ false
 
--- the common prefix of n bytes from `at` on, by the indices in the whole strings
+-- if the common prefix of the n bytes of a and of b from `at` on has `len` bytes, `CommonInLanes`
+-- holds
 in_lanes : (a b : List ℕ) (n at len : ℕ) → at + n ≤ length a → at + n ≤ length b
     → len ≡ common_prefix_len eqb (chunk at n a) (chunk at n b) → CommonInLanes a b n at len
 in_lanes a b n at len l m is =
@@ -145,7 +148,7 @@ in_lanes a b n at len l m is =
           (omega (arith, length-chunk at n a l)) (omega (arith, length-chunk at n b m));
     }
 
--- if no bit is set, n bytes from `at` on are the same
+-- if no bit of the mask of the n bytes from `at` on is set, these bytes are the same in a and b
 pub none_other : (a b : List ℕ) (n at : ℕ) → n ≤ 64 → at + n ≤ length a → at + n ≤ length b
     → other_mask (chunk at n a) (chunk at n b) ≡ 0 → CommonInLanes a b n at n
 none_other a b n at few l m none =
@@ -155,7 +158,8 @@ none_other a b n at few l m none =
     ∙ first_other (chunk at n a) (chunk at n b) n few (length-chunk at n a l)
     (length-chunk at n b m))
 
--- if a bit is set, the lowest bit that is set is for the first pair whose bytes differ
+-- if some bit of the mask of the n bytes from `at` on is set, the index of the lowest bit set is
+-- the number of bytes before the first difference
 pub some_other : (a b : List ℕ) (n at : ℕ) → n ≤ 64 → at + n ≤ length a → at + n ≤ length b
     → (other_mask (chunk at n a) (chunk at n b) ≡ 0 → ⊥)
     → CommonInLanes a b n at

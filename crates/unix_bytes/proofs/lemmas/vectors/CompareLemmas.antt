@@ -8,11 +8,11 @@ use Rattle.std.specs.List.{common_prefix_len}
 use Rattle.std.specs.Ordering.{ordering_then, MatchOrdering}
 use Rattle.std.proofs.lemmas.Bool.{cases_Bool, false≢true}
 
--- a number is equal to itself in the order
+-- the order of equal numbers is `Equal`
 same_number : (x y : ℕ) → eqb x y ≡ true → nat_cmp x y ≡ Equal
 same_number x y same = sym (nat_cmp_is x y Equal (eqb-true x y same))
 
--- if two numbers differ, their order decides
+-- if two numbers differ, their order decides before the order r
 other_number : (x y : ℕ) (r : Ordering) → eqb x y ≡ false
     → ordering_then (nat_cmp x y) r ≡ nat_cmp x y
 other_number x y r other =

@@ -37,8 +37,8 @@ record Adds (o p q : Bool) (n m k : ℕ) : Type 0 where
   bits : bit o + bit p ≡ bit q
   rest : n + m ≡ k
 
--- if two numbers add up to a third, whose lowest bit is set if the second's is, their lowest bits
--- add up without a carry, and their other bits add up to the third's other bits
+-- o, p and q are the lowest bits of three numbers, and n, m and k their other bits: if the first
+-- two numbers add up to the third, and q is set if p is, then `Adds` holds
 adds : (o p q : Bool) (n m k : ℕ) → (p ≡ true → q ≡ true)
     → (bit o + 2 * n) + (bit p + 2 * m) ≡ bit q + 2 * k → Adds o p q n m k
 adds true true true n m k h e = absurd (omega arith)
@@ -65,8 +65,9 @@ bit_on t h = ap bit h
 bit_off : (t : Bool) → t ≡ false → bit t ≡ 0
 bit_off t h = ap bit h
 
--- `Continues` holds of a byte d that is neither C0 nor C1 if two bits, one for an unfinished
--- sequence and one for a d of at least C0, add up to the bit for a d of at least 80
+-- if d is neither C0 nor C1, `Continues` holds if two bits add up to a third: the first bit is set
+-- if a, b and c leave a sequence unfinished, the second if d is at least C0, and the third if d is
+-- at least 80
 continues : (a b c d : ℕ)
     → bit (nat_le 0x80 (unfinished_lane a b c)) + bit (nat_le 0xC0 d) ≡ bit (nat_le 0x80 d)
     → nat_le 0xC0 d ≡ nat_le 0xC2 d → Continues a b c d

@@ -14,8 +14,8 @@ use Rattle.std.proofs.lemmas.Simd.{bit_mask_l, mask_l-lt, run_in_chunk_fails, ru
 use Rattle.unix_bytes.specs.Lanes.{hit_mask}
 use Rattle.unix_bytes.proofs.lemmas.vectors.MaskLemmas.{bit, is_clear}
 
--- if the byte does not occur before `at`, it does not occur before its first index in a window that
--- begins at `at` or earlier
+-- if the byte does not occur in s before `at`, and n is its first index in the window of 16 bytes
+-- from `from` on, where `from` is at most `at`, then the byte does not occur in s before `from` + n
 pub none_before : (byte : ℕ) (s : List ℕ) (at from n : ℕ) → from ≤ at → from + 16 ≤ length s
     → n ≡ position_or_len (λ b. b == byte) (take 16 (drop from s))
     → ((k : ℕ) → k < at → (get_or s k 0 == byte) ≡ false)
@@ -25,8 +25,9 @@ none_before byte s at from n order fits is none k l =
     (λ (more : at ≤ k).
     run_in_chunk_fails (λ b. b == byte) s from 16 n 0 fits is k (omega arith) l) (cases_lt k at)
 
--- if the byte does not occur before `at`, its first index in a window that begins at `at` or
--- earlier is its first index in s
+-- if the byte does not occur in s before `at`, and n is its first index in the window of 16 bytes
+-- from `from` on, where `from` is at most `at`, then `from` + n is its first index in s; a window
+-- without the byte, for which n is 16, has to end where s ends
 pub first_after : (byte : ℕ) (s : List ℕ) (at from n : ℕ) → from ≤ at → from + 16 ≤ length s
     → n ≡ position_or_len (λ b. b == byte) (take 16 (drop from s)) → n ≤ 16
     → ((k : ℕ) → k < at → (get_or s k 0 == byte) ≡ false) → (from + n < length s → n < 16)
@@ -37,17 +38,17 @@ first_after byte s at from n order fits is few none stops =
     (none_before byte s at from n order fits is none)
     (λ l. run_in_chunk_stops p s from 16 n 0 fits is (stops l)))
 
--- a number below 2^k has no bit at k or above
+-- if a is less than 2^m, a has no bit set at index m or above
 no_bit : (a k m : ℕ) → a < 2 ^ m → m ≤ k → a / 2 ^ k ≡ 0
 no_bit a k m l h = div-eq_of_lt (omega (arith, pow_mono h))
 
--- a number from 2^k up to 2^(k+1) has its highest bit at k
+-- if a is at least 2^k and less than 2^(k+1), the highest bit set in a has index k
 top_bit : (a k : ℕ) → 2 ^ k ≤ a → a < 2 * 2 ^ k → a / 2 ^ k ≡ 1
 top_bit a k low high =
     let some : 0 < 2 ^ k = omega (arith, pow_mono {i = 0} {j = k} (omega arith)) in
     omega (arith, le-div 1 a (2 ^ k) some (omega arith), div_below a (2 ^ k) 2 some (omega arith))
 
--- the k-th bit of the mask is set if and only if the k-th byte is `byte`
+-- the bit of the mask at index k is set if and only if the byte at index k is `byte`
 bit_of : (byte : ℕ) (xs : List ℕ) (k : ℕ) → k < length xs
     → hit_mask byte xs / 2 ^ k % 2 ≡ bit (get_or xs k 0 == byte)
 bit_of byte xs k l =
@@ -78,7 +79,8 @@ at_most_16 a m small low =
 halves : (m : ℕ) → 0 < m → 2 ^ m ≡ 2 * 2 ^ (m - 1)
 halves m some = ap (λ k. 2 ^ k) {x = m} {y = suc (m - 1)} (omega arith) ∙ pow-succ' 2 (m - 1)
 
--- the leading zeros of the mask of 16 bytes determine the last index of the byte
+-- the index just after the last `byte` among 16 bytes, or 0 if there is none, is 64 less the number
+-- of leading zeros of their mask
 pub last_hit : (byte : ℕ) (xs : List ℕ) → length xs ≡ 16
     → LastHit byte xs (64 - count_leading_zeros 64 (hit_mask byte xs))
 last_hit byte xs l =
@@ -101,8 +103,8 @@ last_hit byte xs l =
           is_clear _ (sym (bit_of byte xs k (omega arith)) ∙ ap (λ n. n % 2) (no_bit a k m high h));
     })
 
--- if the byte does not occur from `from` on, `position_or_len` of the bytes from there is their
--- number
+-- if the byte does not occur in s from index `from` on, `position_or_len` of the bytes from there
+-- is their length
 pub none_from : (byte : ℕ) (s : List ℕ) (from : ℕ) → from ≤ length s
     → ((k : ℕ) → from ≤ k → k < length s → (get_or s k 0 == byte) ≡ false)
     → position_or_len (λ b. b == byte) (drop from s) ≡ length (drop from s)
@@ -113,7 +115,7 @@ none_from byte s from l none =
     ∙ none (from + k) (omega arith) (omega arith))
     (λ few. absurd (omega arith))
 
--- each byte of a window of n bytes is the byte of the whole string at the same index
+-- the byte at index k of s is at index k - `at` of the window of n bytes from `at` on
 pub in_window : (at n : ℕ) (s : List ℕ) (k : ℕ) → at ≤ k → k < at + n
     → get_or (take n (drop at s)) (k - at) 0 ≡ get_or s k 0
 in_window at n s k l h =

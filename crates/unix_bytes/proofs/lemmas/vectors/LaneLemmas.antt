@@ -50,7 +50,7 @@ ascii_block s i n few l none =
     let block = take n (drop i s) in
     ascii_from_mask block (sym (min_mask 0x80 n block (length-chunk i n s l) few) ∙ none)
 
--- a shorter prefix of ASCII is ASCII
+-- if the first j bytes are ASCII, so are the first i, where i is at most j
 pub fewer_ascii : (s : List ℕ) (i j : ℕ) → i ≤ j → IsAscii (take j s) → IsAscii (take i s)
 fewer_ascii s i j le h = subst IsAscii (take-take i j s le) (IsAscii-take (take j s) i h)
 
@@ -94,7 +94,8 @@ narrow_some (x ∷ s) some h =
     let e : is_narrow x ≡ true = grind (arith, nat_tests) in
     rw e (omega arith)
 
--- if the first byte is ASCII, at least one byte comes before the byte of the lowest bit set
+-- if the first byte of s is ASCII, it is not the byte of the lowest bit set in the mask of the 16
+-- bytes from i on
 some_ascii : (s : List ℕ) (i m : ℕ) → i + 16 ≤ length s
     → m ≡ non_ascii_mask (take 16 (drop i s)) → (m ≡ 0 → ⊥) → slice_index s 0 < 128
     → 0 < i + count_trailing_zeros 64 m
@@ -123,8 +124,8 @@ ascii_prefix s i m l before mask some =
       some_ascii s i m l mask some,
     )
 
--- the lowest bit set in the mask of the first 16 bytes determines the index of the first byte that
--- is not ASCII
+-- if a bit is set in the mask of the first 16 bytes, the byte at the index of the lowest bit set is
+-- not ASCII
 pub first_non_ascii : (s : List ℕ) (m : ℕ) → 16 ≤ length s → m ≡ non_ascii_mask (take 16 (drop 0 s))
     → (m ≡ 0 → ⊥) → (count_trailing_zeros 64 m ≤ 16)
     × (count_trailing_zeros 64 m < 16 → 0x80 ≤ slice_index s (count_trailing_zeros 64 m))

@@ -22,7 +22,7 @@ min_mask k n xs e le =
     (tops_compared w8 nat_le (replicate n k) xs ∙ zip2_splat_left nat_le k n xs e)
     ∙ mask_l-mod (map (nat_le k) xs) 64 (omega (arith, length-map xs (nat_le k)))
 
--- the mask of 16 bytes has 16 bits
+-- the mask of 16 bytes is less than 2^16
 pub mask_bound : (k : ℕ) (xs : List ℕ) → length xs ≡ 16 → mask_l (map (nat_le k) xs) < 0x10000
 mask_bound k xs e =
     let l = length-map xs (nat_le k) ∙ e in

@@ -98,7 +98,8 @@ pub Tells-either : {n : ℕ} {xs ys : List ℕ} {i : ℕ} {a b : Bool} → i < n
 Tells-either {n} {xs} {ys} {i} {a} {b} =
     Tells-zip2 bit_or (λ a b. a || b) or_lane n xs ys i a b
 
--- the i-th of the n bytes from `at` on is the byte at index k; d is the default past the end
+-- if at + i is k, the byte at index i of the n bytes from `at` on is the byte of s at index k; d is
+-- the default past the end
 pub lane_at : (n d : ℕ) (s : List ℕ) (at i k : ℕ) → at + n ≤ length s → i < n → at + i ≡ k
     → get_or (chunk at n s) i 0 ≡ get_or s k d
 lane_at n d s at i k l few e =

@@ -3,7 +3,7 @@ use Rattle.std.specs.Fmt.{HasWritten, IsPlainFormatter, HasWrittenStyled, IsFlus
 use Rattle.unix_bytes.specs.Lossy.{lossy_of}
 use Rattle.unix_bytes.proofs.lossy.write_lossy.Given as goal
 
--- the bytes written, and then the lossy form of `pending`, are the lossy form of `source`
+-- the bytes written so far, and then the lossy form of `pending`, are the lossy form of `source`
 abbrev pub invariant-loop-pending : goal.invariant-loop-pending
 invariant-loop-pending g l =
     let is_whole : List ℕ → Type 0 = λ bs. bs ++ lossy_of l.pending ≡ lossy_of l.fn.source in

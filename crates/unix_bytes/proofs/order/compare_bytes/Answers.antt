@@ -2,13 +2,13 @@ use Rattle.std.proofs.Common.{◌∙◌, ◌<◌, length, sym, ⊎_elim, arith}
 use Rattle.unix_bytes.proofs.lemmas.vectors.CompareLemmas.{differing_bytes, beginning_is_less}
 use Rattle.unix_bytes.proofs.order.compare_bytes.Goals as goal
 
--- src/order.rt:14:1
+-- if both strings have a byte at index `common`, these two bytes decide the order
 pub returns-then-common-b : goal.returns-then-common-b
 returns-then-common-b c =
     c.cmp.ensures ∙ sym (differing_bytes _ _ _ c.common_len-common.ensures.value
     c.if-common-a.true c.if-common-b.true)
 
--- src/order.rt:14:1
+-- if one string ends at index `common`, the lengths decide the order
 pub returns-else-common-a : goal.returns-else-common-a
 returns-else-common-a c =
     let n = c.common_len-common.result in

@@ -2,7 +2,8 @@ use Rattle.std.proofs.Common.{◌≡◌, ◌-◌, ◌≤◌, [], length, take}
 use Rattle.unix_bytes.specs.Printer.{Shows}
 use Rattle.unix_bytes.proofs.printer.show_first.Given as goal
 
--- what is written is the lossy form of what is read
+-- the first `end` bytes of `out`, and then the lossy form of the bytes of `source` from index
+-- `read` on, are the lossy form of `source`
 abbrev pub invariant-loop-read : goal.invariant-loop-read
 invariant-loop-read l = record {
   len : length l.out ≡ length l.initial.out;

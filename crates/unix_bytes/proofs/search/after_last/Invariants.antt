@@ -1,7 +1,7 @@
 use Rattle.std.proofs.Common.{◌≡◌, ℕ, ◌<◌, ◌≤◌, ◌==◌, false, get_or, length}
 use Rattle.unix_bytes.proofs.search.after_last.Given as goal
 
--- the byte does not occur from `end` on
+-- `byte` does not occur in `bytes` from index `end` on
 abbrev pub invariant-loop-end : goal.invariant-loop-end
 invariant-loop-end l = record {
   in_range : l.end ≤ length l.bytes;

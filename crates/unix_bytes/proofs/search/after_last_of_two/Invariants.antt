@@ -1,7 +1,7 @@
 use Rattle.std.proofs.Common.{◌≡◌, ℕ, ◌<◌, ◌≤◌, ◌==◌, ◌||◌, false, get_or, length}
 use Rattle.unix_bytes.proofs.search.after_last_of_two.Given as goal
 
--- neither byte occurs from `end` on
+-- neither `first` nor `second` occurs in `bytes` from index `end` on
 abbrev pub invariant-loop-end : goal.invariant-loop-end
 invariant-loop-end l = record {
   in_range : l.end ≤ length l.bytes;
