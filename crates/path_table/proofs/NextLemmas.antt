@@ -18,7 +18,7 @@ use Rattle.path_table.specs.Table.{NoneBefore, entries_under, paths_of}
 use Rattle.path_table.proofs.UnderLemmas.{none_under, skip_under}
 
 module _ {V : Type 0} (old new : List (PathBuf × V)) where
-  -- paths that are strictly increasing still are after a call of `next`
+  -- if the remaining paths are strictly increasing, they still are after a call of `next`
   pub next_ordered : (r : Option (Bor PathBuf × Bor V)) → TakesFirst deref_pair old r new
       → IsStrictlySortedBy values_cmp (paths_of old) → IsStrictlySortedBy values_cmp (paths_of new)
   unfolding IsStrictlySortedBy
@@ -28,7 +28,7 @@ module _ {V : Type 0} (old new : List (PathBuf × V)) where
       sorted_tail values_cmp (values (path_bytes e.0.now)) (paths_of new)
       (subst (λ es. IsStrictlySortedBy values_cmp (paths_of es)) some sorted)
 
-  -- if no path is before base, none is before it after a call of `next`
+  -- if no remaining path is before base, none is before base after a call of `next`
   pub next_not_before : (base : List Value) (r : Option (Bor PathBuf × Bor V))
       → TakesFirst deref_pair old r new
       → NoneBefore base (paths_of old) → NoneBefore base (paths_of new)
@@ -38,8 +38,8 @@ module _ {V : Type 0} (old new : List (PathBuf × V)) where
       All-rest (λ v. is_le (values_cmp base v) ≡ true) (values (path_bytes e.0.now))
       (paths_of new) (paths_of old) (ap paths_of some) from
 
-  -- if the first remaining path isn't under base, no remaining path is, before and after the call
-  -- of `next`
+  -- if the first remaining path isn't under base, no remaining path is under base, either before or
+  -- after the call of `next`
   pub none_remaining : DescendantsContiguous → (base : List Value) (e : PathBuf × V) → old ≡ e ∷ new
       → IsStrictlySortedBy values_cmp (paths_of old) → NoneBefore base (paths_of old)
       → (IsPrefixOf base (values (path_bytes e.0)) → ⊥)

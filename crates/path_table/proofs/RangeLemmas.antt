@@ -1,5 +1,5 @@
--- The rows of a table that are not before a base: they are the rows of the map's range that starts
--- at the base.
+-- The rows of a table that are not before a base in path order are the rows of the map's range that
+-- starts at the base.
 use Rattle.std.proofs.Common.{◌≡◌, ◌∙◌, ◌≤◌, List, Bool, sym, ap, subst, length}
 use Rattle.std.proofs.Common.{arith}
 use Rattle.std.proofs.lemmas.List.{length-map}
@@ -28,7 +28,7 @@ module _ {V : Type 0} (base : List Value) (entries range : List (PathBuf × V))
   rows_are =
       ap (rows_of path_bytes) is ∙ rows_of-filter (λ v. is_le (values_cmp base v)) entries
 
-  -- the components of the range's paths are those that are not before base
+  -- the components of the range's paths are the components of all paths that are not before base
   keys_are : keys_of (rows_of path_bytes range)
       ≡ filter (λ v. is_le (values_cmp base v)) (keys_of (rows_of path_bytes entries))
   keys_are =

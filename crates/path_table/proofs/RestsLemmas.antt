@@ -1,4 +1,4 @@
--- The rests of the paths under a base, as bytes of these paths.
+-- The rests of the paths under a base, as bytes.
 use Rattle.std.proofs.Common.{◌≡◌, ◌∷◌, [], ◌∙◌, ℕ, List, Bool, true, false, cond, true≢false, map}
 use Rattle.std.proofs.Common.{length, refl, suc, sym, ap}
 use Rattle.std.proofs.lemmas.List.{nil_from_length}
@@ -16,7 +16,8 @@ use Rattle.path_runs.specs.Rows.{is_under}
 use Rattle.path_table.specs.Table.{entries_under, rests_under, row_after_base}
 use Rattle.path_runs.proofs.lemmas.rows.UnderLemmas.{begins_from_under, under_from_begins}
 
--- filtering by a weaker test first doesn't change what passes the test
+-- if `test` implies `weaker`, filtering by `weaker` and then by `test` has the same result as
+-- filtering by `test`
 module _ {X : Type 0} (test weaker : X → Bool)
     (implies : (x : X) → test x ≡ true → weaker x ≡ true) where
   filter_first : (x : X) (xs : List X) (p q : Bool) → test x ≡ p → weaker x ≡ q
@@ -36,7 +37,7 @@ module _ {X : Type 0} (test weaker : X → Bool)
       filter_first x xs (test x) (weaker x) refl refl (filter_filter xs)
 
 module _ {V : Type 0} (base : List ℕ) where
-  -- the rest of the entry's path after base, with the value
+  -- the rest of the entry's path after base, with the entry's value
   abbrev rest_of : PathBuf × V → List ℕ × V
   rest_of e = (stripped_of (path_bytes e.0) base, e.1)
 
@@ -44,8 +45,8 @@ module _ {V : Type 0} (base : List ℕ) where
   abbrev is_entry_under : PathBuf × V → Bool
   is_entry_under e = is_under (values base) (values (path_bytes e.0))
 
-  -- if a range has all entries that are not before base, its rests under base are all rests under
-  -- base
+  -- if `range` has the entries that are not before base, it has the same rests under base as all
+  -- `entries`
   pub rests_from_base : BaseBeforeUnder → (entries range : List (PathBuf × V))
       → range ≡ filter (λ e. is_le (values_cmp (values base) (values (path_bytes e.0)))) entries
       → rests_under base range ≡ rests_under base entries
@@ -57,7 +58,7 @@ module _ {V : Type 0} (base : List ℕ) where
       (λ e is. before (values base) (values (path_bytes e.0))
       (begins_from_under (values base) (values (path_bytes e.0)) is)) entries)
 
-  -- the rest of a first entry under base is the first rest
+  -- if the first entry is under base, its rest is the first rest
   pub first_rest : (e : PathBuf × V) (entries : List (PathBuf × V))
       → IsPrefixOf (values base) (values (path_bytes e.0))
       → rests_under base (e ∷ entries)
@@ -84,7 +85,7 @@ module _ {V : Type 0} (base : List ℕ) where
         | false ↦ as_many entries
       ]
 
-  -- without rows under base there are no rests
+  -- if there are no rows under base, there are no rests
   pub no_rests : (entries : List (PathBuf × V))
       → entries_under (values base) (rows_of path_bytes entries) ≡ []
       → rests_under base entries ≡ []

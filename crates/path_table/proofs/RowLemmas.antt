@@ -1,4 +1,4 @@
--- The rows of a table are strictly increasing, and filtering them by components filters the entries
+-- The rows of a table are strictly increasing. Filtering the entries by components filters the rows
 -- in the same way.
 use Rattle.std.proofs.Common.{◌≡◌, ◌∷◌, [], List, Bool, true, false, cond, refl, ap, Less}
 use Rattle.std.specs.List.{AllByRecursion, filter}
@@ -13,14 +13,14 @@ use Rattle.unix_path.specs.declared.buf.PathBuf.{PathBuf}
 use Rattle.path_runs.specs.TableLaws.{rows_of}
 
 module _ {V : Type 0} where
-  -- if paths are greater than v, so are their rows
+  -- if the paths of all entries are greater than v, so are the components of all rows
   rows_greater : (v : List Value) (entries : List (PathBuf × V))
       → AllByRecursion (λ p. values_cmp v (values (path_bytes p)) ≡ Less) (keys_of entries)
       → AllByRecursion (λ w. values_cmp v w ≡ Less) (keys_of (rows_of path_bytes entries))
   rows_greater v [] greater = tt
   rows_greater v (e ∷ entries) greater = (greater.0, rows_greater v entries greater.1)
 
-  -- if paths are strictly increasing, so are their rows
+  -- if the paths of the entries are strictly increasing, so are the components of the rows
   pub sorted-rows_of : (entries : List (PathBuf × V))
       → IsStrictlySortedBy (on (λ p. values (path_bytes p)) values_cmp) (keys_of entries)
       → IsStrictlySortedBy values_cmp (keys_of (rows_of path_bytes entries))
@@ -44,7 +44,8 @@ module _ {V : Type 0} where
         | false ↦ rows_of-filter test entries
       ]
 
-  -- the components of the rows that pass a test are the rows' components that pass it
+  -- filtering rows by a test of their components, and then taking the components, has the same
+  -- result as filtering the components by the test
   pub keys_of-filter : (test : List Value → Bool) (rows : List (List Value × V))
       → keys_of (filter (λ row. test row.0) rows) ≡ filter test (keys_of rows)
   keys_of-filter test [] = refl
@@ -57,7 +58,7 @@ module _ {V : Type 0} where
         | false ↦ keys_of-filter test rows
       ]
 
-  -- setting the value at a path sets it at the path's components
+  -- setting the value of the entry at a path sets the value of the row with the path's components
   pub rows_of-set_value : (v : List Value) (entries : List (PathBuf × V)) (x : V)
       → rows_of path_bytes
       (set_value (is_at (λ p. values_cmp v (values (path_bytes p)))) entries x)

@@ -5,8 +5,8 @@ use Rattle.unix_path.specs.Parts.{values}
 use Rattle.unix_path.specs.Prefixes.{stripped_of}
 use Rattle.path_runs.specs.PartLaws.{RestHasValues}
 
--- a path without its base has the path's components except the first n, where n is the number of
--- the base's components
+-- the components of the rest of s after base are the components of s without the first n, where n
+-- is the number of base's components
 pub values-stripped_of : RestHasValues → (s base : List ℕ)
     → values (stripped_of s base) ≡ drop (length (values base)) (values s)
 values-stripped_of again s base =

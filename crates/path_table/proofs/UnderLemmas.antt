@@ -23,14 +23,14 @@ module _ {V : Type 0} (base : List Value) where
   abbrev pub from_base : List (List Value × V) → List (List Value × V)
   from_base rows = filter (λ row. is_le (values_cmp base row.0)) rows
 
-  -- a first row under base is the first of the rows under it
+  -- if the first row is under base, it is the first of the rows under base
   pub first_under : (row : List Value × V) (rows : List (List Value × V)) → IsPrefixOf base row.0
       → entries_under base (row ∷ rows) ≡ row_after_base base row ∷ entries_under base rows
   first_under row rows begins =
       ap (λ b. map (row_after_base base) (cond b (row ∷ rows_with_base rows) (rows_with_base rows)))
       (under_from_begins base row.0 begins)
 
-  -- a first row that isn't under base is not among the rows under it
+  -- if the first row isn't under base, the rows under base are all among the rows after it
   pub skip_under : (row : List Value × V) (rows : List (List Value × V))
       → (IsPrefixOf base row.0 → ⊥) → entries_under base (row ∷ rows) ≡ entries_under base rows
   skip_under row rows apart =
@@ -57,8 +57,8 @@ module _ {V : Type 0} (base : List Value) where
   none_under interval row rows sorted from apart =
       none_after interval row.0 rows from apart sorted.0
 
-  -- if leaving out the rows before base doesn't change which rows are under base, the same holds
-  -- with one more row at the beginning
+  -- if leaving out the rows before base doesn't change which rows are under base, neither does it
+  -- after one more row is put first
   one_more : BaseBeforeUnder → (row : List Value × V) (rows : List (List Value × V))
       (from is : Bool) → is_le (values_cmp base row.0) ≡ from → is_under base row.0 ≡ is
       → entries_under base (from_base rows) ≡ entries_under base rows
@@ -75,7 +75,7 @@ module _ {V : Type 0} (base : List Value) where
       absurd (true≢false (sym (before base row.0 (begins_from_under base row.0 is)) ∙ from))
   one_more before row rows false false from is rest = rest
 
-  -- all rows under base are among those that are not before it
+  -- leaving out the rows that are before base doesn't change which rows are under base
   pub under_from_base : BaseBeforeUnder → (rows : List (List Value × V))
       → entries_under base (from_base rows) ≡ entries_under base rows
   under_from_base before [] = refl

@@ -1,4 +1,4 @@
--- What a table becomes when the borrow of one of its values ends.
+-- The table after the borrow of one of its values has ended.
 use Rattle.std.specs.Prelude.{◌≡◌, List, Option}
 use Rattle.std.specs.Borrow.{Fml, LendsSo, MutBor, RattleType}
 use Rattle.std.specs.BTreeMap.{is_at}
@@ -9,8 +9,9 @@ use Rattle.path_table.specs.Table.{key_bytes, table_of}
 use Rattle.path_table.specs.contracts.table.PathTable.{the_row}
 use Rattle.path_table.specs.declared.table.PathTable.{PathTable}
 
--- when the borrow r of the value at v ends, the table s has the last value of r in that row, and
--- the bytes of its keys are unchanged; if r is `None`, the table is unchanged
+-- when the borrow r of the value at the components v ends, the table s has the last value of r at
+-- v, and all other values and the bytes of its keys are unchanged; if r is `None`, the whole table
+-- is unchanged
 abbrev pub lends_table_value : (V : RattleType) → MutBor (PathTable V.Denot) → List Value
     → Option (MutBor V.Denot) → Fml
 lends_table_value V s v r = LendsSo (the_row V) V s r

@@ -1,4 +1,4 @@
--- Tables of values by path, as rows of components and a value.
+-- Tables of values by path, as rows: a row is the components of a path, with the value.
 use Rattle.std.specs.Prelude.{ℕ, List, drop, length, map}
 use Rattle.std.specs.Borrow.{Bor}
 use Rattle.std.specs.List.{AllPass, filter}
@@ -31,7 +31,7 @@ key_bytes table = map path_bytes (keys_of (entries_of table))
 abbrev pub paths_cmp : PathBuf → PathBuf → Ordering
 paths_cmp p q = values_cmp (values (path_bytes p)) (values (path_bytes q))
 
--- the components of the paths of these entries
+-- the components of each entry's path
 abbrev pub paths_of : {V : Type 0} → List (PathBuf × V) → List (List Value)
 paths_of entries = keys_of (rows_of path_bytes entries)
 
@@ -39,7 +39,7 @@ paths_of entries = keys_of (rows_of path_bytes entries)
 abbrev pub NoneBefore : List Value → List (List Value) → Type 0
 NoneBefore base paths = AllPass (λ v. is_le (values_cmp base v)) paths
 
--- a row without the first n of its components, where n is the number of base's components
+-- the row without its first n components, where n is the number of base's components
 abbrev pub row_after_base : {V : Type 0} → List Value → List Value × V → List Value × V
 row_after_base base row = (drop (length base) row.0, row.1)
 
@@ -56,7 +56,7 @@ item_row item = (values item.0.bytes.now, item.1.now)
 abbrev pub item_rest : {V : Type 0} → Path × Bor V → List ℕ × V
 item_rest item = (item.0.bytes.now, item.1.now)
 
--- for each entry under base, the rest of its path after base, as bytes of that path, and its value
+-- for each entry under base, the bytes of its path that remain after base, and its value
 abbrev pub rests_under : {V : Type 0} → List ℕ → List (PathBuf × V) → List (List ℕ × V)
 rests_under base entries = map (λ e. (stripped_of (path_bytes e.0) base, e.1))
     (filter (λ e. is_under (values base) (values (path_bytes e.0))) entries)

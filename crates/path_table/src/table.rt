@@ -29,8 +29,8 @@ use unix_path::PathBuf;
 
 /// A table of values by path, like a `BTreeMap<PathBuf, V>`.
 ///
-/// Equal paths are one key, and the entries are in path order. A table with 1 at `a/b` has 1 at
-/// `a//b` too.
+/// Equal paths are one key, and the entries are in path order. A table with 1 at `a/b` also has 1
+/// at `a//b`.
 #[derive(Drop)]
 pub struct PathTable<V> {
     inner: BTreeMap<PathBuf, V>,
@@ -41,7 +41,7 @@ impl<V> PathTable<V> {
 
     /// Returns a table without entries. Allocates nothing.
     ///
-    /// At `a` it has no value.
+    /// A new table has no value at `a`.
     pub fn new(alloc: Global) -> PathTable<V>
         ensures { table_of result ≡ [] }
     {
@@ -59,7 +59,8 @@ impl<V> PathTable<V> {
     /// table is unchanged, and `path` and `value` are dropped. The bytes of all other keys are
     /// unchanged.
     ///
-    /// With 1 at `a/b`, inserting 2 at `a//b/` returns 1 and leaves only the entry `a/b` with 2.
+    /// If a table has only 1 at `a/b`, inserting 2 at `a//b/` returns 1 and leaves only the entry
+    /// `a/b` with 2.
     pub fn insert(&mut self, path: PathBuf, value: V) -> Result<Option<V>, AllocError>
     where
         V: Drop,
@@ -88,7 +89,7 @@ impl<V> PathTable<V> {
 
     /// Returns the value at the path equal to `path`, or `None` if there is no such path.
     ///
-    /// With 1 at `a/b`, for `a/./b` it is 1.
+    /// If a table has 1 at `a/b`, the value at `a/./b` is 1.
     pub fn get(&self, path: &PathBuf) -> Option<&V>
         ensures { option_copied result
             ≡ value_at (values (path_bytes path.now)) (table_of self.now) }
@@ -100,7 +101,7 @@ impl<V> PathTable<V> {
     /// Returns a mutable reference to the value at the path equal to `path`, or `None` if there is
     /// no such path.
     ///
-    /// With 1 at `a/b`, writing 2 through the reference for `a//b` leaves 2 at `a/b`.
+    /// If a table has 1 at `a/b`, writing 2 through the reference for `a//b` leaves 2 at `a/b`.
     pub fn get_mut(&mut self, path: &PathBuf) -> Option<&mut V>
         ensures* writes_back { sem 𝓛 (lends_table_value V.row self.entry
             (values (path_bytes path.now)) result) }
@@ -114,7 +115,7 @@ impl<V> PathTable<V> {
     /// Removes the entry at the path equal to `path`. Returns its value, or `None` if there is no
     /// such path. The bytes of all other keys are unchanged.
     ///
-    /// With only 1 at `a/b`, removing `a//b` returns 1 and leaves no entries.
+    /// If a table has only 1 at `a/b`, removing `a//b` returns 1 and leaves no entries.
     pub fn remove(&mut self, path: &PathBuf) -> Option<V>
         ensures value { result ≡ value_at (values (path_bytes path.now)) (table_of self.old) }
         ensures rows { table_of self.new
@@ -133,7 +134,8 @@ impl<V> PathTable<V> {
 
     /// Returns the number of entries.
     ///
-    /// With 1 at `a/b`, and 2 then inserted at `a//b`, it is 1.
+    /// If a table has only 1 at `a/b`, and 2 is inserted at `a//b`, the number of entries is still
+    /// 1.
     pub fn len(&self) -> usize
         ensures { result ≡ length (table_of self.now) }
     {
@@ -142,7 +144,7 @@ impl<V> PathTable<V> {
 
     /// Returns true if and only if there are no entries.
     ///
-    /// It is true of a new table.
+    /// A new table is empty.
     #[must_use]
     pub fn is_empty(&self) -> bool
         ensures { IsTrue result ↔ (table_of self.now ≡ []) }
@@ -152,7 +154,7 @@ impl<V> PathTable<V> {
 
     /// Removes all entries.
     ///
-    /// With 1 at `a/b`, it leaves no value at `a/b`.
+    /// If a table had 1 at `a/b`, it has no value at `a/b` any more.
     pub fn clear(&mut self)
     where
         V: Drop,
@@ -164,7 +166,8 @@ impl<V> PathTable<V> {
     /// Returns an iterator over the entries in path order. The keys have the bytes with which they
     /// were inserted.
     ///
-    /// With 1 at `a.b` and 2 at `a//b` it yields `a//b` with 2, and then `a.b` with 1.
+    /// If a table has 1 at `a.b` and 2 at `a//b`, the iterator yields `a//b` with 2, and then `a.b`
+    /// with 1.
     pub fn iter(&self) -> Iter<'_, PathBuf, V>
         ensures rows { rows_of path_bytes result ≡ table_of self.now }
         ensures keys { map path_bytes (keys_of result) ≡ key_bytes self.now }
@@ -179,7 +182,7 @@ impl<V> PathTable<V> {
     /// Returns true if and only if the table has a path equal to `path`. Corresponds to Rust's
     /// `BTreeMap::contains_key`.
     ///
-    /// With 1 at `a/b`, it contains `a//b/`, and not `a`.
+    /// A table with only 1 at `a/b` contains `a//b/`, but not `a`.
     #[must_use]
     pub fn contains(&self, path: &PathBuf) -> bool
         ensures { result ≡ is_some (value_at (values (path_bytes path.now)) (table_of self.now)) }
@@ -191,7 +194,7 @@ impl<V> PathTable<V> {
 
 /// Writes the paths and their values in path order, like the debug form of a `BTreeMap`.
 ///
-/// With 1 at `a/b` it is `{"a/b": 1}`.
+/// A table with only 1 at `a/b` is written as `{"a/b": 1}`.
 impl<V: fmt::Debug> fmt::Debug for PathTable<V> {
     fn fmt<W: fmt::Write>(&self, f: &mut fmt::Formatter<W>) -> fmt::Result {
         self.inner.fmt(f)

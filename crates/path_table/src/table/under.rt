@@ -19,7 +19,7 @@ use unix_path::{Path, PathBuf};
 ///
 /// Once it has returned `None`, it always returns `None`.
 ///
-/// With 1 at `a//b/c` and 2 at `a.b`, under `a` it yields `b/c` with 1.
+/// If a table has 1 at `a//b/c` and 2 at `a.b`, the walk under `a` yields only `b/c` with 1.
 #[must_use]
 #[derive(Drop)]
 pub struct Under<'a, 'b, V> {
@@ -44,14 +44,15 @@ impl<V> PathTable<V> {
     ///
     /// A path is under `base` if its first components are the components of `base`: `a.b` isn't
     /// under `a`. An entry at `base` itself comes first, with the empty path. The rest has the
-    /// bytes of the path as it was inserted. The walk starts at `base` and ends at the first path
-    /// that doesn't start with it.
+    /// bytes of the path as it was inserted. The walk starts at `base` and ends before the first
+    /// path that doesn't start with `base`.
     ///
     /// No `..` is resolved: `/dest/../etc` is under `/dest`, with the rest `../etc`. To keep a path
     /// below a directory, use `Request::beneath` and `Root::join` of the crate `path_within`, or
     /// its `join_within`.
     ///
-    /// With 1 at `a//b/c` and 2 at `a/b/d`, under `a/b` it yields `c` with 1, and then `d` with 2.
+    /// If a table has 1 at `a//b/c` and 2 at `a/b/d`, the walk under `a/b` yields `c` with 1, and
+    /// then `d` with 2.
     pub fn walk_under<'a, 'b>(&'a self, base: &'b PathBuf) -> Under<'a, 'b, V>
         ensures all_rows { remaining_rows result
             ≡ entries_under (values (path_bytes base.now)) (table_of self.entry.now) }
@@ -70,8 +71,8 @@ impl<V> PathTable<V> {
         }
     }
 
-    /// Returns the list of what `walk_under` yields: for each entry under `base`, in path order,
-    /// the rest of its path after `base`, and the value.
+    /// Returns a list of the items that `walk_under` yields: for each entry under `base`, in path
+    /// order, the rest of its path after `base`, and the value.
     ///
     /// No `..` is resolved: `/dest/../etc` is under `/dest`, with the rest `../etc`. To keep a path
     /// below a directory, use `Request::beneath` and `Root::join` of the crate `path_within`, or
@@ -80,7 +81,8 @@ impl<V> PathTable<V> {
     /// Allocates as the list grows. If an allocation fails, the call fails and the list is dropped.
     /// If no entry is under `base`, nothing is allocated and the call succeeds.
     ///
-    /// With 1 at `a//b/c` and 2 at `a/b/d`, under `a/b` they are `c` with 1 and `d` with 2.
+    /// If a table has 1 at `a//b/c` and 2 at `a/b/d`, the list for `a/b` has `c` with 1 and `d`
+    /// with 2.
     pub fn under<'a>(
         &'a self,
         alloc: Global,
