@@ -6,7 +6,7 @@
 
 use std::alloc::{AllocError, Global};
 
-// The most blocks that are held.
+// The maximum number of blocks that are held.
 const BLOCKS: usize = 50_000;
 
 // The number of blocks of `STEP` bytes that can be released one by one.
@@ -16,14 +16,14 @@ const STEPS: usize = 200;
 // apart by size, and merges freed blocks of this size with free neighbours.
 const STEP: usize = 2048;
 
-// The number of sizes of small blocks that are allocated, from 16 bytes on in steps of 16. The C
-// library keeps no more sizes apart.
+// The number of different sizes of the small blocks that are allocated: 16 bytes, 32 bytes, and so
+// on. The C library keeps freed blocks apart by size only up to these sizes.
 const SIZES: usize = 65;
 
 /// All memory that the process can still allocate. Dropping it releases the memory.
 ///
-/// While it is held an allocation fails, except where a block grows in place. It relies on the C
-/// library's allocator and on a finite address space.
+/// While an `Exhausted` exists, each allocation fails, except where a block grows in place. This
+/// relies on the C library's allocator and on a finite address space.
 ///
 /// With `let _exhausted = Exhausted::begin(alloc)?;` in scope, `Vec::<u8>::with_capacity(alloc, 1)`
 /// is an error.
@@ -39,7 +39,7 @@ impl Exhausted {
     /// Fails if a list of its blocks, or one of the 200 blocks that `release` releases, can't be
     /// allocated; then no memory is held.
     ///
-    /// Under an allocator that grants any request, such as a memory checker's, it returns `None`.
+    /// If no allocation ever fails, for example under a memory checker, the result is `None`.
     pub fn begin(alloc: Global) -> Result<Option<Exhausted>, AllocError> {
         let mut steps = Vec::with_capacity(alloc, STEPS)?;
         for _ in 0..STEPS {

@@ -1,19 +1,19 @@
-//! Random bytes, the same from the same seed.
+//! Random bytes. Equal seeds produce equal bytes.
 use std::alloc::{AllocError, Global};
 
-// Half of the strings are over these letters, so that they have slashes and dots.
+// Half of the strings have only these bytes, so that slashes and dots are frequent.
 static LETTERS: [u8; 8] = *b"//../.ab";
 
-/// The numbers of splitmix64 (Steele, Lea and Flood, 2014) from a seed.
+/// The random number generator splitmix64 (Steele, Lea and Flood, 2014).
 ///
-/// After `Random::new(1)` each run returns the same numbers and strings.
+/// Each generator that `Random::new(1)` returns produces the same numbers and strings.
 #[derive(Drop)]
 pub struct Random {
     state: u64,
 }
 
 impl Random {
-    /// Returns the generator with this seed.
+    /// Returns a generator with this seed.
     pub fn new(seed: u64) -> Random {
         Random { state: seed }
     }
@@ -26,7 +26,8 @@ impl Random {
         mixed ^ mixed >> 31
     }
 
-    // Returns a letter or, unless the string has only letters, any byte three times in four.
+    // Returns a random byte of a string. If `has_letters_alone` is true, the byte is in `LETTERS`.
+    // Otherwise it is any byte in three of four cases, and in `LETTERS` in the fourth.
     fn byte(&mut self, has_letters_alone: bool) -> u8 {
         let word = self.next();
         let is_letter = has_letters_alone || word >> 32 & 3 == 0;

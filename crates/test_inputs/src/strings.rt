@@ -8,10 +8,11 @@ fn with_letter(alloc: Global, string: &[u8], letter: u8) -> Result<Vec<u8>, Allo
     Ok(longer)
 }
 
-/// Returns strings over these letters, shorter ones first: the empty string, and each of the first
-/// `shorter` strings followed by each letter.
+/// Returns strings over these letters, shorter ones first. The first string is empty. Each of the
+/// first `shorter` strings is also in the list with each letter appended.
 ///
-/// Over `ab` with `shorter` 1 they are the empty string, `a` and `b`. Fails if an allocation fails.
+/// For the letters `ab` and `shorter` 1, the strings are the empty string, `a` and `b`. Fails if an
+/// allocation fails.
 pub fn strings_over(
     alloc: Global,
     letters: &[u8],
