@@ -37,7 +37,7 @@ fn succeeds<T: Drop, E: Drop>(given: Result<T, E>) -> bool {
     given.is_ok()
 }
 
-// Returns true if the call borrowed this text.
+// Returns true if the call succeeded and its result borrows this text.
 fn is_borrowed(given: Result<LossyText<'_>, AllocError>, text: &str) -> bool {
     match given {
         Ok(LossyText::Borrowed(shown)) => shown == text,
@@ -45,8 +45,8 @@ fn is_borrowed(given: Result<LossyText<'_>, AllocError>, text: &str) -> bool {
     }
 }
 
-// Allocates all memory. Fails if an allocation still succeeds, so that no test passes without a
-// failed allocation.
+// Allocates all memory. Fails if an allocation still succeeds, because then the test would show
+// nothing.
 fn exhaust(alloc: Global) -> Result<Exhausted, Fail> {
     let Some(exhausted) = Exhausted::begin(alloc)? else {
         return Err(Fail::new("more memory than can be held"));

@@ -41,7 +41,8 @@ fn after_reserve_an_extend_does_not_allocate(rt: HostRuntime) -> Result<(), Fail
     Ok(())
 }
 
-// Returns true if reserving more bytes than a buffer can have fails, and leaves `foo`.
+// Returns true if reserving more bytes than a buffer can have is an error, and the buffer is still
+// `foo`.
 fn refuses_all_memory(buffer: &mut PathBuf) -> bool {
     buffer.reserve(usize::MAX).is_err()
         && buffer.reserve_exact(usize::MAX).is_err()
@@ -70,7 +71,7 @@ fn fits_edits(buffer: &mut PathBuf) -> bool {
         && buffer.capacity() == capacity
 }
 
-// Returns true if calls that need no other capacity leave it unchanged.
+// Returns true if calls that need not change the capacity leave it unchanged.
 fn keeps_its_capacity(buffer: &mut PathBuf) -> bool {
     let capacity = buffer.capacity();
     buffer.shrink_to(capacity).is_ok()
@@ -90,7 +91,7 @@ fn within_the_capacity_edits_do_not_allocate(rt: HostRuntime) -> Result<(), Fail
     Ok(())
 }
 
-// Returns true if each call that makes `ab` longer fails, and leaves it unchanged.
+// Returns true if each call that would make `ab` longer fails, and leaves `ab` unchanged.
 fn refuses_pushes(buffer: &mut PathBuf, long: Path<'_>, rooted: Path<'_>) -> bool {
     buffer.push(rooted).is_err()
         && holds(buffer, "ab")
@@ -134,8 +135,8 @@ fn a_failed_name_keeps_the_bytes(rt: HostRuntime) -> Result<(), Fail> {
     Ok(())
 }
 
-// Returns true if each call that makes the extension of `foo/.` longer fails, and leaves it
-// unchanged.
+// Returns true if each call that would make the extension of `foo/.` longer fails, and leaves
+// `foo/.` unchanged.
 fn refuses_extensions(buffer: &mut PathBuf, long: UnixStr<'_>) -> bool {
     fails(buffer.set_extension(long)) && fails(buffer.add_extension(long)) && holds(buffer, "foo/.")
 }
@@ -235,9 +236,9 @@ fn separators_are_refused_without_memory(rt: HostRuntime) -> Result<(), Fail> {
     Ok(())
 }
 
-// Extends an empty path by these three paths, and marks in `seen` how many of them it then has,
-// which its length shows. Returns false for any other length, if `extend` returns an error although
-// the path has all three, or if it returns no error although the path does not.
+// Extends an empty path by these three paths. Its length then shows how many of them were pushed,
+// which is marked in `seen`. Returns false for any other length. Also returns false if `extend`
+// fails although all three were pushed, or succeeds although they were not.
 fn extends_so_far(alloc: Global, paths: &[Path<'_>], seen: &mut [bool; 4]) -> bool {
     let mut buffer = PathBuf::new(alloc);
     let is_made = extends(&mut buffer, paths);
@@ -252,7 +253,7 @@ fn extends_so_far(alloc: Global, paths: &[Path<'_>], seen: &mut [bool; 4]) -> bo
     is_made == (pushed == 3)
 }
 
-// Makes each allocation of `extend` fail in some round. What was pushed before it stays.
+// Makes each allocation of `extend` fail in some round. The paths that were pushed before it stay.
 #[test]
 fn a_failed_extend_keeps_the_pushes_before(rt: HostRuntime) -> Result<(), Fail> {
     let alloc = rt.alloc();

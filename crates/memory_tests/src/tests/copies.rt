@@ -44,7 +44,7 @@ fn a_new_path_does_not_allocate(rt: HostRuntime) -> Result<(), Fail> {
     Ok(())
 }
 
-// Returns true if each copy of no bytes succeeds.
+// Returns true if each call that copies an empty path or string succeeds.
 fn copies_no_bytes(alloc: Global) -> bool {
     let empty = path("");
     let none = UnixStr::new("");
@@ -68,7 +68,8 @@ fn is_boxed_and_copied(alloc: Global) -> Result<bool, AllocError> {
     Ok(succeeds(boxed.clone()))
 }
 
-// Makes copies of no bytes, which do not allocate, except for the count of a shared path's owners.
+// Copies empty paths and strings, which does not allocate. Only a shared path allocates, for the
+// count of its owners.
 #[test]
 fn copies_of_no_bytes_do_not_allocate(rt: HostRuntime) -> Result<(), Fail> {
     let alloc = rt.alloc();

@@ -1,6 +1,6 @@
-//! One call per test, with ample memory here. `tools/check_requests` runs the tests while
+//! Each test makes one call, here with enough memory. `tools/check_requests` runs the tests while
 //! allocation number 1, 2, 3 and so on fails. A test then fails with `refused` if its call failed
-//! and left what it should.
+//! and left its arguments as promised.
 mod copies;
 mod edits;
 mod kept;
@@ -29,8 +29,8 @@ fn has_bytes(bytes: &UnixString, text: &str) -> bool {
     bytes.as_unix_str() == UnixStr::new(text)
 }
 
-// Returns the result of a test: the error `refused` if its call failed, and the error `wrong` if
-// the call returned or left anything else than it should.
+// Returns the result of a test. The error is `wrong` if the call returned or left anything that it
+// should not, and otherwise `refused` if the call failed.
 fn report(is_made: bool, is_right: bool) -> Result<(), Fail> {
     if !is_right {
         return Err(Fail::new("wrong"));

@@ -16,8 +16,8 @@ fn edits_before_failure(alloc: Global, buffer: &mut PathBuf, edits: &[Edit<'_>])
     }
 }
 
-// Returns true if the first `done` edits of `ab` leave `ab/c` and the next one fails, with memory
-// only for the answers.
+// Applies the edits to `ab`, with memory only for the list of answers. Returns true if the first
+// `done` edits leave `ab/c` and the next edit fails.
 fn leave_done(alloc: Global, edits: &[Edit<'_>], done: usize) -> Result<bool, Fail> {
     let mut buffer = PathBuf::from_text(alloc, "ab")?;
     let mut exhausted = exhaust(alloc)?;
@@ -55,8 +55,8 @@ fn answers_that_fail_leave_the_path(rt: HostRuntime) -> Result<(), Fail> {
     Ok(())
 }
 
-// Returns true if a walk, a canonical form and a `rejoin` fail, and if `rejoin` returns `None`,
-// without allocating, for a path that doesn't start with the base.
+// Returns true if a walk, both calls for a canonical form, and `rejoin` fail. If the path doesn't
+// start with the base, `rejoin` has to return `None` without allocating.
 fn refuses_runs(alloc: Global) -> bool {
     fails(walk(alloc, path("/a"), [Turn::Back].as_slice()))
         && fails(canonical(alloc, path("/a")))

@@ -4,8 +4,8 @@ use std::alloc::{AllocError, Global};
 use std::test::Fail;
 use unix_bytes::bytes::{UnixStr, UnixString};
 
-// Returns true if pushes to `foo`, and calls that need no more capacity, succeed within its
-// capacity.
+// Returns true if pushes to `foo` that fit its capacity, and other calls that need no more, succeed
+// and leave the capacity unchanged.
 fn fits_pushes(text: &mut UnixString) -> bool {
     let capacity = text.capacity();
     text.push(UnixStr::new("/a")).is_ok()
@@ -28,7 +28,7 @@ fn within_the_room_a_push_does_not_allocate(rt: HostRuntime) -> Result<(), Fail>
     Ok(())
 }
 
-// Returns true if each call that makes `foo` longer fails, and leaves it unchanged.
+// Returns true if each call that would make `foo` longer fails, and leaves `foo` unchanged.
 fn refuses_growth(text: &mut UnixString, long: UnixStr<'_>) -> bool {
     let foo = UnixStr::new("foo");
     text.push(long).is_err()
@@ -59,7 +59,8 @@ fn a_failed_push_keeps_the_bytes(rt: HostRuntime) -> Result<(), Fail> {
     Ok(())
 }
 
-// Returns true if reserving more bytes than a string can have fails, and leaves `foo`.
+// Returns true if reserving more bytes than a string can have is an error, and the string is still
+// `foo`.
 fn refuses_all_memory(text: &mut UnixString) -> bool {
     text.reserve(usize::MAX).is_err()
         && text.reserve_exact(usize::MAX).is_err()
@@ -81,7 +82,8 @@ fn makes_empty_strings(alloc: Global) -> bool {
     is_empty && succeeds(UnixString::with_capacity(alloc, 0))
 }
 
-// Returns true if a string of the bytes 1 and 2 has them and returns them.
+// Returns true if a `UnixString` of the bytes 1 and 2 has these bytes, and returns them as a
+// vector.
 fn gives_back(bytes: Vec<u8>) -> bool {
     let text = UnixString::from(bytes);
     let has_bytes = text.as_unix_str().as_bytes() == [1u8, 2].as_slice();
@@ -117,8 +119,8 @@ fn promised_calls_of_strings_do_not_allocate(rt: HostRuntime) -> Result<(), Fail
     Ok(())
 }
 
-// Returns true if an empty string with a capacity of 10 grows and shrinks as requested, to
-// `foobar`.
+// Returns true if an empty string with a capacity of 10 grows and shrinks as requested, and is
+// `foobar` at the end.
 fn grows_and_shrinks(text: &mut UnixString) -> bool {
     text.capacity() >= 10
         && text.push(UnixStr::new("foo")).is_ok()
@@ -134,7 +136,7 @@ fn grows_and_shrinks(text: &mut UnixString) -> bool {
         && text.as_unix_str() == UnixStr::new("foobar")
 }
 
-// Returns true if a copy of `foobar` is equal to it, and less once the original is longer.
+// Returns true if a copy of `foobar` equals the original, and is less once the original is longer.
 fn is_copied(alloc: Global, text: &mut UnixString) -> Result<bool, AllocError> {
     let copy = text.clone()?;
     let is_equal = copy == *text;

@@ -117,8 +117,8 @@ const AB_AFTER_PUSHES: [&str; 4] = [
     "ab/c/0123456789/0123456789012345678901234567890123456789",
 ];
 
-// Returns true if the path is what the pushes before the failed push left, and the failed push
-// would make it longer than its capacity.
+// Returns true if the path is `ab` after some of the pushes, and the next push would make it longer
+// than its capacity.
 fn is_cut_short(buffer: &PathBuf) -> bool {
     let [none, one, two, three] = AB_AFTER_PUSHES;
     let next = if holds(buffer, none) {

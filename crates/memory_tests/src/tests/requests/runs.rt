@@ -57,7 +57,7 @@ fn path_walked(rt: HostRuntime) -> Result<(), Fail> {
     }
 }
 
-// Returns the path that the first `done` edits of `ab` leave.
+// Returns the path that the first `done` edits make of `ab`.
 fn edited_text(done: usize) -> &'static str {
     match done {
         0 => "ab",
@@ -84,7 +84,7 @@ fn edits_applied(rt: HostRuntime) -> Result<(), Fail> {
     }
 }
 
-// Returns the path that the first `done` of these extensions leave.
+// Returns the path that `ab` becomes when the first `done` of the extensions are added.
 fn extended_text(done: usize) -> &'static str {
     match done {
         0 => "ab",

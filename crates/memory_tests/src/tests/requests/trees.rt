@@ -188,7 +188,7 @@ fn tree_paths_changed(rt: HostRuntime) -> Result<(), Fail> {
     }
 }
 
-// Moves sixteen files in a directory, whose copies need more than one node of the tree.
+// Moves a directory of sixteen files, whose new entries need more than one node of the tree.
 #[test]
 fn tree_moved(rt: HostRuntime) -> Result<(), Fail> {
     let alloc = rt.alloc();

@@ -1,4 +1,4 @@
-//! Calls that promise to need no memory, of boxed, shared, and borrowed or owned paths.
+//! Calls on boxed, shared, and borrowed or owned paths that promise to need no memory.
 use super::super::{exhaust, path};
 use super::{debug_has, display_has, hash_same, is_view};
 use std::alloc::{AllocError, Global};

@@ -1,4 +1,4 @@
-//! Calls that promise to need no memory, of keys.
+//! Calls on keys that promise to need no memory.
 use super::super::{exhaust, fails, path};
 use path_keys::{KeyError, PathKey, is_key, key_len, path_of, write_key, write_path_of};
 use std::alloc::Global;
@@ -13,8 +13,8 @@ fn is_set_in_its_room(key: &mut PathKey) -> bool {
     is_set && stays && key.set(path("")).is_ok() && key.as_bytes().is_empty()
 }
 
-// Returns true if bytes that are not a key are reported as such, and a key that cannot be read for
-// lack of memory is not.
+// Returns true if `path_of` fails with `NotAKey` for bytes that are not a key, and with `Memory`
+// for a key.
 fn is_told(alloc: Global) -> bool {
     let is_no_key = match path_of(alloc, b"\x61\x00\x00\x01") {
         Err(KeyError::NotAKey) => true,
@@ -28,7 +28,8 @@ fn is_told(alloc: Global) -> bool {
     is_no_key && is_no_memory && is_empty && is_key(b"\x61\x00")
 }
 
-// Returns true if bytes that are not a key are refused, and a key fails only for lack of memory.
+// Returns true if `PathKey::from_bytes` fails with `NotAKey` for bytes that are not a key, and with
+// `Memory` for a key.
 fn is_told_of_bytes(alloc: Global) -> bool {
     let is_no_key = match PathKey::from_bytes(alloc, b"\x61\x00\x00\x01") {
         Err(KeyError::NotAKey) => true,
@@ -41,8 +42,8 @@ fn is_told_of_bytes(alloc: Global) -> bool {
     is_no_key && is_no_memory && PathKey::from_bytes(alloc, b"").is_ok()
 }
 
-// Returns true if a key is counted and written to a buffer, its path is written too, and bytes that
-// are not a key have no path.
+// Returns true if a path's key is measured and written to a buffer, the key's path is written too,
+// and bytes that are not a key have no path.
 fn is_written() -> bool {
     let mut buffer = [0u8; 4];
     let len = write_key(path("a//b"), &mut buffer);

@@ -1,4 +1,4 @@
-//! Calls that promise to need no memory, of buffers, walks, canonical forms and edits.
+//! Calls for buffers, walks, canonical forms and edits that promise to need no memory.
 use super::super::{exhaust, path};
 use super::{debug_has, hash_same};
 use path_runs::canonical::{canonical, collected, is_canonical, write_canonical};
@@ -54,8 +54,8 @@ fn resolves_nothing(alloc: Global) -> bool {
     resolved(alloc, path("")).is_ok() && join_verbatim(alloc, path(""), path("")).is_ok()
 }
 
-// Returns true if a relative path is found from each path to itself. It is empty, so it needs no
-// memory.
+// Returns true if the relative path from each of these paths to itself is found. It is empty, so it
+// needs no memory.
 fn leads_nowhere(alloc: Global) -> bool {
     let paths = [
         path(""),
@@ -115,7 +115,8 @@ fn spelling_is_written() -> bool {
     write_canonical(path("/.//a/b/."), &mut out) == 4 && path("/a/b") == Path::from_bytes(&out)
 }
 
-// Returns true if a path is written resolved, whether it is already resolved or not.
+// Returns true if a resolved path is written, both for a path with `..` and for a path that is
+// already resolved.
 fn resolved_is_written() -> bool {
     let mut out = [0_u8; 4];
     write_resolved(path("a/../..//b/."), &mut out) == 4
@@ -124,8 +125,8 @@ fn resolved_is_written() -> bool {
         && out == *b"/a/c"
 }
 
-// Returns true if relative paths are written between plain paths and between paths with `..` or
-// filler, and if nothing is returned where there is no relative path.
+// Returns true if relative paths are written, both between paths of names only and between paths
+// with `..` or filler, and if `None` is returned where there is no relative path.
 fn relative_path_is_written() -> bool {
     let mut out = [0_u8; 7];
     write_relative_path(path("/a/b/c"), path("/a/d"), &mut out) == Some(7)

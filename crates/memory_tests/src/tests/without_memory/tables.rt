@@ -1,12 +1,12 @@
-//! Calls that promise to need no memory, of tables.
+//! Calls on tables that promise to need no memory.
 use super::super::{exhaust, fails};
 use path_table::PathTable;
 use std::alloc::{AllocError, Global};
 use std::test::Fail;
 use unix_path::PathBuf;
 
-// Looks the path up and removes it. Returns true if both find the value, and neither finds one when
-// repeated.
+// Looks the path up and removes it, twice. Returns true if both calls find the value the first time
+// and nothing the second time.
 fn is_taken(table: &mut PathTable<u8>, path: &PathBuf, value: u8) -> bool {
     table.get(path) == Some(&value)
         && table.remove(path) == Some(value)
@@ -14,8 +14,8 @@ fn is_taken(table: &mut PathTable<u8>, path: &PathBuf, value: u8) -> bool {
         && table.remove(path).is_none()
 }
 
-// Replaces the value at an equal path, and removes the path. Returns true if the table had the one
-// path and is then empty, and if `under` failed.
+// Replaces the value 1 at an equal path, and then removes the path. Returns true if both succeed
+// and leave the table empty, and if `under` fails.
 fn is_emptied(alloc: Global, table: &mut PathTable<u8>, path: &PathBuf, same: PathBuf) -> bool {
     let before = table.insert(same, 2).ok();
     before == Some(Some(1))
@@ -41,7 +41,8 @@ fn stays_empty(alloc: Global, path: &PathBuf, other: PathBuf) -> bool {
         && empty.remove(path).is_none()
 }
 
-// Replaces an equal path's value; there is no memory for another path.
+// Replaces the value at an equal path. There is no memory for inserting a path that the table
+// doesn't have.
 #[test]
 fn tables_are_read_and_emptied_without_memory(rt: HostRuntime) -> Result<(), Fail> {
     let alloc = rt.alloc();
@@ -57,7 +58,7 @@ fn tables_are_read_and_emptied_without_memory(rt: HostRuntime) -> Result<(), Fai
     Ok(())
 }
 
-// Inserts a path for each value up to 99, and appends the same paths to `paths` in order.
+// Inserts a path for each value from 0 to 99, and appends the same paths to `paths` in order.
 fn fill(
     alloc: Global,
     table: &mut PathTable<u8>,
@@ -71,8 +72,8 @@ fn fill(
     Ok(())
 }
 
-// Removes the paths. Returns true if there were 100, each had its index as its value, and the table
-// is then empty.
+// Removes the paths. Returns true if there were 100 paths, each had its index as its value, and the
+// table is then empty.
 fn are_taken(table: &mut PathTable<u8>, paths: &[PathBuf]) -> bool {
     let mut value = 0u8;
     for path in paths {

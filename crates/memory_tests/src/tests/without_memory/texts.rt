@@ -1,4 +1,4 @@
-//! Calls that promise to need no memory, of byte strings and texts.
+//! Calls on byte strings and lossy texts that promise to need no memory.
 use super::super::exhaust;
 use super::{debug_has, display_has, hash_same};
 use std::alloc::Global;

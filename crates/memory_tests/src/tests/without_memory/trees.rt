@@ -1,4 +1,4 @@
-//! Calls that promise to need no memory, of trees.
+//! Calls on trees that promise to need no memory.
 use super::super::{exhaust, fails, path};
 use path_keys::PathKey;
 use path_tree::PathTree;
@@ -6,8 +6,8 @@ use std::alloc::AllocError;
 use std::test::Fail;
 use unix_path::Path;
 
-// Returns true if a path is found, by its key and by itself, has no children, and is the nearest
-// path of one below it.
+// Returns true if `a/b` is found by its key and by itself, has no children, and is the longest
+// prefix of `a/b/c`, and if the path `name` is found.
 fn is_found(tree: &PathTree<u8>, key: &PathKey, name: &[u8]) -> Result<bool, AllocError> {
     let by_path = tree.get_path(Path::from_bytes(name))? == Some(&1);
     let is_in = tree.contains(key) && tree.contains_path(path("a//b"))?;
@@ -19,8 +19,8 @@ fn is_found(tree: &PathTree<u8>, key: &PathKey, name: &[u8]) -> Result<bool, All
     Ok(by_path && is_in && is_childless && nearest && tree.get(key) == Some(&2))
 }
 
-// Returns true if a new path is rejected, and all entries are removed: one by its key, one by its
-// path, and two under the base.
+// Returns true if inserting a new path fails, and all entries are removed: one by its key, one by
+// its path, and two under the base.
 fn is_emptied(
     tree: &mut PathTree<u8>,
     key: &PathKey,

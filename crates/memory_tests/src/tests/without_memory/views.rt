@@ -1,4 +1,4 @@
-//! Calls that promise to need no memory, of views of paths.
+//! Calls on views of paths that promise to need no memory.
 use super::super::{exhaust, path};
 use super::{debug_has, display_has, hash_same, is_view};
 use std::cmp::Ordering;
