@@ -53,7 +53,7 @@ fn exhaust(alloc: Global) -> Result<Exhausted, Fail> {
     };
     let is_short = is_refused(alloc, 1) && is_refused(alloc, 24) && is_refused(alloc, 4096);
     if !is_short {
-        return Err(Fail::new("a request was granted"));
+        return Err(Fail::new("an allocation succeeded"));
     }
     Ok(exhausted)
 }

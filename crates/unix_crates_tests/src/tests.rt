@@ -1,5 +1,5 @@
-//! Tables of calls that only Rattle has, with their results, and tests of what no clause says. Rows
-//! of calls that C or pathtool has are in tests/rows.txt and vectors.
+//! Tests of calls that only Rattle has, with tables of their results, and tests of what no clause
+//! says. The tables for calls that C or pathtool also has are in tests/rows.txt and vectors.
 mod answers;
 mod buffers;
 mod bytes;

@@ -1,4 +1,4 @@
-//! Rows of how buffers are created, of their capacity, and of how they compare.
+//! Tests of how buffers are created, of their capacity, and of how they compare.
 use super::answers::assert_each;
 use super::edits::has_bytes;
 use super::views::path;
@@ -8,8 +8,8 @@ use std::test::Fail;
 use unix_bytes::bytes::{UnixStr, UnixString};
 use unix_path::PathBuf;
 
-// Returns true if a path keeps these bytes, and so does a copy of its clone that is converted to
-// bytes, to a path and to bytes again.
+// Returns true if a path keeps these bytes, and if they are the same after the path is cloned,
+// copied, and converted to a byte string and back.
 fn are_kept(alloc: Global, bytes: UnixStr<'_>) -> Result<bool, AllocError> {
     let first = PathBuf::from_unix_str(alloc, bytes)?;
     let copy: UnixString = first.clone()?.as_path().to_path_buf(alloc)?.into();
@@ -95,7 +95,7 @@ static COMPARISONS: [(&str, &str, Ordering); 9] = [
     ("./a", "a", Ordering::Less),
 ];
 
-// Returns true if owned copies compare this way.
+// Returns true if owned copies of `a` and `b` compare as `order` says.
 fn are_ordered(alloc: Global, a: &str, b: &str, order: Ordering) -> Result<bool, AllocError> {
     let first = PathBuf::from_text(alloc, a)?;
     let second = PathBuf::from_text(alloc, b)?;

@@ -1,4 +1,4 @@
-//! Rows of debug texts of views and walks, and the text of the error of stripping.
+//! Tests of the debug texts of views and walks, and of the texts of `StripPrefixError`.
 use super::texts::{assert_debug_text, is_debug_text, is_text};
 use std::alloc::Global;
 use unix_bytes::bytes::UnixStr;

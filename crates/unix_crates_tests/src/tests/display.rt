@@ -1,4 +1,4 @@
-//! Rows of paths as text, and displays into writers that fail.
+//! Tests of displayed paths, and of displays into writers that fail.
 ghost use Rattle.std.specs.Prelude.{◌≡◌, IfOk};
 ghost use Rattle.std.specs.String.{string_bytes};
 ghost use Rattle.unix_bytes.specs.Lossy.{lossy_of};
@@ -13,7 +13,7 @@ use unix_bytes::bytes::LossyText;
 use unix_bytes::lossy::Utf8Lossy;
 use unix_path::{Display, Path};
 
-// Returns the lossy text by printing it, with what a caller can prove about it.
+// Returns the lossy text of the bytes, which it prints. The contract is what a caller can prove.
 fn lossy_text(alloc: Global, bytes: &[u8]) -> Result<String, AllocError>
     ensures { IfOk result (λ text. string_bytes text ≡ lossy_of bytes.now) }
 {
@@ -49,7 +49,7 @@ fn paths_are_shown(rt: HostRuntime) {
     }
 }
 
-// Pads valid UTF-8 as a `str` is padded. Invalid bytes ignore width, precision and fill.
+// Valid UTF-8 is padded like a `str`. For other bytes, width, precision and fill are ignored.
 #[test]
 fn text_is_padded(rt: HostRuntime) {
     let alloc = rt.alloc();
@@ -64,7 +64,7 @@ fn text_is_padded(rt: HostRuntime) {
     assert_debug_text(&rt, alloc, &broken, "\"a\u{FFFD}\"");
 }
 
-// Returns true if a borrowed lossy text was returned and is this one.
+// Returns true if the call returned a borrowed lossy text that equals `wanted`.
 fn is_borrowed(given: Result<LossyText<'_>, AllocError>, wanted: &str) -> bool {
     match given {
         Ok(LossyText::Borrowed(text)) => text == wanted,
@@ -85,8 +85,8 @@ fn text_is_borrowed(rt: HostRuntime) {
     );
 }
 
-// Returns true if the display failed with the one write that failed, made `most` writes before it,
-// and wrote a prefix of its text but not all of it.
+// Returns true if the display failed at the first write that failed, after `most` writes that
+// succeeded, and wrote a proper prefix of `whole`.
 fn is_ended(writer: &RefusingWriter, answer: fmt::Result, most: usize, whole: &str) -> bool {
     answer.is_err()
         && writer.refused_writes == 1
@@ -95,8 +95,8 @@ fn is_ended(writer: &RefusingWriter, answer: fmt::Result, most: usize, whole: &s
         && whole.starts_with(writer.text.as_str())
 }
 
-// Returns the number of writes that the display makes; `None` if it does not write this text, or
-// does not end at each write that fails.
+// Returns the number of writes that the display makes, or `None` if it does not write `whole`, or
+// does not end at the first write that fails.
 fn writes_of(alloc: Global, path: Path<'_>, whole: &str) -> Option<usize> {
     let mut writer = RefusingWriter::after(alloc, usize::MAX);
     if write!(writer, "{}", path.display()).is_err() || writer.text.as_str() != whole {
@@ -113,7 +113,8 @@ fn writes_of(alloc: Global, path: Path<'_>, whole: &str) -> Option<usize> {
     Some(count)
 }
 
-// Returns true if the display writes this text, and ends at each write that fails.
+// Returns true if the display writes `whole`, and ends at the first write that fails, whichever it
+// is.
 fn ends_at_each(alloc: Global, bytes: &[u8], whole: &str) -> bool {
     match writes_of(alloc, Path::from_bytes(bytes), whole) {
         Some(count) => count > 0,
@@ -147,8 +148,8 @@ fn text_of_stretches(alloc: Global) -> Result<String, AllocError> {
     Ok(whole)
 }
 
-// Returns the number of writes that the display of these four runs makes; `None` if it does not end
-// at each write that fails.
+// Returns the number of writes that the display of four runs of 400 letters makes, or `None` if it
+// does not end at the first write that fails.
 fn writes_of_long_stretches(alloc: Global) -> Result<Option<usize>, AllocError> {
     let mut bytes = [0xFF; 1604];
     for place in 0..400 {

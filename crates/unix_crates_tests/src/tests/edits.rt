@@ -1,4 +1,4 @@
-//! Rows of file names, of ends that are replaced, and of consecutive edits.
+//! Tests of file names that are set, of ends that are replaced, and of consecutive edits.
 use super::kept_paths::buffer_has_bytes;
 use super::views::path;
 use std::alloc::{AllocError, Global};
@@ -47,8 +47,8 @@ static ENDS: [(&str, usize, Option<u8>, &str, &str); 5] = [
     ("", 0, None, "a", "a"),
 ];
 
-// Replaces what follows the first `row.1` bytes of the row's path. Returns true if the path is then
-// the row's last text.
+// Replaces the bytes after the first `row.1` bytes of the row's path. Returns true if the path is
+// then the row's last text.
 fn replaces_end(
     alloc: Global,
     row: &(&str, usize, Option<u8>, &str, &str),
@@ -98,7 +98,7 @@ fn many_paths_are_joined_from_the_left(rt: HostRuntime) {
     assert!(rt; buffer_has_bytes(joined, "/feel/the.force"));
 }
 
-// Returns true if the path can be extended by these paths, and then has these bytes.
+// Extends the path by `paths`. Returns true if this succeeds and the path is then `wanted`.
 fn extends(buffer: &mut PathBuf, paths: &[Path<'_>], wanted: &str) -> bool {
     buffer.extend(paths.iter().copied()).is_ok() && has_bytes(buffer, wanted)
 }

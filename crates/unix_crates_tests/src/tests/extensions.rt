@@ -1,4 +1,4 @@
-//! Rows of extensions that are set, added and rejected.
+//! Tests of extensions that are set, added and rejected.
 use super::edits::has_bytes;
 use super::texts::{assert_text, text_of_error};
 use super::views::path;
@@ -6,7 +6,7 @@ use std::alloc::{AllocError, Global};
 use unix_bytes::bytes::UnixStr;
 use unix_path::{ExtensionError, PathBuf};
 
-// A path, an extension, what the path becomes, and whether there is a file name.
+// A path, an extension, the changed path, and whether the path has a file name.
 static EXTENSIONS_SET: [(&str, &str, &str, bool); 18] = [
     ("foo", "txt", "foo.txt", true),
     ("foo.bar", "txt", "foo.txt", true),
@@ -28,8 +28,8 @@ static EXTENSIONS_SET: [(&str, &str, &str, bool); 18] = [
     ("foo.rs/.", "txt", "foo.txt", true),
 ];
 
-// Returns true if setting the extension changes `old` to `new`, in place with this result, and in a
-// copy.
+// Returns true if setting the extension changes `old` to `new`, both in place, where the call
+// returns `answer`, and in a copy.
 fn takes_extension(
     alloc: Global,
     old: &str,
@@ -51,7 +51,7 @@ fn an_extension_is_put_behind_the_stem(rt: HostRuntime) {
     }
 }
 
-// A path, an extension, what the path becomes, and whether there is a file name.
+// A path, an extension, the changed path, and whether the path has a file name.
 static EXTENSIONS_ADDED: [(&str, &str, &str, bool); 13] = [
     ("foo.tar", "gz", "foo.tar.gz", true),
     ("foo.tar/.", "gz", "foo.tar.gz", true),
@@ -68,8 +68,8 @@ static EXTENSIONS_ADDED: [(&str, &str, &str, bool); 13] = [
     ("", "x", "", false),
 ];
 
-// Returns true if adding the extension changes `old` to `new`, in place with this result, and in a
-// copy.
+// Returns true if adding the extension changes `old` to `new`, both in place, where the call
+// returns `answer`, and in a copy.
 fn adds_extension(
     alloc: Global,
     old: &str,

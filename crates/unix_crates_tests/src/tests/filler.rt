@@ -1,4 +1,4 @@
-//! Rows of which bytes of a path are filler.
+//! Tests of which bytes of a path are filler.
 use unix_path::filler::{after_filler, filler_len, is_filler, is_trailing};
 
 // Bytes; an `x` for each byte for which `is_filler` is true; an `x` for each byte for which
@@ -57,7 +57,7 @@ fn bytes_are_filler(rt: HostRuntime) {
     }
 }
 
-// Long filler, and what follows it.
+// Bytes with long leading filler, and the bytes after this filler.
 static LONG_FILLER: [(&[u8], &[u8]); 3] = [
     (b"///////////////////././././././a/", b"a/"),
     (b"/////////////////////////////////", b""),

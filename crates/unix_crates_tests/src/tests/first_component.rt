@@ -1,4 +1,4 @@
-//! Rows of where the first component of a path ends.
+//! Tests of where the first component of a path ends.
 use unix_path::filler::is_filler;
 use unix_path::first_component::{name_step, parent_dir_step, starts_with_parent_dir};
 

@@ -1,4 +1,4 @@
-//! Rows of paths as JSON, and what a caller proves about them.
+//! Tests of paths as JSON, and what a caller can prove about them.
 ghost use Rattle.std.specs.Prelude.{◌≡◌, IfOk};
 ghost use Rattle.unix_path.specs.Buffers.{path_bytes};
 
@@ -17,7 +17,7 @@ fn write_then_read(alloc: Global, path: Path<'_>) -> Result<PathBuf, JsonError>
     from_json(alloc, &value)
 }
 
-// Returns a copy of the path, or the error of JSON if the allocation fails.
+// Returns a copy of the path, or a `JsonError` if the allocation fails.
 fn copied(alloc: Global, path: Path<'_>) -> Result<PathBuf, JsonError>
     ensures { IfOk result (λ p. path_bytes p ≡ path.entry.bytes.now) }
 {
@@ -25,7 +25,7 @@ fn copied(alloc: Global, path: Path<'_>) -> Result<PathBuf, JsonError>
     Ok(copy)
 }
 
-// Returns true if a value was returned and is a string of this text.
+// Returns true if the call returned a JSON string of this text.
 fn is_string(given: Result<Value, JsonError>, text: &str) -> bool {
     match given {
         Ok(value) => value.as_str() == Some(text),
@@ -33,7 +33,7 @@ fn is_string(given: Result<Value, JsonError>, text: &str) -> bool {
     }
 }
 
-// Returns true if a path was returned and has this text.
+// Returns true if the call returned a path of this text.
 fn is_path(given: Result<PathBuf, JsonError>, text: &str) -> bool {
     match given {
         Ok(path) => path.as_path().as_unix_str() == UnixStr::new(text),

@@ -1,5 +1,5 @@
-//! Rows of how boxed, shared, and borrowed or owned paths compare and hash, and what a caller
-//! proves about them.
+//! Tests of how boxed, shared, and borrowed or owned paths compare and hash, and what a caller can
+//! prove about them.
 ghost use Rattle.std.specs.Prelude.{◌↔◌, IsTrue};
 ghost use Rattle.unix_path.specs.Pointers.{boxed_bytes};
 ghost use Rattle.unix_path.specs.Parts.{SameValues};
@@ -21,7 +21,7 @@ fn same_boxed(a: &BoxedPath, b: &BoxedPath) -> bool
     *a == *b
 }
 
-// Returns what the value feeds a hasher.
+// Returns the input that the value feeds a hasher.
 fn hash_input<T: Hash>(value: &T) -> RecordingHasher {
     let mut state = RecordingHasher::new();
     value.hash(&mut state);
@@ -61,7 +61,7 @@ fn each_equals_each(paths: &[Path<'_>], others: &[Path<'_>]) -> bool {
 // The types that own a path: a buffer, a boxed path and a shared one.
 type Owners = (PathBuf, BoxedPath, RcPath);
 
-// Returns the path of this text, and the paths of the owners and of the borrowed or owned path.
+// Returns five views: of the path `text`, of the three owners, and of `cow`.
 fn views_of<'a>(text: &'a str, owners: &'a Owners, cow: &'a CowPath<'_>) -> [Path<'a>; 5] {
     [
         path(text),
@@ -134,7 +134,7 @@ fn are_ordered<T: Ord>(less: &T, a: &T, b: &T) -> bool {
         && a.partial_cmp(less) == Some(Ordering::Greater)
 }
 
-// Returns true if boxed paths are in order.
+// Returns true if boxed paths are ordered by their components.
 fn boxed_are_ordered(alloc: Global) -> Result<bool, AllocError> {
     let less = BoxedPath::from_path(alloc, path("a/b"))?;
     let a = BoxedPath::from_path(alloc, path("a.b//"))?;
@@ -142,7 +142,7 @@ fn boxed_are_ordered(alloc: Global) -> Result<bool, AllocError> {
     Ok(are_ordered(&less, &a, &b) && same_boxed(&a, &b) && !same_boxed(&less, &a))
 }
 
-// Returns true if shared paths are in order.
+// Returns true if shared paths are ordered by their components.
 fn shared_are_ordered(alloc: Global) -> Result<bool, AllocError> {
     let less = RcPath::from_path(alloc, path("a/b"))?;
     let a = RcPath::from_path(alloc, path("a.b//"))?;
@@ -150,7 +150,7 @@ fn shared_are_ordered(alloc: Global) -> Result<bool, AllocError> {
     Ok(are_ordered(&less, &a, &b))
 }
 
-// Returns true if borrowed and owned paths are in order.
+// Returns true if borrowed and owned paths are ordered by their components.
 fn cows_are_ordered(alloc: Global) -> Result<bool, AllocError> {
     let less = CowPath::from(PathBuf::from_text(alloc, "a/b")?);
     let buffer = PathBuf::from_text(alloc, "a.b//")?;

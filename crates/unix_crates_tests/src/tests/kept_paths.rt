@@ -1,4 +1,4 @@
-//! Rows of how boxed, shared, and borrowed or owned paths are created, and what a caller proves
+//! Tests of how boxed, shared, and borrowed or owned paths are created, and what a caller can prove
 //! about them.
 ghost use Rattle.std.specs.Prelude.{◌≡◌, IsOk, IfOk};
 ghost use Rattle.unix_path.specs.Buffers.{path_bytes};
@@ -11,7 +11,7 @@ use std::test::Fail;
 use unix_bytes::bytes::UnixStr;
 use unix_path::{BoxedPath, CowPath, Path, PathBuf, RcPath};
 
-// Converts the buffer to an owned path and back, and then clones it as a borrowed path. None of
+// Converts the buffer to a `CowPath` and back, and then clones a `CowPath` that borrows it. None of
 // these three steps allocates, so none fails.
 fn rewrap(alloc: Global, buffer: PathBuf) -> Result<PathBuf, AllocError>
     ensures bytes { IfOk result (λ p. path_bytes p ≡ path_bytes buffer) }
@@ -40,8 +40,8 @@ fn has_bytes(path: Path<'_>, text: &str) -> bool {
     path.as_unix_str() == UnixStr::new(text)
 }
 
-// Returns true if a buffer was returned and has the bytes of `text`. This function and the next two
-// consume the result of a call, so that a test has no owner across an assertion.
+// Returns true if the call returned a buffer with the bytes of `text`. This function and the next
+// two consume the result of the call, so that a test owns no path while it asserts.
 pub(super) fn buffer_has_bytes(given: Result<PathBuf, AllocError>, text: &str) -> bool {
     match given {
         Ok(buffer) => has_bytes(buffer.as_path(), text),
@@ -49,7 +49,7 @@ pub(super) fn buffer_has_bytes(given: Result<PathBuf, AllocError>, text: &str) -
     }
 }
 
-// Returns true if a boxed path was returned and has the bytes of `text`.
+// Returns true if the call returned a boxed path with the bytes of `text`.
 fn boxed_has_bytes(given: Result<BoxedPath, AllocError>, text: &str) -> bool {
     match given {
         Ok(boxed) => has_bytes(boxed.as_path(), text),
@@ -57,7 +57,7 @@ fn boxed_has_bytes(given: Result<BoxedPath, AllocError>, text: &str) -> bool {
     }
 }
 
-// Returns true if a shared path was returned and has the bytes of `text`.
+// Returns true if the call returned a shared path with the bytes of `text`.
 fn shared_has_bytes(given: Result<RcPath, AllocError>, text: &str) -> bool {
     match given {
         Ok(shared) => has_bytes(shared.as_path(), text),
@@ -70,13 +70,12 @@ fn cow_has_bytes(cow: CowPath<'_>, text: &str) -> bool {
     has_bytes(cow.as_path(), text)
 }
 
-// Returns true if both are equal as paths.
+// Returns true if both are equal paths.
 fn are_equal(cow: CowPath<'_>, other: CowPath<'_>) -> bool {
     cow.as_path() == other.as_path()
 }
 
-// Returns true if the path is equal to the buffer: to a view of it, to it borrowed, and to it
-// owned.
+// Returns true if the path equals the buffer in three forms: as a view, borrowed, and owned.
 fn becomes_each(path: Path<'_>, buffer: PathBuf) -> bool {
     let is_view = are_equal(CowPath::from(path), CowPath::from(buffer.as_path()));
     let is_borrowed = are_equal(CowPath::from(path), CowPath::from(&buffer));
@@ -91,14 +90,14 @@ fn paths_become_borrowed_or_owned(rt: HostRuntime) -> Result<(), Fail> {
     Ok(())
 }
 
-// Returns a copy of the path, boxed and unboxed.
+// Copies the path, boxes the copy, and returns the buffer that the box becomes.
 fn box_then_unbox(alloc: Global, path: Path<'_>) -> Result<PathBuf, AllocError> {
     path.to_path_buf(alloc)?
         .into_boxed_path()?
         .into_path_buf(alloc)
 }
 
-// Returns true if the three are equal as paths, each to the next.
+// Returns true if the three paths are equal to each other.
 fn equal_each_other(path: Path<'_>, boxed: Path<'_>, buffer: Path<'_>) -> bool {
     path == boxed && boxed == buffer && buffer == path
 }
@@ -116,7 +115,7 @@ fn paths_are_boxed(rt: HostRuntime) {
     assert!(rt; matches!(answer, Ok(true)));
 }
 
-// Returns true if a shared path was returned and is equal to this one.
+// Returns true if the call returned a shared path that is equal to `path`.
 fn equals(given: Result<RcPath, AllocError>, path: Path<'_>) -> bool {
     match given {
         Ok(shared) => shared.as_path() == path,
@@ -181,15 +180,15 @@ fn copies_keep_the_bytes(alloc: Global, path: &CowPath<'_>) -> Result<bool, Allo
     Ok(boxed_has_bytes(boxed, "foo/") && is_kept)
 }
 
-// Returns true if what is created from the path `foo/` has these bytes: a clone, a box, and an
-// owned path.
+// Returns true if a clone, a box and an owned path that are created from the path `foo/` have these
+// bytes.
 fn keeps_the_bytes(alloc: Global, path: CowPath<'_>) -> Result<bool, AllocError> {
     let is_kept = copies_keep_the_bytes(alloc, &path)?;
     Ok(buffer_has_bytes(path.into_owned(alloc), "foo/") && is_kept)
 }
 
-// Returns true if the buffer `foo/` keeps its bytes as a path, and when it is converted to a path
-// and back.
+// Returns true if the buffer `foo/` keeps its bytes as a `CowPath`, and when it is converted to a
+// `CowPath` and back.
 fn a_buffer_keeps_the_bytes(alloc: Global) -> Result<bool, AllocError> {
     let is_kept = keeps_the_bytes(alloc, CowPath::from(buffer_with_room(alloc)?))?;
     Ok(buffer_has_bytes(rewrap(alloc, buffer_with_room(alloc)?), "foo/") && is_kept)
@@ -203,7 +202,8 @@ fn borrowed_and_owned_paths_keep_the_bytes(rt: HostRuntime) {
     assert!(rt; matches!(a_buffer_keeps_the_bytes(alloc), Ok(true)));
 }
 
-// Returns true if the buffers that an owned text and owned bytes become have the bytes of `text`.
+// Returns true if a buffer made of a `String`, and one made of a `UnixString`, have the bytes of
+// `text`.
 fn owned_keep_a_name(alloc: Global, text: &str) -> Result<bool, AllocError> {
     let of_text = PathBuf::from(String::from_str(alloc, text)?);
     let of_bytes = PathBuf::from(UnixStr::new(text).to_unix_string(alloc)?);

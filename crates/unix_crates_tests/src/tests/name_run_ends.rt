@@ -1,12 +1,12 @@
-//! Rows of where names end.
+//! Tests of where runs of names end.
 use super::answers::assert_each;
 use unix_path::name_run_ends::{
     has_no_name_run_end, may_end_name_run_simd16, name_run_end, name_run_end_expect_short,
     no_name_starts_at,
 };
 
-// Bytes, and the index of the slash that ends their first run of names, or their length. In some
-// rows this index is at the end of a block of 16 bytes, or after it.
+// Bytes, and the index of the slash that ends their first run of names, or their length if no slash
+// does. In some rows this index is at the end of a block of 16 bytes, or after it.
 static STOPS: [(&[u8], usize); 34] = [
     (b"", 0),
     (b"/", 0),

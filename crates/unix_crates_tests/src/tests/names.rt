@@ -1,7 +1,7 @@
-//! Rows of what comes before a file name, and of where it and its stem end.
+//! Tests of the bytes before a file name, and of where the name and its stem end.
 use super::views::path;
 
-// A path, what comes before its file name, and where the name and its stem end.
+// A path, the bytes before its file name, and the indices at which the name and its stem end.
 static PLACES: [(&str, &str, Option<usize>, Option<usize>); 12] = [
     ("", "", None, None),
     ("/", "/", None, None),

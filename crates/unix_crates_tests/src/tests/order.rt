@@ -1,4 +1,4 @@
-//! Rows of equality, order and hash, and what a caller proves about them.
+//! Tests of equality, order and hash, and what a caller can prove about them.
 ghost use Rattle.std.specs.Prelude.{◌≡◌, ◌↔◌, IsTrue, fold};
 ghost use Rattle.std.specs.Ordering.{nat_cmp};
 ghost use Rattle.std.specs.Cmp.Lexicographic.{slice_cmp};
@@ -77,7 +77,7 @@ fn feed_path<H: Hasher>(a: Path<'_>, state: &mut H)
     a.hash(state);
 }
 
-// Returns what the path feeds a hasher.
+// Returns the input that the path feeds a hasher.
 fn hash_input(text: &str) -> RecordingHasher {
     let mut state = RecordingHasher::new();
     feed_path(path(text), &mut state);
@@ -122,8 +122,8 @@ static ORDERS: [(&str, &str, Ordering); 30] = [
     ),
 ];
 
-// Returns true if two paths, and walks over both, compare this way, and equal paths feed a hasher
-// the same input.
+// Returns true if two paths, and walks over both, compare as `order` says, and if equal paths feed
+// a hasher the same input.
 fn is_ordered(a: &str, b: &str, order: Ordering) -> bool {
     let (p, q) = (path(a), path(b));
     let (walk, other) = (p.components(), q.components());
@@ -195,8 +195,8 @@ fn components_and_names(rt: HostRuntime) {
     );
 }
 
-// What paths feed a hasher, counted out by hand: for each component its bytes, a slash, and zeros
-// up to the next multiple of eight bytes.
+// Paths, and the input that each feeds a hasher, written by hand: for each component its bytes, a
+// slash, and zeros up to the next multiple of eight bytes.
 static HASH_INPUTS: [(&str, &str); 14] = [
     ("", ""),
     ("/", "//\0\0\0\0\0\0"),
@@ -243,7 +243,7 @@ fn feed_differently(texts: &[&str]) -> bool {
     true
 }
 
-// Returns what the component feeds a hasher.
+// Returns the input that the component feeds a hasher.
 fn component_hash_input(part: Component<'_>) -> RecordingHasher {
     let mut state = RecordingHasher::new();
     feed_component(part, &mut state);
@@ -269,8 +269,8 @@ fn paths_feed_their_components(rt: HostRuntime) {
     );
 }
 
-// No path has a name `.` or `..`. Such a name, as a component, is not equal to `CurDir` or
-// `ParentDir`, and feeds a hasher the same.
+// No path has a name `.` or `..`. A component made of such a name is not equal to `CurDir` or
+// `ParentDir`, although it feeds a hasher the same input.
 #[test]
 fn components_may_feed_alike(rt: HostRuntime) {
     let dot = Component::Normal(UnixStr::new("."));

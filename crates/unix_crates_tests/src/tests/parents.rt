@@ -1,4 +1,4 @@
-//! What a caller proves about ancestors, and how a walk over them ends.
+//! What a caller can prove about ancestors, and how a walk over them ends.
 ghost use Rattle.std.specs.Prelude.{◌≡◌, IfOk, map};
 ghost use Rattle.unix_path.specs.Ancestors.{remaining_ancestors};
 
@@ -8,7 +8,7 @@ use std::alloc::{AllocError, Global};
 use unix_bytes::bytes::UnixStr;
 use unix_path::{Ancestors, Path};
 
-// Collects a walk over the ancestors, with what a caller proves about it.
+// Collects a walk over the ancestors. The contract is what a caller can prove.
 fn list_ancestors(alloc: Global, walk: Ancestors<'_>) -> Result<Vec<Path<'_>>, AllocError>
     ensures { IfOk result (λ list.
         map (λ path. path.bytes.now) list.items ≡ remaining_ancestors walk.entry) }
@@ -16,7 +16,7 @@ fn list_ancestors(alloc: Global, walk: Ancestors<'_>) -> Result<Vec<Path<'_>>, A
     walk.collect(alloc)
 }
 
-// Returns true if the list was returned and is the list of the ancestors of `/foo/bar`.
+// Returns true if the call returned three paths, of which the second is `/foo`, as for `/foo/bar`.
 fn is_list(given: Result<Vec<Path<'_>>, AllocError>) -> bool {
     match given {
         Ok(list) => list.len() == 3 && list[1].as_unix_str() == UnixStr::new("/foo"),

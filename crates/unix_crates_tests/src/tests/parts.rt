@@ -1,4 +1,4 @@
-//! Rows of the components of a path, from both ends.
+//! Tests of the components of a path, from both ends.
 use super::answers::assert_each;
 use super::views::path;
 use unix_bytes::bytes::UnixStr;

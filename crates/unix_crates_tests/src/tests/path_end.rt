@@ -1,4 +1,4 @@
-//! Rows of bytes that end in a name, and of bytes that do not.
+//! Tests of whether bytes end in a name.
 use unix_path::path_end::ends_in_name;
 
 // Bytes, and whether they end in a name.

@@ -1,4 +1,4 @@
-//! Where results lie in memory, as a caller proves it, and how long they live.
+//! Where results are in memory, as a caller can prove, and how long they live.
 ghost use Rattle.std.specs.Prelude.{◌≡◌, length, IfSome};
 ghost use Rattle.unix_path.specs.Slices.{BeginsAt, EndsAt, LiesIn, memory_offset};
 ghost use Rattle.unix_path.specs.Rest.{rest};
@@ -65,8 +65,8 @@ fn answers_lie_in_the_path(rt: HostRuntime) {
     );
 }
 
-// The results of calls of a path. Each result outlives the view that returned it, and `left`
-// outlives the base that was passed.
+// Results of calls on a path. Each result outlives the view that returned it, and `left` outlives
+// the base that was passed.
 #[derive(Drop)]
 struct Answers<'a> {
     parent: Option<Path<'a>>,
@@ -96,7 +96,7 @@ fn ask<'a>(text: &'a str) -> Answers<'a> {
     }
 }
 
-// Returns true if the names are the names of `a//b.c/.`.
+// Returns true if `kept` has the names that are expected for `a//b.c/.`.
 fn are_names(kept: &Answers<'_>) -> bool {
     kept.name == view(Some("b.c"))
         && kept.stem == view(Some("b"))
@@ -104,7 +104,7 @@ fn are_names(kept: &Answers<'_>) -> bool {
         && kept.first == Some(Component::Normal(UnixStr::new("a")))
 }
 
-// Returns true if the paths are the paths of `a//b.c/.`.
+// Returns true if `kept` has the paths that are expected for `a//b.c/.`.
 fn are_paths(kept: &Answers<'_>) -> bool {
     is_path(kept.parent, Some("a"))
         && is_path(kept.left, Some("b.c"))

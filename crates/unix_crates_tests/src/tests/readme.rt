@@ -13,8 +13,8 @@ fn example(rt: HostRuntime) {
     assert!(rt; matches!(is_renamed(rt.alloc(), base), Ok(true)));
 }
 
-// Returns true if a name that is not valid UTF-8 is joined to `/tmp/foo`, and can get another
-// extension.
+// Returns true if a name that is not valid UTF-8 can be joined to `/tmp/foo`, and the extension of
+// the result can be replaced.
 fn is_renamed(alloc: Global, base: Path<'_>) -> Result<bool, ExtensionError> {
     let mut copy = base.join(alloc, Path::from_bytes(b"caf\xE9.txt"))?;
     let is_set = copy.set_extension(UnixStr::new("bak"))?;

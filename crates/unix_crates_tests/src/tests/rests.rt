@@ -1,4 +1,4 @@
-//! Rows of the rests of walks, and the bytes of components.
+//! Tests of the rests of walks, and of the bytes of components.
 use super::answers::assert_each;
 use super::views::path;
 use unix_bytes::bytes::UnixStr;
@@ -28,8 +28,8 @@ static RESTS: [(&str, usize, usize, &str); 20] = [
     ("", 0, 0, ""),
 ];
 
-// Returns true if `rest` is left of a walk over components after `front` components are taken from
-// its beginning and `behind` from its end.
+// Takes `front` components from the beginning of a walk over components, and `behind` components
+// from its end. Returns true if the rest of the walk is `rest`.
 fn leaves(text: &str, front: usize, behind: usize, rest: &str) -> bool {
     let mut parts = path(text).components();
     let mut is_given = true;
@@ -42,8 +42,8 @@ fn leaves(text: &str, front: usize, behind: usize, rest: &str) -> bool {
     is_given && parts.as_path().as_unix_str() == UnixStr::new(rest)
 }
 
-// Returns true if `rest` is left of a walk over texts after `front` components are taken from its
-// beginning and `behind` from its end.
+// Takes `front` components from the beginning of a walk over the bytes of components, and `behind`
+// components from its end. Returns true if the rest of the walk is `rest`.
 fn texts_leave(text: &str, front: usize, behind: usize, rest: &str) -> bool {
     let mut texts = path(text).iter();
     let mut is_given = true;

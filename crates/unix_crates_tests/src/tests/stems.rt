@@ -1,8 +1,9 @@
-//! Rows of where the stem of a name ends.
+//! Tests of where the stem of a name ends.
 use unix_path::path_end::ends_in_name;
 use unix_path::stems::stem_end;
 
-// Bytes that end in a name, the length of a prefix known to end in a stem, and where the stem ends.
+// Bytes that end in a name, the length of a prefix known to end in a stem, and the index at which
+// the stem of the name ends.
 static STEMS: [(&[u8], usize, usize); 18] = [
     (b"a", 0, 1),
     (b"a.b", 0, 1),

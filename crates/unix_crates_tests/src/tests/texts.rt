@@ -1,12 +1,12 @@
-//! Assertions of texts that calls return, and the texts of errors. A test that makes them has no
-//! owned text across an assertion, which would make its proof long.
+//! Checks of texts that calls return, and the texts of errors. The checks consume the texts,
+//! because a test that owns a text while it asserts has a long proof.
 use std::alloc::{AllocError, Global};
 use std::error::Error;
 use std::fmt;
 use std::process::Abort;
 use unix_bytes::bytes::LossyText;
 
-// Returns true if a text was returned and is this one.
+// Returns true if the call returned a text that equals `wanted`.
 pub(super) fn is_text(given: Result<String, AllocError>, wanted: &str) -> bool {
     match given {
         Ok(text) => text.as_str() == wanted,
@@ -14,7 +14,7 @@ pub(super) fn is_text(given: Result<String, AllocError>, wanted: &str) -> bool {
     }
 }
 
-// Returns true if a lossy text was returned and is this one.
+// Returns true if the call returned a lossy text that equals `wanted`.
 pub(super) fn is_lossy_text(given: Result<LossyText<'_>, AllocError>, wanted: &str) -> bool {
     match given {
         Ok(text) => text.as_str() == wanted,
@@ -22,7 +22,7 @@ pub(super) fn is_lossy_text(given: Result<LossyText<'_>, AllocError>, wanted: &s
     }
 }
 
-// Returns true if the debug text of the value is this one.
+// Returns true if the debug text of the value equals `wanted`.
 pub(super) fn is_debug_text<T: fmt::Debug>(alloc: Global, value: &T, wanted: &str) -> bool {
     is_text(format!(in alloc; "{value:?}"), wanted)
 }

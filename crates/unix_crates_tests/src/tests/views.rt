@@ -1,4 +1,4 @@
-//! The paths and bytes that the text in a table's row represents.
+//! Converts the texts in the rows of tables to paths and bytes.
 use unix_bytes::bytes::UnixStr;
 use unix_path::Path;
 
@@ -13,7 +13,7 @@ pub(super) fn view(text: Option<&str>) -> Option<UnixStr<'_>> {
     }
 }
 
-// Returns true if the path was found that the text represents, or no path if there is no text.
+// Returns true if `found` is the path of `text`, or if both are `None`.
 pub(super) fn is_path(found: Option<Path<'_>>, text: Option<&str>) -> bool {
     match found {
         Some(path) => Some(path.as_unix_str()) == view(text),

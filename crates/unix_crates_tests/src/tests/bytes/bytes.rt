@@ -1,4 +1,4 @@
-//! Rows of views and owned byte strings.
+//! Tests of views and owned byte strings.
 use std::alloc::{AllocError, Global};
 use std::hash::{DefaultHasher, Hash, Hasher};
 use unix_bytes::bytes::UnixStr;
@@ -16,8 +16,8 @@ fn views(rt: HostRuntime) {
     assert!(rt; name == UnixStr::from_bytes(b"tmp") && name != broken && name < broken);
 }
 
-// Compares hashes of two names: the same two names feed a hasher the same input. Two names with the
-// same concatenation, but of other lengths, feed it different input.
+// Hashes pairs of names. Equal pairs have equal hashes. Pairs that concatenate to the same bytes,
+// but whose names have other lengths, have different hashes.
 #[test]
 fn hashes(rt: HostRuntime) {
     assert!(rt; hash_of("tmp", "a") == hash_of("tmp", "a"));
@@ -31,10 +31,10 @@ fn hash_of(first: &str, second: &str) -> u64 {
     state.finish()
 }
 
-// A length, and what a truncation to it keeps of `foobar`.
+// A length, and `foobar` truncated to this length.
 static TRUNCATIONS: [(usize, &str); 4] = [(0, ""), (3, "foo"), (6, "foobar"), (7, "foobar")];
 
-// Returns true if a truncation of `foobar` keeps these bytes, and the capacity.
+// Returns true if truncating `foobar` to `len` bytes leaves `kept`, and the same capacity.
 fn keeps(alloc: Global, len: usize, kept: &str) -> Result<bool, AllocError> {
     let mut name = UnixStr::new("foobar").to_unix_string(alloc)?;
     let before = name.capacity();

@@ -1,4 +1,4 @@
-//! What a caller can prove about chains over chunks.
+//! What a caller can prove about iterator chains over chunks.
 ghost use Rattle.std.specs.Prelude.{◌≡◌, ◌↔◌, ◌-◌, IfOk, IfSome, IsTrue, drop, length, map};
 ghost use Rattle.std.specs.Prelude.{option_map, slice_get};
 ghost use Rattle.std.specs.List.{All};
@@ -41,7 +41,7 @@ fn is_unbroken(bytes: &[u8]) -> bool
         .all(|chunk| chunk.broken.is_empty())
 }
 
-// Returns true if a list of this length was returned.
+// Returns true if the call returned a list of this length.
 fn has_len(given: Result<Vec<Utf8LossyChunk<'_>>, AllocError>, len: usize) -> bool {
     match given {
         Ok(list) => list.len() == len,

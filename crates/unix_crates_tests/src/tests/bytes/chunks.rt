@@ -1,4 +1,4 @@
-//! Rows of the widths of UTF-8 sequences, and walks over chunks.
+//! Tests of the widths of UTF-8 sequences, and of walks over chunks.
 use unix_bytes::lossy::{Utf8Lossy, utf8_char_width};
 
 #[test]
@@ -27,7 +27,8 @@ fn has_broken(bytes: &[u8]) -> bool {
     false
 }
 
-// Returns true if a walk over one chunk stays at its end, and does not change a copy of it.
+// Returns true if a walk over one chunk returns only `None` after it, and a copy of the walk that
+// was made before still yields the chunk.
 fn stays_ended(bytes: &[u8]) -> bool {
     let mut chunks = Utf8Lossy::from_bytes(bytes).chunks();
     let copy = chunks;

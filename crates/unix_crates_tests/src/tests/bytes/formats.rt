@@ -1,4 +1,4 @@
-//! Rows of printed byte strings, and writers that fail.
+//! Tests of printed byte strings, and of writers that fail.
 use super::super::refusing_writer::RefusingWriter;
 use super::super::texts::is_debug_text;
 use std::alloc::{AllocError, Global};
@@ -44,7 +44,8 @@ fn debug_texts(rt: HostRuntime) {
     assert!(rt; is_debug_text(alloc, &chunk, wanted));
 }
 
-// Returns true if an error came from the one write that failed, or if the whole text was written.
+// Returns true if the call succeeded and wrote `whole`, or if it failed at the first write that
+// failed and wrote a prefix of `whole`.
 fn keeps_to(writer: &RefusingWriter, answer: fmt::Result, whole: &str) -> bool {
     let text = writer.text.as_str();
     match answer {
@@ -53,8 +54,9 @@ fn keeps_to(writer: &RefusingWriter, answer: fmt::Result, whole: &str) -> bool {
     }
 }
 
-// Returns whether the debug form is written to a writer whose writes after the first `most` fail;
-// `None` if the debug form does not end at the first write that fails.
+// Writes a debug form to a writer whose writes after the first `most` fail. Returns `Some(true)` if
+// the whole form is written, `Some(false)` if the call fails at the first write that fails, and
+// otherwise `None`.
 fn is_written(alloc: Global, most: usize) -> Option<bool> {
     let mut writer = RefusingWriter::after(alloc, most);
     let answer = write!(writer, "{:?}", UnixStr::from_bytes(b"a\xFF'"));

@@ -1,4 +1,4 @@
-//! Rows of lossy texts, borrowed and owned.
+//! Tests of lossy texts, borrowed and owned.
 use super::super::texts::{assert_text, is_debug_text, is_text};
 use std::alloc::{AllocError, Global};
 use std::cmp::Ordering;
@@ -16,7 +16,8 @@ fn are_alike<'a>(borrowed: &LossyText<'a>, owned: &LossyText<'a>) -> bool {
         && matches!(owned, LossyText::Owned(_))
 }
 
-// Returns true if the text of 61 FF is printed correctly: plain, padded, cut and in its debug form.
+// Returns true if the lossy text of the bytes 61 FF is printed correctly: plain, padded, cut and in
+// its debug form.
 fn is_printed(alloc: Global, text: &LossyText<'_>) -> bool {
     is_text(format!(in alloc; "{text}"), "a\u{FFFD}")
         && is_text(format!(in alloc; "{text:>4}"), "  a\u{FFFD}")
@@ -49,7 +50,7 @@ fn texts_in_order(rt: HostRuntime) {
     }
 }
 
-// Returns true if the lossy texts of these bytes compare this way.
+// Returns true if the lossy texts of `first` and `second` compare as `order` says.
 fn are_ordered(
     alloc: Global,
     first: &[u8],
@@ -61,7 +62,7 @@ fn are_ordered(
     Ok(x.cmp(&y) == order && (x == y) == order.is_eq() && (x < y) == order.is_lt())
 }
 
-// Returns the lossy text of the bytes, owned.
+// Returns the lossy text of the bytes as a `String`.
 fn owned_text(alloc: Global, bytes: &[u8]) -> Result<String, AllocError> {
     UnixStr::from_bytes(bytes)
         .to_string_lossy(alloc)?

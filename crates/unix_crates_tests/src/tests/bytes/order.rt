@@ -1,4 +1,4 @@
-//! Rows of byte strings in order.
+//! Tests of the order of byte strings.
 use unix_bytes::bytes::UnixStr;
 use unix_bytes::order::compare_bytes;
 
@@ -20,7 +20,7 @@ static RISING: [&[u8]; 13] = [
     b"b123456789abcdef0123456789abcdef",
 ];
 
-// Returns true if these bytes compare with each row as the index `at` compares with the row's
+// Returns true if the bytes compare with each row of `RISING` as `at` compares with the row's
 // index.
 fn is_at(bytes: &[u8], at: usize) -> bool {
     for (place, other) in RISING.iter().enumerate() {

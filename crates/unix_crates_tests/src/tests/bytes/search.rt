@@ -1,4 +1,4 @@
-//! Rows of indices of bytes, and of the lengths of common prefixes.
+//! Tests of the indices of bytes, and of the lengths of common prefixes.
 use unix_bytes::search::{
     after_last, after_last_of_two, common_len, common_len_expect_short, find_byte,
 };
@@ -87,8 +87,8 @@ fn common_prefixes(rt: HostRuntime) {
     }
 }
 
-// Returns true if two strings of this length, at most 200, have the right common prefix for each
-// index at which they differ, and for none.
+// Returns true if the common prefix of two strings of `len` bytes, at most 200, has the right
+// length: if they are the same, and if they differ only at one index, for each index.
 fn are_common(len: usize) -> bool {
     let a = [b'a'; 200];
     if len > 200 {
