@@ -49,7 +49,7 @@ fn is_borrowed(given: Result<LossyText<'_>, AllocError>, text: &str) -> bool {
 // nothing.
 fn exhaust(alloc: Global) -> Result<Exhausted, Fail> {
     let Some(exhausted) = Exhausted::begin(alloc)? else {
-        return Err(Fail::new("more memory than can be held"));
+        return Err(Fail::new("not all memory could be allocated"));
     };
     let is_short = is_refused(alloc, 1) && is_refused(alloc, 24) && is_refused(alloc, 4096);
     if !is_short {

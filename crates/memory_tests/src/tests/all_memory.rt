@@ -8,7 +8,7 @@ use std::test::Fail;
 #[test]
 fn all_memory_is_taken_and_given_back(rt: HostRuntime) -> Result<(), Fail> {
     let alloc = rt.alloc();
-    let mut exhausted = Exhausted::begin(alloc)?.ok_or("more memory than can be held")?;
+    let mut exhausted = Exhausted::begin(alloc)?.ok_or("not all memory could be allocated")?;
     for len in [1, 40, 1000, 2048, 4096] {
         assert!(rt; is_refused(alloc, len), "{len}");
     }
