@@ -63,7 +63,8 @@ impl Exhausted {
 
     /// Releases a block of 2,048 bytes. Returns false if none of the 200 is left.
     ///
-    /// After a first call an allocation of 2,048 bytes succeeds, and one of 4,096 bytes fails.
+    /// After the first call, an allocation of 2,048 bytes succeeds, and an allocation of 4,096
+    /// bytes fails.
     pub fn release(&mut self) -> bool {
         self.steps.pop().is_some()
     }

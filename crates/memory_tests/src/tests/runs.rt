@@ -8,7 +8,7 @@ use std::test::Fail;
 use unix_path::bytes::UnixStr;
 use unix_path::{Path, PathBuf};
 
-// Returns the number of edits made before one failed; `None` if none failed.
+// Returns the number of edits that were made before an edit failed, or `None` if no edit failed.
 fn edits_before_failure(alloc: Global, buffer: &mut PathBuf, edits: &[Edit<'_>]) -> Option<usize> {
     match apply(alloc, buffer, edits) {
         Ok(_) => None,

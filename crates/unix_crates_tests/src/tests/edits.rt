@@ -72,7 +72,7 @@ fn ends_are_replaced(rt: HostRuntime) {
     }
 }
 
-// Pushes two names to `/`, sets an extension and then another one, and clears the path. Returns
+// Pushes two names to `/`, sets an extension, sets another extension, and clears the path. Returns
 // true if each edit has the expected result.
 fn takes_edits(buffer: &mut PathBuf) -> bool {
     let is_pushed = buffer.push(path("feel")).is_ok() && buffer.push(path("the")).is_ok();

@@ -64,8 +64,8 @@ longest_front_of-sequence u s h =
     omega (arith, longest_len-begins_sequence u s h) in
     ap (λ n. take n (u ++ s)) e ∙ take_at u s (length u) refl
 
--- the first front has n bytes if n is 1 or the first n bytes begin a sequence, and the first n + 1
--- bytes begin no sequence
+-- the first front has n bytes if the first n + 1 bytes begin no sequence, and either n is 1 or the
+-- first n bytes begin a sequence
 pub length-longest_front_of : (s : List ℕ) (n : ℕ) → 1 ≤ n → n ≤ length s → (n ≡ 1) ⊎ HasBegun s n
     → (HasBegun s (suc n) → ⊥) → length (longest_front_of s) ≡ n
 unfolding longest_front_of

@@ -144,10 +144,10 @@ HasBegun-two_of_three (x ∷ y ∷ z ∷ s) h =
     let (u, is) = BeginsSequence-from (x ∷ y ∷ z ∷ []) h.1 in
     (omega arith, begins_sequence-from (x ∷ y ∷ []) (z ∷ u, is))
 
--- when the first two, three or four bytes begin a sequence, by the byte at each index
+-- lemmas about when the first two, three or four bytes begin a sequence, by the byte at each index
 pub ruleset beginnings =
     (take-two, pair_bounds, HasBegun-three, third_byte_bounds, HasBegun-four, fourth_byte_bounds)
 
--- when the first two, three or four bytes begin a sequence, by the byte at each index; the first
--- two do if the first three do, and the first three if the first four do
+-- the lemmas of `beginnings`; in addition, if the first four bytes begin a sequence, so do the
+-- first three, and if the first three do, so do the first two
 pub ruleset all_beginnings = (beginnings, HasBegun-two_of_three, HasBegun-three_of_four)

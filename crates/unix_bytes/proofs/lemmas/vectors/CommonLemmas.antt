@@ -74,8 +74,8 @@ differ pair = not (eqb pair.0 pair.1)
 abbrev pairs : List ℕ → List ℕ → List (ℕ × ℕ)
 pairs a b = zip2 (λ x y. (x, y)) a b
 
--- the tests whether two strings differ at each index are the tests whether the bytes of each pair
--- differ
+-- zipping two strings with the test whether two bytes differ is the same as mapping `differ` over
+-- their pairs
 zip2-pairs : (a b : List ℕ) → zip2 (λ x y. not (eqb x y)) a b ≡ map differ (pairs a b)
 zip2-pairs [] b = refl
 zip2-pairs (x ∷ a) [] = refl
@@ -96,7 +96,8 @@ length-pairs [] b e = refl
 length-pairs (x ∷ a) [] e = absurd (omega arith)
 length-pairs (x ∷ a) (y ∷ b) e = ap (λ n. suc n) (length-pairs a b (omega arith))
 
--- a bit for each pair of bytes, the lowest for the first: set if and only if the two bytes differ
+-- the mask of the pairs of bytes, with the lowest bit for the first pair: a bit is set if and only
+-- if the two bytes of its pair differ
 abbrev other_mask : List ℕ → List ℕ → ℕ
 other_mask a b = mask_l (map (top 7) (zip2 (λ x y. cond (not (eqb x y)) 255 0) a b)) % 2 ^ 64
 

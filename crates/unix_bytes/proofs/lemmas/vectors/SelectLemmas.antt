@@ -35,7 +35,7 @@ sel_l-equal k own n xs os e =
     (tops_compared w8 eqb xs (replicate n k) ∙ zip2_splat eqb xs n k e)
     ∙ sel_l-map (λ b. eqb b k) own n xs os e
 
--- two selections from the same bytes, one after the other, apply one function to each byte
+-- selecting by g and then by f, from the same bytes, applies one function to each byte
 pub zip2-zip2 : (f g : ℕ → ℕ → ℕ) (z n : ℕ) (xs : List ℕ) → length xs ≡ n
     → zip2 f xs (zip2 g xs (replicate n z)) ≡ map (λ b. f b (g b z)) xs
 zip2-zip2 f g z n xs e =
