@@ -27,7 +27,7 @@ with_name_of s name = join_of (before_name_of s) name
 abbrev pub last_start_of : List Part → ℕ
 last_start_of ps = option_map_or (λ p. p.start) (last_or None ps) 0
 
--- the index where the stem of the file name ends
+-- the index where the stem of the file name ends, or None if there is no file name
 unfoldable pub stem_end_of : List ℕ → Option ℕ
 stem_end_of s = option_map (λ stem. last_start_of (parts s) + length stem) (stem_of (values s))
 

@@ -1,5 +1,5 @@
--- The result of adding an extension, and the extensions that are errors (Rust's
--- `PathBuf::add_extension`).
+-- The result of adding an extension (Rust's `PathBuf::add_extension`), and the slash that makes an
+-- extension invalid.
 use Rattle.std.specs.Prelude.{ℕ, ◌+◌, ◌==◌, Bool, List, [], ◌∷◌, ◌++◌, length, take, Option, codes}
 use Rattle.std.specs.Prelude.{option_map, if◌then◌else◌}
 use Rattle.std.specs.Option.{option_map_or}
@@ -14,7 +14,7 @@ use Rattle.unix_path.specs.declared.buf.extensions.ExtensionError.TheVariants.{S
 abbrev pub has_slash : List ℕ → Bool
 has_slash s = list_any is_slash s
 
--- the index where the file name ends
+-- the index where the file name ends, or None if there is no file name
 unfoldable pub name_end_of : List ℕ → Option ℕ
 name_end_of s = option_map (λ name. last_start_of (parts s) + length name) (file_name_of (values s))
 

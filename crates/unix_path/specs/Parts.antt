@@ -1,7 +1,8 @@
 -- The components of a path, here called parts. The path is split at every slash into pieces. Pieces
 -- that are neither empty nor `.` count. The components are the root or a leading `.`, if there is
 -- one, and then the pieces that count (POSIX.1-2017 section 4.13, and Rust's `Path::components`).
--- The bytes that belong to no component, namely other slashes and `.` pieces, are filler.
+-- The bytes that belong to no component, namely slashes other than the root and other `.` pieces,
+-- are filler.
 use Rattle.std.specs.Prelude.{◌≡◌, ℕ, ◌+◌, Bool, false, ◌==◌, ◌||◌, not, List, [], ◌∷◌, ◌++◌}
 use Rattle.std.specs.Prelude.{map, length, slice_get, if◌then◌else◌}
 use Rattle.std.specs.Option.{option_map_or}
@@ -81,7 +82,7 @@ parts s = leading_part s ++ inner_parts 0 s
 unfoldable pub values : List ℕ → List Value
 values s = map (λ p. p.value) (parts s)
 
--- the two paths are equal
+-- the paths s and t are equal: they have the same components
 abbrev pub SameValues : List ℕ → List ℕ → Type 0
 SameValues s t = values s ≡ values t
 

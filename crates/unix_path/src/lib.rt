@@ -6,9 +6,10 @@
 //! - Laws do nothing at run time.
 //! - Indices and lengths count bytes.
 //!
-//! A component is the root, a leading `.`, a name, or `..`. Bytes that belong to no component,
-//! namely other slashes and `.` pieces, are filler. In clauses, `parts` and `values` are the
-//! components with and without their positions.
+//! A component is the root, a leading `.`, a name, or `..`. A piece is the bytes between two
+//! slashes, before the first slash or after the last. Bytes that belong to no component are filler:
+//! slashes other than the root, and `.` pieces that are not leading. In clauses, `parts` and
+//! `values` are the components with and without their positions.
 #![tactic(auto)]
 
 pub mod buf;

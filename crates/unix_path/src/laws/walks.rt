@@ -36,9 +36,9 @@ pub fn walks_in_order()
 /// `next` yielded, then those that remain, then those that `next_back` yielded, in reverse.
 ///
 /// This holds for every list of calls on every walk of `Components` (`parts`) and of `Iter`
-/// (`items`). The bytes that remain, which `as_path` returns, are the rest of the bytes before. The
-/// rest lacks one leading component for each item that `next` yielded, and one trailing component
-/// for each item that `next_back` yielded (`rest`, `items_rest`).
+/// (`items`). The bytes that remain, which `as_path` returns, are those that remained before the
+/// calls, without one leading component for each item that `next` yielded, and without one trailing
+/// component for each item that `next_back` yielded (`rest`, `items_rest`).
 ///
 /// On `/a/b/c`, `next`, `next_back` and `next` yield the root and `a` from the front and `c` from
 /// the back, and `b` remains.

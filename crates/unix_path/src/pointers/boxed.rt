@@ -22,7 +22,7 @@ use std::fmt;
 use std::hash::{Hash, Hasher};
 use unix_bytes::bytes::UnixString;
 
-/// An owned path that is no longer edited: its bytes, without spare capacity.
+/// An owned path that can't be edited: its bytes, without spare capacity.
 ///
 /// It keeps its allocator. Comparison and hashing use the components, as for `Path`. Like Rust's
 /// `Box<Path>`.
@@ -188,8 +188,8 @@ impl Ord for BoxedPath {
     }
 }
 
-/// Hashes the path like `as_path`: `a//b` and `a/b` have the same hash. A key of several paths
-/// should feed something between them, as explained for `Path`.
+/// Hashes the path like `as_path`: `a//b` and `a/b` have the same hash. A type that hashes several
+/// paths should feed the hasher something between them, as explained for `Path`.
 impl Hash for BoxedPath {
     ghost hash_input = { λ path. hash_input_of (values (boxed_bytes path)) };
 
