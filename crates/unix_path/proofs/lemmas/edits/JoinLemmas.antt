@@ -5,7 +5,7 @@ use Rattle.std.proofs.Common.{append-nil, length-append, ◌+◌}
 use Rattle.unix_path.specs.Parts.{is_rooted}
 use Rattle.unix_path.specs.Joins.{needs_no_separator, join_of}
 
--- the last byte, if there is one, determines whether a join to the string needs no separator
+-- a join to s needs no separator if and only if s is empty or its last byte is a slash
 pub needs_no_separator-at : (s : List ℕ) → needs_no_separator s
     ≡ eqb (get_or s (length s - 1) 47) 47
 needs_no_separator-at [] = refl

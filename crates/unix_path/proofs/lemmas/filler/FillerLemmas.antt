@@ -112,7 +112,8 @@ parts-not_filler (b ∷ s) h =
     ∙ ap (λ t. cond t (record { start = 0; end = 1; value = CurDir } ∷ []) []) is.1 in
     ap (λ ps. ps ++ inner_parts 0 (b ∷ s)) none
 
--- a string that doesn't begin with filler has the same components as after a slash
+-- a string that doesn't begin with filler has the same components at the beginning of a path as
+-- after a slash
 pub values-not_filler : (s : List ℕ) → is_filler s 0 ≡ false → values s ≡ inner_values s
 unfolding values
 values-not_filler s not_filler =

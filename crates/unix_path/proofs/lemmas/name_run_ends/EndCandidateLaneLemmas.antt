@@ -1,4 +1,4 @@
--- Many bytes at once, searched for an end candidate.
+-- Many bytes at once, searched for an end candidate. The separator is m, and the dot is p.
 use Rattle.std.proofs.Common.{◌≡◌, ℕ, ◌+◌, ◌<◌, ◌≤◌, eqb, ◌&&◌, ◌||◌, List, length, get_or, ap₂}
 use Rattle.std.proofs.Common.{subst, arith}
 use Rattle.std.specs.Simd.Lanes.{chunk}
@@ -13,7 +13,7 @@ use Rattle.unix_path.specs.NameRunEnds.{is_end_candidate_of}
 abbrev candidate_lanes : ℕ → ℕ → ℕ → List ℕ → List ℕ → List ℕ
 candidate_lanes n m p here next = both (hits n here m) (either (hits n next m) (hits n next p))
 
--- each of these lanes shows whether its byte is an end candidate
+-- lane i of `candidate_lanes` shows whether byte i of `here` is an end candidate
 Tells-break : (n m p : ℕ) (here next : List ℕ) (i : ℕ) → length here ≡ n → length next ≡ n
     → i < n → Tells n (candidate_lanes n m p here next) i
     (eqb (get_or here i 0) m && (eqb (get_or next i 0) m || eqb (get_or next i 0) p))

@@ -1,4 +1,4 @@
--- Many bytes at once, searched for the end of a run of names.
+-- Many bytes at once, searched for the end of a run of names. The separator is m, and the dot is p.
 use Rattle.std.proofs.Common.{◌≡◌, ℕ, ◌+◌, ◌<◌, ◌≤◌, eqb, ◌&&◌, List, length, get_or, ap₂, subst}
 use Rattle.std.proofs.Common.{arith}
 use Rattle.std.specs.Simd.Lanes.{chunk}
@@ -10,13 +10,13 @@ use Rattle.unix_path.specs.NameRunEnds.{ends_name_run_of}
 use Rattle.unix_path.proofs.lemmas.name_run_ends.NameRunEndLemmas.{no_name, no_name-same}
 
 -- the lanes that show which of the n bytes of `here` end a run of names; `first`, `second` and
--- `third` contain the bytes one, two and three further on
+-- `third` contain the first, the second and the third byte after each byte of `here`
 abbrev end_lanes : ℕ → ℕ → ℕ → List ℕ → List ℕ → List ℕ → List ℕ → List ℕ
 end_lanes n m p here first second third =
     both (hits n here m) (either (hits n first m)
     (both (hits n first p) (either (hits n second m) (both (hits n second p) (hits n third m)))))
 
--- each of these lanes shows whether its byte ends a run of names
+-- lane i of `end_lanes` shows whether byte i of `here` ends a run of names
 Tells-stop : (n m p : ℕ) (here first second third : List ℕ) (i : ℕ) → length here ≡ n
     → length first ≡ n → length second ≡ n → length third ≡ n → i < n
     → Tells n (end_lanes n m p here first second third) i (eqb (get_or here i 0) m

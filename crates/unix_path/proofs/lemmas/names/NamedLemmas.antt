@@ -142,14 +142,14 @@ ends_in_name s e =
 pub name_end_of-named : (s : List ℕ) → EndsInName s → name_end_of s ≡ Some (length s)
 name_end_of-named s h = sym (name_end_of-some s (drop h.start s) (length s) h.name h.end)
 
--- paths with the same components at the same positions have the same index where the file name ends
+-- in two paths with the same components at the same positions, the file name ends at the same index
 pub name_end_of-same : (s t : List ℕ) → parts s ≡ parts t → name_end_of s ≡ name_end_of t
 unfolding name_end_of values
 name_end_of-same s t e =
     ap (λ ps. option_map (λ name. last_start_of ps + length name)
     (file_name_of (map (λ p. p.value) ps))) e
 
--- up to the end of its file name, a path has all its components
+-- the bytes of a path up to the end of its file name have all components of the path
 pub parts-named : (s : List ℕ) (end : ℕ) → name_end_of s ≡ Some end
     → parts (take end s) ≡ parts s
 parts-named s end e =
@@ -174,7 +174,8 @@ piece_slash s start i h from to =
     ∙ fails_before_first is_slash (drop start s) (i - start) 0
     (omega (arith, h.no_slash, length-drop start s))
 
--- the last piece begins at only one index
+-- the last piece begins at only one index: two indices where it begins are equal, here shown as i ≤
+-- j
 pub last_start_same : (s : List ℕ) (i j : ℕ) → IsLastStart s i → IsLastStart s j → i ≤ j
 last_start_same s i j h k = by_test (ltb j i)
     (λ t.
@@ -309,6 +310,6 @@ nameless-after s some dot slash =
     ap (λ i. get_or s i 0) {x = n - 1 - 1} {y = n - 2} (omega arith) ∙ slash in
     nameless-trailing s (omega arith) (rw (lt-ltb 0 (n - 1) (omega arith), dot, after) refl)
 
--- the path up to the end of its file name is the rest if no component is removed
+-- the path up to the end of its file name is the path without trailing filler, `rest s 0 0`
 pub take-name_end : (s : List ℕ) (end : ℕ) → name_end_of s ≡ Some end → take end s ≡ rest s 0 0
 take-name_end s end e = ap (λ n. take n s) (name_end s end e).is ∙ take-rest s 0

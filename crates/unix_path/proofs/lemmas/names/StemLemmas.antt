@@ -102,8 +102,8 @@ pub stem_end_of-none : (s : List ℕ) → None ≡ file_name_of (values s) → N
 unfolding stem_end_of
 stem_end_of-none s e = ap (stem_end_by s) e
 
--- the file name ends at index `end`, where the last component ends, and the stem starts where the
--- file name starts
+-- if the last component ends at index `end` and is the file name, the stem ends at `end`, less the
+-- length of the name, plus the length of the stem
 pub stem_end_of-some : {stem : List ℕ} (s name : List ℕ) (end : ℕ)
     → Some name ≡ file_name_of (values s) → end ≡ length (rest s 0 0)
     → stem ≡ (split_name name).0 → Some (end - length name + length stem) ≡ stem_end_of s

@@ -100,7 +100,8 @@ pub begins_past : (v w x : List Value) → IsPrefixOf (v ++ w) (v ++ x) → IsPr
 begins_past [] w x h = h
 begins_past (y ∷ v) w x h = begins_past v w x (begins_tail y y (v ++ w) (v ++ x) h).1
 
--- two strings are apart if their rests after the same components are apart
+-- `AreApart` holds for two strings, with the same order, if it holds for their rests after the same
+-- components, and these rests begin with no filler
 pub apart-shared : {a b t u : List ℕ} {order : Ordering} → SharesPrefix a b t u
     → is_filler t 0 ≡ false → is_filler u 0 ≡ false → AreApart t u order → AreApart a b order
 apart-shared {a} {b} {t} {u} h busy_t busy_u apart = record {

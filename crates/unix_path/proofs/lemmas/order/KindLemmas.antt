@@ -21,7 +21,7 @@ use Rattle.unix_path.proofs.lemmas.parts.PieceLemmas.{first_piece, first_piece-o
 use Rattle.unix_path.proofs.lemmas.lists.PrefixLemmas.{begins_tail}
 use Rattle.unix_path.proofs.lemmas.parts.ValueLemmas.{first_value, value_bytes-first}
 
--- the kind of the first component, determined by three bytes
+-- the first three bytes determine the kind of the first component
 pub first_rank_of : (s : List ℕ) → first_rank (values s) ≡ cond (eqb (length s) 0) 0
     (cond (eqb (get_or s 0 0) 47) 1 (cond (is_filler s 0) 2 (cond (starts_with_parent_dir s) 3 4)))
 unfolding values
@@ -56,7 +56,8 @@ values-name : (s : List ℕ) → 0 < length s → eqb (get_or s 0 0) 47 ≡ fals
 unfolding values
 values-name s some other = (_, ap (map (λ (p : Part). p.value)) (parts-name s some other))
 
--- the first pieces of two strings are in the order of the bytes at n, which is 0 or 1
+-- if two strings don't begin with a slash, have the same bytes before n, which is 0 or 1, and
+-- differ at n, their first pieces are in the order of the bytes at n
 first_piece-cmp : (x y : ℕ) (a b : List ℕ) (n : ℕ) → n ≤ 1 → (0 < n → x ≡ y)
     → eqb x 47 ≡ false → eqb y 47 ≡ false
     → (piece_rank (x ∷ a) n ≡ piece_rank (y ∷ b) n → ⊥)
@@ -75,7 +76,8 @@ first_piece-cmp x y a b (suc zero) l same first second differs =
     )
 first_piece-cmp x y a b (suc (suc n)) l same first second differs = absurd (omega arith)
 
--- two paths that differ at their start don't both begin with a slash
+-- if two paths differ at their start, and their first components are of the same kind, neither path
+-- begins with a slash
 no_root : (x y : ℕ) (a b : List ℕ) (n : ℕ) → n ≡ common_prefix_len eqb (x ∷ a) (y ∷ b)
     → (0 < n → x ≡ 46) → first_rank (values (x ∷ a)) ≡ first_rank (values (y ∷ b))
     → (eqb x 47 ≡ false) × (eqb y 47 ≡ false)

@@ -141,8 +141,8 @@ shares-written a b n alike some all first =
     subst (SharesPrefix a b (drop (length b) a)) (drop-length b)
     ((cuts a b n (length b) alike all first ends).shares some)
 
--- unless the paths can be cut before their first difference, the first doesn't start with the
--- second, if that isn't empty
+-- if the first difference of a and b is not a `CutBefore`, and b isn't empty, a doesn't start with
+-- b
 pub apart-unless : (a : Bor (List ℕ)) (b : List ℕ) (n : ℕ) (said : Difference)
     → IsCommonPrefixLen a.now b n
     → DifferenceShows a b n said → ((x y : Bor (List ℕ)) → said ≡ CutBefore x y → ⊥) → 0 < length b
@@ -152,7 +152,7 @@ apart-unless a b n FirstComponents alike h other some =
     first_parts-apart a.now b n alike h some
 apart-unless a b n (CutBefore x y) alike h other some = absurd (other x y refl)
 
--- unless a comparison is `StartsWith`, the first path doesn't start with the second
+-- if the comparison of two paths s and t is not a `StartsWith`, s doesn't start with t
 pub no_prefix-unless : (s t : List ℕ) (a : Bor (List ℕ)) (b : List ℕ) (said : Comparison)
     → Compared a b said → SharesPrefix s t a.now b
     → ((rest_bytes : Bor (List ℕ)) → said ≡ StartsWith rest_bytes → ⊥)

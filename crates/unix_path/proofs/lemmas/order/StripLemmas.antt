@@ -48,7 +48,8 @@ stripped-whole s base n h none =
     let no_values = ap values (nil_from_length base none) ∙ values-nil in
     sym (ap (λ vs. rest s (length vs) 0) no_values ∙ (rest-trims s n h).0)
 
--- what follows the components of the base in s is the rest of s after the base
+-- the bytes of s after the components of `base`, without filler at either end, are the rest of s
+-- after `base`
 pub stripped-is : (s base : List ℕ) (n : ℕ) (rest_bytes whole : Bor (List ℕ)) → Trims s n
     → whole.now ≡ take n s → IsTail rest_bytes whole → SharesPrefix whole.now base rest_bytes.now []
     → is_filler rest_bytes.now 0 ≡ false → rest_bytes.now ≡ stripped_of s base

@@ -96,7 +96,7 @@ no_root_last (CurDir ∷ vs) v h r = no_root_last vs v h r
 no_root_last (ParentDir ∷ vs) v h r = no_root_last vs v h r
 no_root_last (Normal name ∷ vs) v h r = no_root_last vs v h r
 
--- if no component after v is the root, but the last component is, nothing comes before it
+-- if no component after v is the root, but the last component w is, w is the only component
 before_last_root : (v w : Value) (more vs : List Value) → NoRoot more → v ∷ more ≡ vs ++ w ∷ []
     → w ≡ RootDir → length vs ≡ 0
 before_last_root v w more [] h e r = refl

@@ -103,7 +103,8 @@ last_counts s start h some l ends =
           (λ e. e),
     )
 
--- the last piece of a string that ends in a component is its last component, after those before it
+-- the last piece of a string that ends in a component is its last component, after the components
+-- of the bytes before the piece
 pub last_part : (s : List ℕ) (start : ℕ) → IsLastStart s start → start < length s → EndsInPart s
     → (at : ℕ) × (parts s ≡ parts
     (take start s) ++ record { start = at; end = length s; value = first_value (drop start s) }

@@ -133,7 +133,7 @@ is_first t e d v l first m filler not_filler =
           ∙ is_filler-drop (drop e t) d ∙ not_filler (omega arith);
     }
 
--- a step over n bytes takes the first component
+-- if the filler after the first component ends at n, a step over n bytes removes this component
 pub steps_first : (t : List ℕ) (e n : ℕ) (v : Value) → IsFirst t e n v → StepsFirst t n v
 unfolding values
 steps_first t e n v h =

@@ -22,7 +22,8 @@ rest-first : (s : List ℕ) (p : Part) (ps : List Part) → parts s ≡ p ∷ ps
 unfolding rest
 rest-first s p ps e = rw e (ap (span_of s) (take_all (length (p ∷ ps) - 1) ps (omega arith)))
 
--- the components of u, which is t without its first i bytes, span all of u
+-- if u, which is t without its first i bytes, begins with no filler and ends in a component, its
+-- components span all of u
 span_not_filler : (t u : List ℕ) (i : ℕ) → drop i t ≡ u → i ≤ length t
     → (0 < length u → is_filler u 0 ≡ false)
     → (0 < length u → parts_end (inner_parts i u) ≡ length t)
@@ -87,7 +88,8 @@ takes_last t start n h l ends m same trimmed =
     { start = last.0; end = length t; value = first_value (drop start t) } ∷ []) (sym same))
     (EndsInPart-take t n (omega arith) trimmed)
 
--- from a string that ends in a component and in a slash, the root is removed, and nothing remains
+-- a string that ends in a component and in a slash has the root as its last component, and nothing
+-- remains if the root is removed
 pub takes_root : (t : List ℕ) → 0 < length t → EndsInPart t → get_or t (length t - 1) 0 ≡ 47
     → TakesLast t (take 0 t) RootDir
 takes_root t l ends e =
