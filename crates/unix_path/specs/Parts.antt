@@ -58,7 +58,8 @@ parts_of_pieces at (p ∷ ps) =
     let part : Part = record { start = at; end = at + length p; value = value_of_piece p } in
     (if counts p then part ∷ [] else []) ++ parts_of_pieces (at + length p + 1) ps
 
--- the components of the pieces between the slashes of s, if s begins at index `at`
+-- the inner components of s: those of the pieces between its slashes, without the root and without
+-- a leading `.`; s begins at index `at`
 unfoldable pub inner_parts : ℕ → List ℕ → List Part
 inner_parts at s = parts_of_pieces at (slice_split is_slash s)
 
@@ -66,8 +67,8 @@ inner_parts at s = parts_of_pieces at (slice_split is_slash s)
 abbrev pub is_rooted : List ℕ → Bool
 is_rooted s = option_map_or is_slash (slice_get s 0) false
 
--- the root at 0..1 if byte 0 is a slash, else the `.` at 0..1 if the first piece is `.`, else
--- nothing
+-- the leading part: the root at 0..1 if byte 0 is a slash, else the `.` at 0..1 if the first piece
+-- is `.`, else nothing
 unfoldable pub leading_part : List ℕ → List Part
 leading_part s =
     let dotted = bytes_eq (before_first is_slash s) cur_dir in

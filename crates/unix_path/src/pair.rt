@@ -23,10 +23,10 @@ use unix_bytes::search::{common_len, common_len_expect_short};
 pub(crate) enum Comparison<'a> {
     // The first components that differ are in this order.
     Differs(Ordering),
-    // The first path starts with the second. The slice is the rest of the first path, without
-    // filler at its start.
+    // The first path starts with the second. The slice is the rest of the first path after the
+    // second, without filler at its start.
     StartsWith(&'a [u8]),
-    // The first path is a prefix of the second, which has more components.
+    // The second path starts with the first, and has more components.
     IsPrefix,
 }
 
@@ -42,7 +42,7 @@ pub(crate) enum Difference<'a, 'b> {
     CutBefore(&'a [u8], &'b [u8]),
 }
 
-// Two paths, and the length of their longest common prefix.
+// Two paths, and the length in bytes of their longest common prefix.
 #[derive(Clone, Copy)]
 pub(crate) struct Pair<'a, 'b> {
     pub(crate) first: &'a [u8],
@@ -51,8 +51,8 @@ pub(crate) struct Pair<'a, 'b> {
     ghost alike: { IsCommonPrefixLen first.now second.now common } by { Prim.hlevel props },
 }
 
-// The kind of a path's first component, in the order of paths. `Nothing` is for a path without
-// components.
+// The kind of a path's first component; the kinds are in the order in which paths sort. `Nothing`
+// is for a path without components.
 #[derive(Clone, Copy, PartialEq, Eq, PartialOrd, Ord)]
 enum Kind {
     Nothing,

@@ -97,7 +97,7 @@ pub(super) fn concat_with_separator(
 }
 
 impl PathBuf {
-    /// Joins `path` to the end.
+    /// Joins `path` to this path, in place.
     ///
     /// If `path` begins with `/`, it replaces all bytes of this path. Otherwise it is appended,
     /// after a `/` unless this path is empty or ends in `/`.
@@ -167,7 +167,8 @@ impl PathBuf {
     /// pushed like any other. Allocates only if the result is longer than the capacity, and then
     /// once. If the allocation fails, the bytes are unchanged.
     ///
-    /// `foo/.` with the file name `bar` is `bar`, and `foo/..` is `foo/../bar`.
+    /// `foo/.` with the file name `bar` is `bar`, and `foo/..` with the file name `bar` is
+    /// `foo/../bar`.
     #[tactic(auto, using(crate::proofs::lemmas::edits::SeparatorLemmas::beginnings))]
     pub fn set_file_name(&mut self, name: UnixStr<'_>) -> Result<(), AllocError>
         ensures ok { OnOk result

@@ -51,8 +51,8 @@ impl<'a> Components<'a> {
     ghost use Rattle.unix_path.specs.Cursor.{cursor_rest, cursor_source, cursor_start};
     ghost use Rattle.unix_path.specs.Cursor.{cursor_values, GivesFirstPart, GivesLastPart};
 
-    // Returns the walk over the components of a path. Drops trailing filler at once: for `foo/` the
-    // walk represents `foo`.
+    // Returns the walk over the components of a path. Trailing filler is dropped before the first
+    // step: for `foo/` the walk represents `foo`.
     #[inline]
     pub(crate) fn new(path: &'a [u8]) -> Components<'a>
         ensures rest { cursor_rest result ≡ rest path.now 0 0 }

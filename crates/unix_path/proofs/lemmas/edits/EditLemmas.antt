@@ -33,8 +33,8 @@ pub with_extension_of-none : (s extension : List ℕ) → None ≡ stem_end_of s
 unfolding with_extension_of
 with_extension_of-none s extension e = ap (with_extension_at s extension) (sym e)
 
--- if the stem of s ends at index `end`, setting an extension keeps the bytes before `end`, and
--- appends a dot, unless the extension is empty, and the extension
+-- if the stem of s ends at index `end`, setting an extension keeps the first `end` bytes, and
+-- appends `separator`, which is a dot or nothing, and then the extension
 pub with_extension_of-some : (s extension separator : List ℕ) (end : ℕ) → Some end ≡ stem_end_of s
     → separator ≡ dot_before extension
     → with_extension_of s extension ≡ (take end s ++ separator) ++ extension

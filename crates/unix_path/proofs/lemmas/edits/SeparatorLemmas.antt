@@ -57,8 +57,8 @@ pub JoinsFit-spare_capacity : {S : Type 0} {steps : S → Option Path → S → 
 JoinsFit-spare_capacity old spare_capacity fits run met from =
     omega (arith, length-join_all_of-max_len old 0 run.items, fits run met from)
 
--- if `old` joined with any number of first items has at most `max_len` bytes, so does its join with
--- `paths`, which are the first items, and then `path`, which is the next item
+-- if no join of `old` with first items of the iterator is longer than `max_len` bytes, neither is
+-- its join with `paths`, the first items, and then `path`, the next item
 pub JoinsFit-next : {S : Type 0} {steps : S → Option Path → S → Type 0} {items from : S}
     (old : List ℕ) (max_len : ℕ) → JoinsFit steps items old max_len → from ≡ items
     → (paths : List Path) (s t : S) (path : Path) → Yields steps from paths s

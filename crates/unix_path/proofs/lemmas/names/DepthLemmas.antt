@@ -1,5 +1,5 @@
--- How many trailing components can be removed: all except the root, which can only be the first
--- component.
+-- The depth of a path, which is the number of trailing components that can be removed: all except
+-- the root, which can only be the first component.
 use Rattle.std.proofs.Common.{◌≡◌, ℕ, suc, ◌-◌, ◌≤◌, List, [], ◌∷◌, ◌++◌, length, refl, ap, ◌∙◌}
 use Rattle.std.proofs.Common.{arith, length-append}
 use Rattle.unix_path.specs.Parts.{Value, RootDir, CurDir, ParentDir, Normal, values}

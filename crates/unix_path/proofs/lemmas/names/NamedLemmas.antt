@@ -58,7 +58,8 @@ has_name_end s end (Some bytes) is e = record {
 pub name_end : (s : List ℕ) (end : ℕ) → name_end_of s ≡ Some end → HasNameEnd s end
 name_end s end e = has_name_end s end (file_name_of (values s)) refl e
 
--- the last component of s is its last piece
+-- if s ends in a component, and its last piece, which begins at `start`, isn't empty, this piece is
+-- the last component
 last_value : (s : List ℕ) (start : ℕ) → IsLastStart s start → start < length s → EndsInPart s
     → values s ≡ values (take start s) ++ first_value (drop start s) ∷ []
 unfolding values
@@ -79,7 +80,7 @@ name_of_piece s start h l ends is = record {
   end = sym (length-rest_whole s ∙ parts_end-whole s ends);
 }
 
--- the root has no file name
+-- a string that ends in a component and in a slash, which can only be the root, has no file name
 root_nameless : (s : List ℕ) → 0 < length s → EndsInPart s → get_or s (length s - 1) 0 ≡ 47
     → None ≡ file_name_of (values s)
 unfolding values file_name_of
@@ -174,8 +175,7 @@ piece_slash s start i h from to =
     ∙ fails_before_first is_slash (drop start s) (i - start) 0
     (omega (arith, h.no_slash, length-drop start s))
 
--- the last piece begins at only one index: two indices where it begins are equal, here shown as i ≤
--- j
+-- if the last piece of s begins at i and at j, i is at most j; so it begins at only one index
 pub last_start_same : (s : List ℕ) (i j : ℕ) → IsLastStart s i → IsLastStart s j → i ≤ j
 last_start_same s i j h k = by_test (ltb j i)
     (λ t.

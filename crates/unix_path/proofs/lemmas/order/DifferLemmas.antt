@@ -12,7 +12,7 @@ use Rattle.unix_path.proofs.lemmas.order.CommonPrefixLemmas.{slice_cmp-common}
 use Rattle.unix_path.proofs.lemmas.parts.PieceLemmas.{first_piece, first_piece-other}
 use Rattle.unix_path.proofs.lemmas.parts.PieceLemmas.{first_piece-slash}
 
--- a piece ends at i if the rank there is 0
+-- if `piece_rank s i` is 0, a piece of s ends at i
 pub rank_end : (s : List ℕ) (i : ℕ) → piece_rank s i ≡ 0 → get_or s i 47 ≡ 47
 rank_end s i e = grind arith
 
@@ -21,7 +21,7 @@ abbrev pub head_rank : List ℕ → ℕ
 head_rank [] = 0
 head_rank (b ∷ p) = 1 + b
 
--- the head rank of the piece that starts at n is the rank at n
+-- `head_rank` of the piece that starts at n is `piece_rank s n`
 pub head_rank-drop : (s : List ℕ) (n : ℕ) → head_rank (first_piece (drop n s)) ≡ piece_rank s n
 head_rank-drop [] zero = refl
 head_rank-drop [] (suc n) = refl

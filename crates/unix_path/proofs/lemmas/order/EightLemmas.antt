@@ -52,8 +52,8 @@ AreBytes-take (suc n) [] h i = omega arith
 AreBytes-take (suc n) (x ∷ s) h zero = omega (arith, h 0)
 AreBytes-take (suc n) (x ∷ s) h (suc i) = AreBytes-take n s (λ i. h (suc i)) i
 
--- a number that is read from the k bytes of s and the terminator has the first eight of these bytes
--- as its own bytes
+-- the number that is read, in little-endian order, from the first eight bytes of s and the
+-- terminator consists of these eight bytes; s has k bytes
 pub le_bytes-last : (s : List ℕ) (k n : ℕ) → length s ≡ k → AreBytes s
     → n ≡ from_le_bytes w64 (take 8 (map (λ i. get_or s i 0) (range_with_len 0 k) ++ terminator))
     → le_bytes 8 n ≡ take 8 (s ++ terminator)

@@ -85,7 +85,8 @@ no_root x y a b n is dot same =
     let first : eqb x 47 ≡ false = grind (arith, first_rank_of (x ∷ a), first_rank_of (y ∷ b)) in
     (first, grind (arith, first_rank_of (x ∷ a), first_rank_of (y ∷ b)))
 
--- first components of the same kind are in the order of the bytes at the first difference
+-- if a and b differ at their start, their first components are of the same kind, and b isn't empty,
+-- a and b are apart, in the order of the bytes at their first difference n
 first_parts-same : (a b : List ℕ) (n : ℕ) → n ≡ common_prefix_len eqb a b → DiffersAtStart a b n
     → first_rank (values a) ≡ first_rank (values b) → 0 < length b
     → AreApart a b (nat_cmp (piece_rank a n) (piece_rank b n))

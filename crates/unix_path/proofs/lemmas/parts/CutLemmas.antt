@@ -11,7 +11,7 @@ use Rattle.unix_path.proofs.lemmas.parts.PieceLemmas.{slice_split-first}
 use Rattle.unix_path.specs.Parts.{CurDir, RootDir, inner_parts, cur_dir, is_slash, leading_part}
 use Rattle.unix_path.specs.Parts.{parts_of_pieces}
 
--- how many bytes these pieces have, with a slash after each
+-- the number of bytes of these pieces with a slash after each
 width : List (List ℕ) → ℕ
 width [] = 0
 width (p ∷ ps) = length p + 1 + width ps

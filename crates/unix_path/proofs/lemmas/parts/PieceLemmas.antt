@@ -102,7 +102,7 @@ length-first_piece (x ∷ xs) = by_test (eqb x 47)
     (λ e. ap length (first_piece-other x xs e)
     ∙ omega (arith, length-first_piece xs, position_or_len-other x xs e))
 
--- the component of a piece at index `at`, if it counts
+-- the component of a piece at index `at`, or none if the piece is empty or `.`
 abbrev pub parts_of_piece : ℕ → List ℕ → List Part
 parts_of_piece at p = cond (counts p)
     (record { start = at; end = at + length p; value = value_of_piece p } ∷ []) []

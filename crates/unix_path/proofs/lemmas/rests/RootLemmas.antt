@@ -84,7 +84,7 @@ rooted-IsPrefixOf s r e = (
 abbrev pub root_count : List Value → ℕ
 root_count vs = cond (root_first vs) 1 0
 
--- the number of roots among a path's components shows whether it is rooted
+-- `root_count` of a path's components is 1 if the path is rooted, and otherwise 0
 pub root_count-values : (s : List ℕ) → cond (is_rooted s) 1 0 ≡ root_count (values s)
 root_count-values s = ap (λ c. cond c 1 0) (sym (root_first-values s))
 

@@ -146,8 +146,8 @@ lead_before_last t u v n h size = by_test (ltb 0 n)
     and_false true = refl
     and_false false = refl
 
--- if n bytes remain before the last component of the range from a to b and the filler before it, a
--- step over both moves the end of the range to a + n
+-- if removing the last component of the range from a to b leaves n bytes, a step over this
+-- component moves the end of the range to a + n
 pub steps_back : (s : List ℕ) (a b n : ℕ) (v : Value) → a ≤ b → b ≤ length s
     → n ≤ length (slice_range s a b) → TakesLast (slice_range s a b) (take n (slice_range s a b)) v
     → StepsBack s a b n v
@@ -164,8 +164,8 @@ steps_back s a b n v in_order in_range l takes =
       lead = lead_before_last (slice_range s a b) (slice_range s a (a + n)) v n moved before;
     }
 
--- if n bytes remain before the last component of a walk's rest and the filler before it, a step
--- over both moves the walk's `end` to `start` + n
+-- if removing the last component of a walk's rest leaves n bytes, a step over this component moves
+-- the walk's `end` to `start` + n
 pub walks_back : {t : List ℕ} (c : Components) (n : ℕ) (v : Value) → t ≡ cursor_rest c
     → n ≤ length t → TakesLast t (take n t) v → StepsBack c.source.now c.start c.end n v
 unfolding cursor_rest IsWalk
