@@ -18,14 +18,14 @@ has_slash s = list_any is_slash s
 unfoldable pub name_end_of : List ℕ → Option ℕ
 name_end_of s = option_map (λ name. last_start_of (parts s) + length name) (file_name_of (values s))
 
--- the path up to its file name's end, then a dot and the extension; the whole path if it has no
--- file name, or if the extension is empty
+-- the path up to the end of its file name, then a dot and the extension; the whole path if it has
+-- no file name, or if the extension is empty
 unfoldable pub added_extension_of : List ℕ → List ℕ → List ℕ
 added_extension_of s extension =
     if length extension == 0 then s
     else option_map_or (λ end. (take end s ++ dot ∷ []) ++ extension) (name_end_of s) s
 
--- the text that an error of an edit of the extension is printed as
+-- the text that is printed for an error of setting or adding an extension
 abbrev pub extension_error_text : ExtensionError → List ℕ
 extension_error_text Separator = codes "extension contains a separator"
 extension_error_text (Memory error) = codes "out of memory"

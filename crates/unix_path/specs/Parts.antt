@@ -46,7 +46,7 @@ pub record Part : Type 0 where
 abbrev pub counts : List ℕ → Bool
 counts piece = not (bytes_eq piece [] || bytes_eq piece cur_dir)
 
--- the value of a piece that counts: `..`, or else a name
+-- the value of a piece that is neither empty nor `.`: `..`, or else a name
 abbrev pub value_of_piece : List ℕ → Value
 value_of_piece bytes = if bytes_eq bytes parent_dir then ParentDir else Normal bytes
 
@@ -75,7 +75,8 @@ leading_part s =
     if is_rooted s then record { start = 0; end = 1; value = RootDir } ∷ []
     else (if dotted then record { start = 0; end = 1; value = CurDir } ∷ [] else [])
 
--- the root or leading `.`, and then the pieces that count, each with its position
+-- the components of s: the root or leading `.`, and then the pieces that are neither empty nor `.`,
+-- each with its position
 unfoldable pub parts : List ℕ → List Part
 parts s = leading_part s ++ inner_parts 0 s
 

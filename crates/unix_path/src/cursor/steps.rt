@@ -52,7 +52,7 @@ fn split_lead(path: &[u8]) -> (usize, Component<'_>)
 }
 
 // Splits off the first component, and the filler after it. Returns the length of both together, and
-// the component.
+// the component. `has_lead` must be the result of the function `has_lead` for `path`.
 #[inline(always)]
 pub(crate) fn split_first_component(path: &[u8], has_lead: bool) -> (usize, Component<'_>)
     requires some { 0 < length path.now }

@@ -27,7 +27,7 @@ pub join_of_no_separator : (a b : List ℕ) → is_rooted b ≡ false → needs_
 unfolding join_of
 join_of_no_separator a b r o = rw (r, o) refl
 
--- if a path neither is empty nor ends in a slash, a join puts a slash between it and a path that
+-- if a path is not empty and doesn't end in a slash, a join puts a slash between it and a path that
 -- isn't rooted
 pub join_of_separator : (a b : List ℕ) → is_rooted b ≡ false → needs_no_separator a ≡ false
     → join_of a b ≡ (a ++ 47 ∷ []) ++ b

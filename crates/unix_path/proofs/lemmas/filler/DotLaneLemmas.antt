@@ -1,4 +1,4 @@
--- 16 bytes at once that are slashes, or dots next to slashes.
+-- Testing at once whether 16 bytes are slashes, or dots next to slashes.
 use Rattle.std.proofs.Common.{◌≡◌, ℕ, ◌<◌, Bool, true, false, not, eqb, ◌&&◌, ◌||◌, List, length}
 use Rattle.std.proofs.Common.{get_or, refl, sym}
 use Rattle.unix_bytes.proofs.lemmas.vectors.TestLaneLemmas.{tested, both, either, Tells}

@@ -1,4 +1,4 @@
--- 16 bytes at once that are slashes, or dots before slashes.
+-- Testing at once whether 16 bytes are slashes, or dots before slashes.
 use Rattle.std.proofs.Common.{◌≡◌, ℕ, zero, suc, ◌+◌, ◌<◌, ◌≤◌, true, List, length, drop, get_or}
 use Rattle.std.proofs.Common.{ap, ap₂, subst, ◌∙◌, arith}
 use Rattle.std.specs.Simd.Lanes.{chunk}

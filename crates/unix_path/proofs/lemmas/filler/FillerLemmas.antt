@@ -86,7 +86,8 @@ first_piece_dot (b ∷ s) = by_test (eqb b 47)
     (λ e. ap (λ p. bytes_eq p cur_dir) (first_piece-other b s e)
     ∙ ap (λ t. eqb b 46 && t) (first_piece_empty s))
 
--- a string that doesn't begin with filler doesn't begin with a slash, and its first piece isn't `.`
+-- if s is not empty and doesn't begin with filler, its first byte isn't a slash, and its first
+-- piece isn't `.`
 pub not_filler_parts : (s : List ℕ) → 0 < length s → is_filler s 0 ≡ false
     → (eqb (get_or s 0 0) 47 ≡ false) × (bytes_eq (first_piece s) cur_dir ≡ false)
 not_filler_parts [] l e = absurd (omega arith)

@@ -1,4 +1,4 @@
--- 16 bytes at once that are slashes, or dots after slashes.
+-- Testing at once whether 16 bytes are slashes, or dots after slashes.
 use Rattle.std.proofs.Common.{◌≡◌, ℕ, zero, suc, ◌+◌, ◌-◌, ◌<◌, ◌≤◌, true, eqb, ◌&&◌, ◌||◌, List}
 use Rattle.std.proofs.Common.{length, take, get_or, refl, sym, ap, ap₂, subst, ◌∙◌, arith, lt-ltb}
 use Rattle.std.specs.Simd.Lanes.{chunk}

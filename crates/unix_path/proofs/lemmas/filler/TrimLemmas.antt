@@ -90,7 +90,7 @@ parts_shorter s n some l e =
     sym (parts_trailing s (n - 1) (omega arith) e)
     ∙ ap (λ k. parts (take k s)) {x = n - 1 + 1} {y = n} (omega arith)
 
--- each suffix of a string that ends in a component ends in a component
+-- if a string ends in a component, each of its suffixes ends in a component
 pub EndsInPart-drop : (s : List ℕ) (i : ℕ) → i ≤ length s → EndsInPart s → EndsInPart (drop i s)
 EndsInPart-drop s i l ends some =
     let u = drop i s in

@@ -1,4 +1,4 @@
--- Many bytes at once, searched for an end candidate. The separator is m, and the dot is p.
+-- Searching many bytes at once for an end candidate. The separator is m, and the dot is p.
 use Rattle.std.proofs.Common.{◌≡◌, ℕ, ◌+◌, ◌<◌, ◌≤◌, eqb, ◌&&◌, ◌||◌, List, length, get_or, ap₂}
 use Rattle.std.proofs.Common.{subst, arith}
 use Rattle.std.specs.Simd.Lanes.{chunk}
@@ -21,11 +21,11 @@ Tells-break n m p here next i l k few =
     Tells-both few (Tells-hits n here m i l few)
     (Tells-either few (Tells-hits n next m i k few) (Tells-hits n next p i k few))
 
--- the lanes of the n bytes that start at `at`
+-- the `candidate_lanes` of the n bytes of s that start at `at`
 abbrev lanes : ℕ → ℕ → ℕ → List ℕ → ℕ → List ℕ
 lanes n m p s at = candidate_lanes n m p (chunk at n s) (chunk (at + 1) n s)
 
--- these lanes show where end candidates are
+-- `lanes` show which of the n bytes that start at `at` are end candidates
 pub candidates_shown : (n m p : ℕ) (s : List ℕ) (at : ℕ) → 0 < n → n ≤ 64 → at + n + 1 ≤ length s
     → TellFrom n (lanes n m p s at) (is_end_candidate_of m p s) at
 candidates_shown n m p s at some low l = record {

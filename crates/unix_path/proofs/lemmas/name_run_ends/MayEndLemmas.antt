@@ -1,4 +1,4 @@
--- Many bytes at once, tested for a possible end candidate. The separator is m, and the dot is p.
+-- Testing many bytes at once for a possible end candidate. The separator is m, and the dot is p.
 use Rattle.std.proofs.Common.{◌≡◌, ℕ, ◌+◌, ◌<◌, ◌≤◌, Bool, true, false, not, eqb, ◌&&◌, ◌||◌, List}
 use Rattle.std.proofs.Common.{length, get_or, bit_and, bit_or, refl, sym, ap, ap₂, subst, ◌∙◌}
 use Rattle.std.proofs.Common.{arith, eq-eqb, eqb-true}
@@ -71,7 +71,7 @@ unnegated : (b : Bool) → not b ≡ true → b ≡ false
 unnegated false h = refl
 unnegated true h = absurd (let k : false ≡ true = h in cc)
 
--- the lanes of the n bytes that start at `at`
+-- the lanes that show where `odd` is 0 for the n bytes of s that start at `at`
 abbrev lanes : ℕ → ℕ → List ℕ → ℕ → List ℕ
 lanes n m s at = hits n (odd n m (chunk at n s) (chunk (at + 1) n s)) 0
 

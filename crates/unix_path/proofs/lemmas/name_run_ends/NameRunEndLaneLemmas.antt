@@ -1,4 +1,4 @@
--- Many bytes at once, searched for the end of a run of names. The separator is m, and the dot is p.
+-- Searching many bytes at once for the end of a run of names. The separator is m, and the dot is p.
 use Rattle.std.proofs.Common.{◌≡◌, ℕ, ◌+◌, ◌<◌, ◌≤◌, eqb, ◌&&◌, List, length, get_or, ap₂, subst}
 use Rattle.std.proofs.Common.{arith}
 use Rattle.std.specs.Simd.Lanes.{chunk}
@@ -28,12 +28,12 @@ Tells-stop n m p here first second third i lh lf ls lt few =
     (Tells-either few (Tells-hits n second m i ls few)
     (Tells-both few (Tells-hits n second p i ls few) (Tells-hits n third m i lt few)))))
 
--- the lanes of the n bytes that start at `at`
+-- the `end_lanes` of the n bytes of s that start at `at`
 abbrev lanes : ℕ → ℕ → ℕ → List ℕ → ℕ → List ℕ
 lanes n m p s at = end_lanes n m p (chunk at n s) (chunk (at + 1) n s) (chunk (at + 2) n s)
     (chunk (at + 3) n s)
 
--- these lanes show where runs of names end
+-- `lanes` show which of the n bytes that start at `at` end a run of names
 pub ends_shown : (n m p : ℕ) (s : List ℕ) (at : ℕ) → 0 < n → n ≤ 64 → at + n + 3 ≤ length s
     → TellFrom n (lanes n m p s at) (ends_name_run_of m p s) at
 ends_shown n m p s at some low l = record {

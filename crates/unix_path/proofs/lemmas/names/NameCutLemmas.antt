@@ -148,7 +148,7 @@ name_cut s name e =
     (λ l. cut_at s name trim at.0 e at.1 (ltb-true _ _ l))
     (λ l. absurd (no_name_at_end s name trim at.0 e at.1 (ltb-false _ _ l)))
 
--- a name is a path with only that name as its component
+-- a name, taken as a path, has one component, which is this name
 pub values-name : (s : List ℕ) → IsName s → values s ≡ Normal s ∷ []
 unfolding values
 values-name s h =

@@ -75,7 +75,7 @@ dot_at s t n past place is some e stops no_slash =
     (λ slash. absurd (no_slash (here ∙ eqb-true _ 47 slash)))
     (or_cases (eqb (get_or t (past - 1) 0) 46) (eqb (get_or t (past - 1) 0) 47) stops)
 
--- the stem ends at the start of the file name plus the length of the stem
+-- the index where the stem ends is the start of the file name plus the length of the stem
 stem_end-named : (s : List ℕ) → (h : EndsInName s)
     → stem_end_of s ≡ Some (h.start + length (split_name (drop h.start s)).0)
 stem_end-named s h =

@@ -87,7 +87,7 @@ last_start_of-name s name e = by_last (snoc (parts s))
         let to : parts_end (parts s) ≡ p.end = ap parts_end n ∙ parts_end-append ps p in
         omega (arith, length-rest_whole s)
 
--- a name is no longer than the bytes up to its end
+-- a file name that ends at index `end` has at most `end` bytes
 pub length-name : (s name : List ℕ) (end : ℕ) → Some name ≡ file_name_of (values s)
     → end ≡ length (rest s 0 0) → length name ≤ end
 length-name s name end e at = omega (arith, last_start_of-name s name e, at)
@@ -115,7 +115,7 @@ stem_end_of-some {stem} s name end e at is =
     omega (arith, at, ap length is) in
     ap Some to ∙ ap (stem_end_by s) e
 
--- the rest of a path is no longer than the path
+-- a path without trailing filler, `rest s 0 0`, is no longer than the path
 pub length-rest_whole-le : (s : List ℕ) → length (rest s 0 0) ≤ length s
 length-rest_whole-le s =
     omega (arith, ap length (take-rest s 0), length-take (length (rest s 0 0)) s)

@@ -60,14 +60,14 @@ first_piece-after [] x none = refl
 first_piece-after (b ∷ p) x none =
     grind (arith, first_piece-other b (p ++ x), first_piece-after p x)
 
--- the components after the first piece
+-- the components of a string after its first piece
 abbrev later_values : List ℕ → List Value
 later_values s =
     let n = position_or_len is_slash s in
     map (λ (p : Part). p.value) (inner_parts (0 + n) (drop n s))
 
--- a string whose first piece counts has the component of that piece first, and has the same
--- components as after a slash
+-- if the first piece p of s is neither empty nor `.`, the first component of s is that of p, and s
+-- has the same components as after a slash
 values-first : (s p : List ℕ) → first_piece s ≡ p → (bytes_eq p [] || bytes_eq p cur_dir) ≡ false
     → (values s ≡ value_of_piece p ∷ later_values s) × (values s ≡ inner_values s)
 unfolding values
@@ -82,8 +82,9 @@ values-first (b ∷ s) p is h =
       whole,
     )
 
--- if the last piece of w, continued by the first piece of x, counts, then w followed by x has the
--- components before that piece, its component, and the components after it
+-- if the last piece of w and the first piece of x together are a piece for which `Counts` holds, w
+-- ++ x has the components before this piece, the component of this piece, and the components after
+-- it
 values-piece : (w x : List ℕ) (k : ℕ) → IsLastStart w k → Counts (drop k w) (first_piece x)
     → values (w ++ x) ≡ values (take k w)
     ++ value_of_piece (drop k w ++ first_piece x) ∷ later_values (drop k w ++ x)

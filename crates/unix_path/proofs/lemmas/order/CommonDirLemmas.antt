@@ -26,7 +26,7 @@ common_dir_of-is a b common n is l after none =
     after_last-byte slash (take common a) n l after none
     ∙ ap (λ m. after_last is_slash (take m a)) is
 
--- the byte before the index just after the last slash is a slash
+-- if `after_last is_slash s` is not 0, the byte of s before this index is a slash
 after_last-slash : (s : List ℕ) → 0 < after_last is_slash s
     → get_or s (after_last is_slash s - 1) 0 ≡ slash
 after_last-slash s some =

@@ -49,8 +49,7 @@ same_kind : (v w : Value) → rank v ≡ rank w
     → value_cmp v w ≡ slice_cmp nat_cmp (value_bytes v) (value_bytes w)
 same_kind v w same = rw (same, tied_itself nat_cmp_total (rank w)) refl
 
--- the first component of a string that begins with a byte other than a slash is the component of
--- its first piece
+-- if s begins with a byte other than a slash, its first component is that of its first piece
 values-name : (s : List ℕ) → 0 < length s → eqb (get_or s 0 0) 47 ≡ false
     → (others : List Value) × (values s ≡ first_value (first_piece s) ∷ others)
 unfolding values
@@ -108,8 +107,8 @@ first_parts-same (x ∷ a) (y ∷ b) n is start same some =
     ∙ ap₂ (slice_cmp nat_cmp) (value_bytes-first p) (value_bytes-first q)
     ∙ first_piece-cmp x y a b n start.near equal other.0 other.1 differs) differs
 
--- two paths that differ at their start, with first components of the same kind, are in the order of
--- the bytes at the first difference, even if both are empty
+-- if a and b differ at their start, and their first components are of the same kind or both are
+-- empty, a and b are in the order of the bytes at their first difference n
 pub first_parts-cmp : (a b : List ℕ) (n : ℕ) → n ≡ common_prefix_len eqb a b → DiffersAtStart a b n
     → is_ne (nat_cmp (first_rank (values a)) (first_rank (values b))) ≡ false
     → nat_cmp (piece_rank a n) (piece_rank b n) ≡ values_cmp (values a) (values b)

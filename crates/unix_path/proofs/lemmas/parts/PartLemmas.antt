@@ -38,7 +38,7 @@ unfolding leading_part
 leading_part-name s e =
     rw (is_rooted-at s ∙ e) refl
 
--- a string that is not empty and doesn't begin with a slash doesn't have an empty first piece
+-- if s is not empty and doesn't begin with a slash, its first piece is not empty
 pub nonempty_first_piece : (s : List ℕ) → 0 < length s → eqb (get_or s 0 0) 47 ≡ false
     → bytes_eq (first_piece s) [] ≡ false
 nonempty_first_piece [] l e = absurd (omega arith)

@@ -91,7 +91,8 @@ pub map-middle : {X Y : Type 0} (f : X → Y) (k m : ℕ) (xs : List X)
 map-middle f k m xs = ap₂ (λ n ys. take (n - (k + m)) ys) (length-map xs f) (drop-map f k xs)
     ∙ take-map f (length xs - (k + m)) (drop k xs)
 
--- elements that are removed in two steps may be removed at once
+-- removing k leading and m trailing elements, and then i leading and j trailing elements, is the
+-- same as removing k + i leading and m + j trailing elements
 pub middle-middle : {X : Type 0} (k m i j : ℕ) (xs : List X)
     → middle i j (middle k m xs) ≡ middle (k + i) (m + j) xs
 middle-middle k m i j xs =

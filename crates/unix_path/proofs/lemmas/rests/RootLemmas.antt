@@ -23,7 +23,7 @@ NoRoot (CurDir ∷ vs) = NoRoot vs
 NoRoot (ParentDir ∷ vs) = NoRoot vs
 NoRoot (Normal name ∷ vs) = NoRoot vs
 
--- a list without the root has no root after the component of a piece is prepended
+-- prepending the component of a piece to a list without the root yields a list without the root
 no_root_cons : (p : List ℕ) (vs : List Value) → NoRoot vs → NoRoot (value_of_piece p ∷ vs)
 no_root_cons p vs h = by_test (bytes_eq p parent_dir) (λ e. rw e h) (λ e. rw e h)
 
@@ -54,7 +54,8 @@ begins_by_root s e = record {
   no_root = no_root_inner 1 (drop 1 s);
 }
 
--- a string that begins with a byte other than a slash has the component of its first piece first
+-- if s begins with a byte other than a slash, its first component is that of its first piece, and
+-- no other component is the root
 begins_by_name : (s : List ℕ) → 0 < length s → eqb (get_or s 0 0) 47 ≡ false
     → BeginsBy s (first_value (first_piece s))
 unfolding values
@@ -66,7 +67,7 @@ begins_by_name s l e =
       no_root = no_root_inner n (drop n s);
     }
 
--- a list whose first component is the root starts with the root
+-- if `root_first vs` is true, the list of only the root is a prefix of vs
 IsPrefixOf-root : (vs : List Value) → root_first vs ≡ true → IsPrefixOf (RootDir ∷ []) vs
 IsPrefixOf-root [] e = absurd (let d : false ≡ true = e in cc)
 IsPrefixOf-root (RootDir ∷ vs) e = (vs, refl)

@@ -36,8 +36,8 @@ span_not_filler t (b ∷ u) i is l not_filler end =
     ap (span_of t) first ∙ ap (λ n. take (n - i) (drop i t)) (sym (ap parts_end first) ∙ reaches)
     ∙ take_all (length t - i) (drop i t) (omega arith) ∙ is
 
--- removing the first n bytes removes the first component, if it ends at e and the filler after it
--- ends at n
+-- if the first component ends at e, and the filler after it ends at n, removing the first n bytes
+-- removes this component
 pub takes_first : (t : List ℕ) (e n : ℕ) (v : Value) → EndsInPart t → n ≤ length t
     → parts t ≡ record { start = 0; end = e; value = v } ∷ inner_parts n (drop n t)
     → (0 < length (drop n t) → is_filler (drop n t) 0 ≡ false) → TakesFirst t (drop n t) v
@@ -61,8 +61,8 @@ takes_first t e n v ends l all not_filler =
     end_of i u some not_filler e v =
         let first = inner_parts_not_filler i u some not_filler in rw first refl
 
--- cutting t to its first n bytes removes the last component, if they have all other components and
--- end in a component
+-- if the first n bytes of t have all components of t except the last, and end in a component,
+-- cutting t to these bytes removes the last component
 takes_last_to : (t : List ℕ) (n at to : ℕ) (v : Value) → n ≤ length t
     → parts t ≡ parts (take n t) ++ record { start = at; end = to; value = v } ∷ []
     → EndsInPart (take n t) → TakesLast t (take n t) v

@@ -91,8 +91,9 @@ module _ {S A V : Type 0} (shows : A → V) (pending : S → List V) (bytes : S 
         ∙ ap₂ (rest u) (let zero : k + 0 ≡ k = omega arith in zero)
         (sym (length-append ys (x ∷ [])))
 
-    -- what remains is the rest without one leading component for each item that `next` returned,
-    -- and one trailing component for each item that `next_back` returned
+    -- the bytes that remain are those that remained before, without one leading component for each
+    -- item that `next` returned, and without one trailing component for each item that `next_back`
+    -- returned
     pub rest_between : (old new : S) (front at_back : List A)
         → GivesMixed next next_back old front at_back new
         → bytes new ≡ rest (bytes old) (length front) (length at_back)
