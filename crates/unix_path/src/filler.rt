@@ -1,6 +1,6 @@
 //! Filler: the slashes of a path, and its `.` pieces, that belong to no component.
 //!
-//! This module is for code that reads the bytes of a path itself. Other callers use `Path` and
+//! This module is for code that works on the single bytes of a path. Other code uses `Path` and
 //! `Components`.
 ghost use Rattle.std.specs.Prelude.{◌≡◌, ℕ, ◌+◌, ◌<◌, ◌≤◌, true, false, length, drop, IsTrue};
 ghost use Rattle.unix_path.specs.CommonDir.{inner_values};

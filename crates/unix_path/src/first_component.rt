@@ -1,6 +1,6 @@
 //! The first component of bytes that begin with no filler: a `..` or a name, and its length.
 //!
-//! This module is for code that reads the bytes of a path itself. Other callers use `Path` and
+//! This module is for code that works on the single bytes of a path. Other code uses `Path` and
 //! `Components`.
 ghost use Rattle.std.specs.Prelude.{◌≡◌, ◌<◌, ◌≤◌, ◌∷◌, true, false, length, take, drop};
 ghost use Rattle.unix_path.specs.Parts.{inner_parts, parts, Normal, ParentDir};

@@ -1,7 +1,7 @@
 //! Unix paths as byte strings, with the same behaviour on every platform.
 //!
 //! Unless stated otherwise:
-//! - Functions named as in `std::path` behave as they do on Unix.
+//! - Functions with a name from `std::path` behave as std's functions do on Unix.
 //! - Functions do not allocate unless they take an allocator or say so.
 //! - Laws do nothing at run time.
 //! - Indices and lengths count bytes.

@@ -6,7 +6,7 @@
 //! candidate is a separator before another separator, before a dot, or at the end of the bytes.
 //! Only an end candidate can end a run.
 //!
-//! This module is for code that reads the bytes of a path itself.
+//! This module is for code that works on the single bytes of a path or a key.
 ghost use Rattle.std.specs.Prelude.{◌≡◌, ℕ, ◌+◌, ◌<◌, ◌≤◌, ◌==◌, false, length, slice_index_or};
 ghost use Rattle.std.specs.Prelude.{IsTrue, ◌↔◌};
 ghost use Rattle.unix_path.specs.NameRunEnds.{is_end_candidate_of, ends_name_run_of};
