@@ -1,4 +1,4 @@
-//! Laws of a path's components, and of what remains of a path after some are taken.
+//! Laws of a path's components, and of the rest of a path after some components are taken.
 ghost use Rattle.std.specs.Prelude.{◌≡◌, ◌≤◌, ℕ, List, [], length, map};
 ghost use Rattle.std.specs.List.{sum_by};
 ghost use Rattle.unix_path.specs.Parts.{values, value_bytes};

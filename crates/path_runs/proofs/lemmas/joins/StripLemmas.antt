@@ -15,7 +15,7 @@ use Rattle.path_runs.proofs.lemmas.joins.LeadLemmas.{IsInner, inner-no_lead, inn
 use Rattle.path_runs.proofs.lemmas.joins.LeadLemmas.{append_values, append_values-inner}
 use Rattle.path_runs.proofs.lemmas.joins.LeadLemmas.{values-join_of_rootless}
 
--- if the components vs are dropped from vs followed by ws, ws remains
+-- dropping the first `length vs` components from vs followed by ws leaves ws
 middle-append : (vs ws : List Value) → middle (length vs) 0 (vs ++ ws) ≡ ws
 middle-append vs ws =
     let n = length vs in
@@ -41,8 +41,8 @@ join_remaining s base r v vs more is rest_is all =
     values-join_of_rootless base r rootless ∙ ap₂ append_values is rest_is
     ∙ append_values-inner (v ∷ vs) more inner ∙ all
 
--- a path without its base, joined to that base, has the components of base and then those that
--- follow them in the path
+-- if the components of s are those of base and then `more`, s stripped of base and joined to base
+-- has the components of s
 strip_join : (s base : List ℕ) (more : List Value) → values base ++ more ≡ values s
     → values (join_of base (stripped_of s base)) ≡ values s
 strip_join s [] more e =

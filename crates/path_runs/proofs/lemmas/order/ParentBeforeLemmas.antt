@@ -1,4 +1,5 @@
--- A path's parent sorts before the path, and joined with the path's file name it equals the path.
+-- A path's parent is before the path in the order. Joined with the path's file name, the parent
+-- equals the path.
 use Rattle.std.proofs.Common.{◌≡◌, ℕ, List, [], ◌∷◌, ◌++◌, Some, refl, sym, ap, ap₂, ◌∙◌}
 use Rattle.std.specs.Ordering.{ordering_then}
 use Rattle.std.proofs.lemmas.Cmp.{tied_itself}
