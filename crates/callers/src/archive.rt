@@ -14,7 +14,7 @@ use unix_path::{Path, PathBuf};
 /// The reason why an entry is not unpacked.
 #[derive(Debug, Drop)]
 pub enum UnpackError {
-    /// The entry is not a request, for this reason.
+    /// The entry has a root, escapes or has a NUL byte, as the error says.
     Refused(RequestError),
     /// An allocation failed.
     Memory(AllocError),
