@@ -185,7 +185,7 @@ impl<'a> Tree<'a> {
         Ok(())
     }
 
-    // Appends a name that depends on the highest bits of the number.
+    // Appends a name that depends on the number without its lowest 12 bits.
     pub(crate) fn push_first(self, out: &mut Vec<u8>, number: u64) -> Result<(), AllocError> {
         self.push_name(out, 9 << 32 | number >> 12, 0, 64)
     }

@@ -44,7 +44,7 @@ abbrev pub values_added : List ℕ → List ℕ → List Value
 values_added [] b = values b
 values_added (x ∷ a) b = drop_dot (values b)
 
--- a path without its base, joined to that base, has the components of the path
+-- if s starts with base, joining base with the rest of s after it leads to the components of s
 abbrev pub StripThenJoin : Type 0
 StripThenJoin =
     (s base : List ℕ) → IsPrefixOf (values base) (values s)

@@ -20,7 +20,7 @@ pub fn no_part_no_byte()
 /// A count of the components, or a sum of their lengths, therefore fits any integer type that the
 /// path's length fits.
 ///
-/// `/a//bc` has three components of 1, 1 and 2 bytes, and 6 bytes.
+/// `/a//bc` has 6 bytes, and three components of 1, 1 and 2 bytes.
 pub fn parts_fit()
     ensures count { (s : List ℕ) → length (values s) ≤ length s }
     ensures bytes { (s : List ℕ) → sum_by (λ v. length (value_bytes v)) (values s) ≤ length s }

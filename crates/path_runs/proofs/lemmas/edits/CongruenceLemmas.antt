@@ -22,7 +22,7 @@ use Rattle.path_runs.proofs.lemmas.names.ExtensionCutLemmas.{values-with_extensi
 use Rattle.path_runs.proofs.lemmas.names.ExtensionCutLemmas.{values-added_extension_of}
 use Rattle.path_runs.proofs.lemmas.joins.LeadLemmas.{joins_same, roots_same}
 
--- equal paths have the same depth
+-- equal paths have the same depth, which is the number of their components except the root
 pub depths_same : (s t : List ℕ) → SameValues s t → depth_of s ≡ depth_of t
 depths_same s t e = ap₂ (λ n rooted. n - cond rooted 1 0) (ap length e) (roots_same s t e)
 

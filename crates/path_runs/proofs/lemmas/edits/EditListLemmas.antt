@@ -7,7 +7,7 @@ use Rattle.path_runs.specs.declared.edits.Edit.{Edit}
 use Rattle.path_runs.specs.EditLists.{EditValue, edit_of, edits_of}
 use Rattle.path_runs.specs.EditViews.{edit_value}
 
--- the path's bytes after these edits
+-- the path s after the edits
 abbrev result_of : List ℕ → List EditValue → List ℕ
 result_of s es = (edits_of s es).0
 

@@ -30,7 +30,7 @@ pub record Keeps (s t : List ℕ) (n : ℕ) : Type 0 where
   pub in_range : n ≤ length t
   pub same : take n s ≡ take n t
 
--- if y is the first n bytes of s and then x, it keeps these n bytes
+-- if y is the first n bytes of s and then x, y keeps the first n bytes of s
 pub keeps-front : (s x y : List ℕ) (n : ℕ) → n ≤ length s → y ≡ take n s ++ x → Keeps s y n
 keeps-front s x y n l is =
     let size = length-take-le n s l in record {
@@ -121,7 +121,8 @@ keeps-before s = by_test (is_some (file_name_of (values s)))
     (λ named. rw named (keeps-rest s 1))
     (λ nameless. rw nameless (keeps-self s))
 
--- setting a file name keeps all bytes of the result except the name and one byte before it
+-- if t is s with a new file name, t keeps the bytes of s, except for the new name at its end and
+-- one byte before the name
 pub keeps-name : (s t name : List ℕ) (n : ℕ) → t ≡ with_name_of s name
     → n ≡ length t - (length name + 1) → Keeps s t n
 keeps-name s t name n made size =

@@ -41,7 +41,8 @@ record NewExtension (s t stem x : List ℕ) : Type 0 where
   pub split : split_name name ≡ (stem, Some x)
   pub parent : parent_of t ≡ parent_of s
 
--- the stem of a name, then a dot, and then at least one byte, none of them a slash, are a name
+-- the stem of a name, followed by a dot and an extension that isn't empty and has no slash, is a
+-- name
 new_name : (name : List ℕ) (b : ℕ) (x : List ℕ) → IsName name → HasNoByte 47 (b ∷ x)
     → IsName ((split_name name).0 ++ 46 ∷ b ∷ x)
 new_name name b x h k =

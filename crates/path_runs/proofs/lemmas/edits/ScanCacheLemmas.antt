@@ -11,7 +11,7 @@ shared : (s t : List ℕ) (k n : ℕ) → k ≤ n → take n s ≡ take n t → 
 shared s t k n l e = sym (take-take k n s l) ∙ ap (take k) e ∙ take-take k n t l
 
 -- an end of the last component that is recorded for s is valid for t too, if s and t have the same
--- first n bytes, and the record is about at most n bytes
+-- first n bytes, and the record is only about these bytes
 pub CachesEnd-unchanged : (s t : List ℕ) (n end len : ℕ) → CachesEnd s end len → n ≤ length t
     → take n s ≡ take n t → len ≤ n → CachesEnd t end len
 CachesEnd-unchanged s t n end len h l e few =
@@ -24,7 +24,7 @@ CachesEnd-unchanged s t n end len h l e few =
     }
 
 -- an end of a stem that is recorded for s is valid for t too, if s and t have the same first n
--- bytes, and the stem ends at most at n
+-- bytes, and the stem ends within these bytes
 pub CachesStem-unchanged : (s t : List ℕ) (n stem : ℕ) → CachesStem s stem → n ≤ length t
     → take n s ≡ take n t → stem ≤ n → CachesStem t stem
 CachesStem-unchanged s t n stem h l e few = record {

@@ -20,8 +20,8 @@ use Rattle.unix_path.proofs.lemmas.parts.PlaceLemmas.{values-inner_parts}
 use Rattle.unix_path.proofs.lemmas.parts.ValueLemmas.{value_bytes-piece}
 use Rattle.path_runs.specs.Gaps.{is_gap, slashed_parts, FirstGap, IsPartStart}
 
--- if byte i of s is filler, the bytes from i on have the same inner components as the bytes from i
--- + 1 on
+-- if byte i of s is filler, removing it from the bytes from i on changes none of their inner
+-- components
 pub slashed_parts-filler : (s : List ℕ) (i : ℕ) → i < length s → is_filler s i ≡ true
     → slashed_parts (drop i s) ≡ slashed_parts (drop (i + 1) s)
 unfolding slashed_parts
@@ -112,7 +112,7 @@ pub component_before_gap : (s : List ℕ) (n : ℕ) → 0 < length s → is_fill
 component_before_gap s n l e h = slashed_parts-not_filler s l e
     ∙ ap (λ u. slash ∷ u) (before_first_gap s n h)
 
--- after the end of s, no component follows, so none is appended to a
+-- if i is at least the length of s, no component follows index i of s, so nothing is appended to a
 pub no_parts_after_end : (a s : List ℕ) (i : ℕ) → length s ≤ i → a ++ slashed_parts (drop i s) ≡ a
 unfolding slashed_parts inner_parts
 no_parts_after_end a s i l =

@@ -51,7 +51,7 @@ is_rooted-join_of (x ∷ b) c r = ap is_rooted (join_of-separator (x ∷ b) c r)
 regroup : (a p b q c : List ℕ) → (((a ++ p) ++ b) ++ q) ++ c ≡ (a ++ p) ++ ((b ++ q) ++ c)
 regroup a p b q c = simp append_assoc
 
--- joins of rootless paths to a path are associative
+-- if b and c have no root, joining a, b and c is associative
 join_of-rootless : (a b c : List ℕ) → is_rooted b ≡ false → is_rooted c ≡ false
     → join_of (join_of a b) c ≡ join_of a (join_of b c)
 join_of-rootless a b c m n =

@@ -6,7 +6,7 @@ use Rattle.std.proofs.lemmas.List.{take_at, drop_at, drop-drop}
 use Rattle.path_runs.specs.Overlay.{overlay}
 use Rattle.path_runs.specs.Buffer.{buffer_after}
 
--- the contents `old` after `bytes` are written over their beginning
+-- `old`, with its first bytes replaced by `bytes`
 abbrev pub bytes_over : List ℕ → List ℕ → List ℕ
 bytes_over bytes old = bytes ++ drop (length bytes) old
 
@@ -31,7 +31,8 @@ overlay-bytes_over first second old =
 pub overlay-first : (bytes old : List ℕ) → overlay 0 bytes old ≡ bytes_over bytes old
 overlay-first bytes old = overlay-bytes_over [] bytes old
 
--- if `bytes` isn't longer than the buffer, the buffer has it at its beginning after the call
+-- if `bytes` isn't longer than the buffer, the buffer begins with `bytes` after the call, and the
+-- contents after them are the old ones
 pub buffer_after-fits : (bytes old : List ℕ) → length bytes ≤ length old
     → buffer_after bytes old ≡ bytes_over bytes old
 buffer_after-fits bytes old h = cond-true _ _ _ (le-leb (length bytes) (length old) h)

@@ -19,8 +19,8 @@ pub writes_first : {left : List ℕ} (whole old : List ℕ) → left ≡ whole
     → WritesOn whole old 0 old left
 writes_first whole old e = record { start = []; at_is = refl; out_is = refl; whole_is = e }
 
--- if the rest begins with `stretch`, and `stretch` is written at index `at`, as many more bytes of
--- `whole` are written
+-- if the rest `left` begins with `stretch`, writing `stretch` at index `at` writes `length stretch`
+-- more bytes of `whole`
 pub writes_stretch : {whole old out left new : List ℕ} {at end : ℕ} (stretch more : List ℕ)
     → WritesOn whole old at out left → left ≡ stretch ++ more → new ≡ overlay at stretch out
     → end ≡ at + length stretch → WritesOn whole old end new more

@@ -15,7 +15,7 @@ use Rattle.path_runs.proofs.lemmas.order.HashInputLemmas.{concat-hash_input_of}
 use Rattle.path_runs.proofs.lemmas.spelling.PieceValueLemmas.{HoldsOfPieces, NoSlash, values-hold}
 use Rattle.unix_path.proofs.lemmas.parts.ValueLemmas.{value_bytes-piece}
 
--- the component for which b are the bytes fed to a hasher before the first slash
+-- the component that feeds a hasher the bytes b before the first slash
 value_fed_by : List ℕ → Value
 value_fed_by b = cond (bytes_eq b []) RootDir (cond (bytes_eq b cur_dir) CurDir (value_of_piece b))
 

@@ -20,7 +20,8 @@ concat-first_chunks (suc k) xs =
 zeros_after : ℕ → List ℕ
 zeros_after n = take (8 * ((n + 8) / 8) - (n + 1)) (repeat 7 (0 ∷ []))
 
--- bytes with the terminator, split into chunks of 8, are the bytes, a slash and zeros
+-- if the terminator is appended to b, and the result is split into chunks of 8 bytes, the chunks
+-- together are b, a slash and zeros
 concat-in_eights : (b : List ℕ)
     → concat (in_eights (b ++ terminator)) ≡ b ++ slash ∷ zeros_after (length b)
 unfolding in_eights zeros_after

@@ -20,7 +20,7 @@ join_with_byte-onto : (x b : List ℕ) (bs : List (List ℕ))
 join_with_byte-onto x b [] = refl
 join_with_byte-onto x b (c ∷ bs) = append_assoc x b (slash ∷ join_with_byte slash (c ∷ bs))
 
--- if b is neither empty nor ends in a slash, then a followed by b isn't either
+-- if b isn't empty and doesn't end in a slash, the same is true of a followed by b
 needs_no_separator-append_closed : (a b : List ℕ) → needs_no_separator b ≡ false
     → needs_no_separator (a ++ b) ≡ false
 needs_no_separator-append_closed [] b e = e
@@ -32,8 +32,8 @@ needs_no_separator-append_closed (x ∷ y ∷ a) b e = needs_no_separator-append
 abbrev pub AllUnslashed : List (List ℕ) → Type 0
 AllUnslashed bs = AllByRecursion IsUnslashed bs
 
--- if a is neither empty nor ends in a slash, joining unslashed paths to it puts a slash before each
--- of them
+-- if a isn't empty and doesn't end in a slash, joining unslashed paths to it puts a slash before
+-- each of them
 join_all_of-closed : (a : List ℕ) (bs : List (List ℕ)) → needs_no_separator a ≡ false
     → AllUnslashed bs
     → join_all_of a bs ≡ join_with_byte slash (a ∷ bs)

@@ -126,7 +126,7 @@ spelling_of-lean (x ∷ s) = by_test (eqb x 47)
     (SameOrShorter-root (inner_values s) s (slashed_parts-lean s))))
     (λ e. rw (spelling_of-name (x ∷ s) (omega arith) e) (SameOrShorter-first (x ∷ s)))
 
--- a path with the components of s is the canonical form of s, or longer than it
+-- if t has the components of s, t is the canonical form of s or longer than it
 pub spelling_of-shortest : (s t : List ℕ) → values t ≡ values s
     → (t ≡ spelling_of (values s)) ⊎ (length (spelling_of (values s)) < length t)
 spelling_of-shortest s t e =

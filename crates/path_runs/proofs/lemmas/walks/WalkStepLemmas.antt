@@ -21,8 +21,8 @@ use Rattle.path_runs.proofs.lemmas.walks.WalkLemmas.{is_back, HasWalked, length-
 take-take_early : (n i : ℕ) (ts : List Turn) → i ≤ n → take n (take i ts) ≡ take i ts
 take-take_early n i ts l = take_all n (take i ts) (omega (arith, length-take i ts))
 
--- the count is of those among the first n turns that pass the test: while i is less than n, turn i
--- adds 1 to it if the turn passes, and 0 otherwise
+-- if i is less than n, the number of the first n turns that pass the test grows by one with turn i
+-- if this turn passes it, and stays the same otherwise
 count_by-more : (test : Turn → Bool) (n i : ℕ) (ts : List Turn) (passes : Bool) → i < n
     → i < length ts → test (get_or ts i Front) ≡ passes
     → count_by test (take n (take (i + 1) ts))
@@ -66,7 +66,8 @@ in_time {s} {ts} {i} h l some = omega (
   length-take i ts,
 )
 
--- one more turn at the front takes the component that a call of `next` returned, if it returned one
+-- one more turn at the front takes the component that `next` returned, or nothing if `next`
+-- returned `None`
 pub HasWalked-front : {A : Type 0} (shows : A → Value) (s : List ℕ) (ts : List Turn) (i : ℕ)
     (front : List Value) (remaining : List ℕ) (behind : List Value) (item : Option A)
     (after : List ℕ)
@@ -92,8 +93,8 @@ HasWalked-front shows s ts i front remaining behind (Some x) after h l turn give
       backs = omega (arith, h.backs, count_by-more is_back n i ts false early l (ap is_back turn));
     }
 
--- one more turn at the back takes the component that a call of `next_back` returned, if it returned
--- one
+-- one more turn at the back takes the component that `next_back` returned, or nothing if
+-- `next_back` returned `None`
 pub HasWalked-back : {A : Type 0} (shows : A → Value) (s : List ℕ) (ts : List Turn) (i : ℕ)
     (front : List Value) (remaining : List ℕ) (behind : List Value) (item : Option A)
     (after : List ℕ)
