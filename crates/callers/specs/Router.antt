@@ -1,4 +1,4 @@
--- The handler of a path: that of the longest route that is a prefix of the path.
+-- The handler of a path, found by the longest route that is a prefix of the path.
 use Rattle.std.specs.Prelude.{◌≡◌, ◌⊎◌, ℕ, List, None}
 use Rattle.unix_path.specs.Parts.{Value, values}
 use Rattle.unix_path.specs.Prefixes.{IsPrefixOf}

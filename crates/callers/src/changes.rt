@@ -20,8 +20,8 @@ pub struct Changes<'a, 'b, V> {
     pub different: Vec<(&'a [u8], &'a V, &'b V)>,
 }
 
-/// Returns the files that only the manifest `after` has, those that only `before` has, and those
-/// that both have with different values.
+/// Returns the files that only the manifest `after` has, the files that only `before` has, and the
+/// files that both have with different values.
 ///
 /// Files are the same if their paths are equal, as `a/b` and `a//b` are. Allocates as the lists
 /// grow, and nothing if there is no change. Fails if an allocation fails.

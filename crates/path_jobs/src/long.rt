@@ -184,8 +184,8 @@ fn show(alloc: Global, path: Path<'_>, digest: &mut Digest) -> Result<(), AllocE
 }
 
 // Walks and compares `count` deep paths. For each of them, shows twenty paths with names in several
-// scripts. For one in 32, also applies a list of edits to it, and walks and compares a path with
-// long runs of filler.
+// scripts. For one deep path in 32, also applies a list of edits to the path, and walks and
+// compares a path with long runs of filler.
 pub(crate) fn run(alloc: Global, seed: u64, count: u64) -> Result<u64, AllocError> {
     let mut digest = Digest::new();
     let mut random = Random::new(seed);

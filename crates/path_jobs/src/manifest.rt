@@ -1,5 +1,4 @@
-//! Normalises two manifests: puts their paths into canonical form, sorts them, and removes those
-//! that are equal to others.
+//! Normalises two manifests: sorts their paths, in canonical form, and lists equal paths once.
 use crate::digest::Digest;
 use crate::lines::Lines;
 use crate::random::Random;

@@ -1,5 +1,5 @@
--- The answer of the command `under`: the rests after a base of the paths that start with the base.
--- Not in Rust's std.
+-- The answer of the command `under`: for each path that starts with a base, the rest of the path
+-- after the base. Not in Rust's std.
 use Rattle.std.specs.Prelude.{ℕ, List, [], map}
 use Rattle.std.specs.BTreeMap.{insert_entry}
 use Rattle.std.specs.List.{fold}

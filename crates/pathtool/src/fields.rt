@@ -55,7 +55,8 @@ pub fn is_named(field: &[u8], name: &[u8]) -> bool
 
 /// The extra fields of a line: those that follow its path.
 ///
-/// The only extra field `pop` is `One`. The extra fields `pop`, a tab and `pop` are `Several`.
+/// If the only extra field is `pop`, the value is `One`. If the extra fields are `pop`, a tab and
+/// `pop`, the value is `Several`.
 #[derive(Clone, Copy)]
 pub enum ExtraFields<'a> {
     /// No field follows.

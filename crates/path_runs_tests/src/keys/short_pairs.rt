@@ -51,8 +51,8 @@ fn keys_match_paths(a: &KeyedPath<'_>, b: &KeyedPath<'_>) -> bool {
     orders_match(a, b) && prefixes_match(a, b)
 }
 
-// Returns the number of paths before the first path whose key doesn't compare with the key of `a`
-// like the path with the path of `a`.
+// Returns the number of paths before the first path `b` for which comparing the keys of `a` and `b`
+// has another result than comparing the paths.
 fn count_matching(a: &KeyedPath<'_>, paths: &[KeyedPath<'_>]) -> usize {
     for (count, b) in paths.iter().enumerate() {
         if !keys_match_paths(a, b) {
