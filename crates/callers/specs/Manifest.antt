@@ -19,7 +19,7 @@ paths_cmp p q = values_cmp (values (path_bytes p)) (values (path_bytes q))
 abbrev pub is_same : PathBuf → Path → Bool
 is_same p path = is_eq (values_cmp (values path.bytes.now) (values (path_bytes p)))
 
--- the path is in canonical form, the one shortest path with its components
+-- the path is in canonical form: it is the shortest path with its components
 abbrev pub IsCanonical : PathBuf → Type 0
 IsCanonical p = path_bytes p ≡ spelling_of (values (path_bytes p))
 

@@ -8,7 +8,7 @@ use Rattle.path_within.specs.Requests.{root_bytes}
 use Rattle.path_within.specs.declared.root.Root.{Root}
 use Rattle.path_tree.specs.Nearest.{IsNearest}
 
--- the file is the rest of the path s after the nearest mount point, below the root that is mounted
+-- `file` is the rest of the path s after its nearest mount point, below the root that is mounted
 -- there
 pub record IsMounted (s : List ℕ) (mounts : List (List Value × Root)) (file : List ℕ)
     : Type 0 where

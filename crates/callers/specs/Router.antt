@@ -1,12 +1,13 @@
--- The handler of a path, by the longest prefix.
+-- The handler of a path, found by the longest route that is a prefix of the path.
 use Rattle.std.specs.Prelude.{◌≡◌, ◌⊎◌, ℕ, List, None}
 use Rattle.unix_path.specs.Parts.{Value, values}
 use Rattle.unix_path.specs.Prefixes.{IsPrefixOf}
 use Rattle.path_runs.specs.Rows.{value_at}
 use Rattle.path_tree.specs.Nearest.{IsNearest}
 
--- the handler is at the longest prefix of the path s, and `rest` is the rest of s after it; or no
--- route is a prefix of s, the handler is the fallback, and `rest` is all of s
+-- `handler` is the handler of the longest route that is a prefix of the path s, and `rest` is the
+-- rest of s after that route; or no route is a prefix of s, `handler` is the fallback, and `rest`
+-- is s
 abbrev pub IsRouted : {H : Type 0} → List ℕ → List (List Value × H) → H → List ℕ → H → Type 0
 IsRouted s routes fallback rest handler =
     IsNearest s routes rest handler

@@ -1,4 +1,4 @@
--- Trees of files, as lists of entries.
+-- Trees of files, as lists of components with their values.
 use Rattle.std.specs.Prelude.{List}
 use Rattle.unix_path.specs.Buffers.{path_bytes}
 use Rattle.unix_path.specs.Parts.{Value}

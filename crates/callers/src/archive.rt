@@ -14,7 +14,7 @@ use unix_path::{Path, PathBuf};
 /// The reason why an entry is not unpacked.
 #[derive(Debug, Drop)]
 pub enum UnpackError {
-    /// The entry is not a request, for this reason.
+    /// The entry has a root, escapes or has a NUL byte, as the error says.
     Refused(RequestError),
     /// An allocation failed.
     Memory(AllocError),
@@ -46,8 +46,8 @@ impl From<AllocError> for UnpackError {
     }
 }
 
-/// Returns the path at which an entry of an archive is unpacked: its names, resolved, below the
-/// root.
+/// Returns the path at which an entry of an archive is unpacked: the names of the entry, resolved,
+/// below the root.
 ///
 /// An entry that has a root, escapes or has a NUL byte is refused, with an error for each, before
 /// anything is allocated. Allocates once. Fails with `Memory` if the allocation fails.

@@ -7,19 +7,21 @@ ghost use Rattle.path_tree.specs.Tree.{entries_of};
 use path_tree::PathTree;
 use std::alloc::AllocError;
 
-/// The files that are new, gone or different in a manifest, by the keys of their paths. Each list
-/// is in path order.
+/// The files that are new, gone or different in the later of two manifests. A file is identified by
+/// the key of its path, and each list is in path order.
 #[derive(Drop)]
 pub struct Changes<'a, 'b, V> {
     /// The files that only the later manifest has.
     pub new: Vec<(&'a [u8], &'a V)>,
     /// The files that only the earlier manifest has.
     pub gone: Vec<(&'b [u8], &'b V)>,
-    /// The files that both have with different values: the later value, and then the earlier one.
+    /// The files that both manifests have, but with different values. The later value comes first,
+    /// and then the earlier one.
     pub different: Vec<(&'a [u8], &'a V, &'b V)>,
 }
 
-/// Returns the files that are new in the manifest `after`, gone from `before`, or different.
+/// Returns the files that only the manifest `after` has, the files that only `before` has, and the
+/// files that both have with different values.
 ///
 /// Files are the same if their paths are equal, as `a/b` and `a//b` are. Allocates as the lists
 /// grow, and nothing if there is no change. Fails if an allocation fails.

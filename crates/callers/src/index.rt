@@ -1,4 +1,4 @@
-//! Look-ups by a borrowed path.
+//! Look-ups by a borrowed path, in a map and in a sorted list.
 ghost use Rattle.std.specs.Prelude.{◌≡◌, length};
 ghost use Rattle.std.specs.BTreeMap.{is_at};
 ghost use Rattle.std.specs.List.Sorted.{IsBinarySearchResult, IsSearchInRange};
@@ -13,8 +13,8 @@ use path_runs::laws;
 use std::collections::BTreeMap;
 use unix_path::{Path, PathBuf};
 
-/// Returns the value at the key that is equal to this path, or `None` if there is no such key. The
-/// keys of the map are views.
+/// Returns the value at the key that is equal to `path`, or `None` if there is no such key. The
+/// keys of the map are borrowed paths.
 ///
 /// With 1 at `a/b`, the value at `a//b/` is 1.
 pub fn value_at<'m, 'a, V>(files: &'m BTreeMap<Path<'a>, V>, path: Path<'a>) -> Option<&'m V>
@@ -25,10 +25,10 @@ pub fn value_at<'m, 'a, V>(files: &'m BTreeMap<Path<'a>, V>, path: Path<'a>) -> 
     files.get(&path)
 }
 
-/// Finds an entry whose path is equal to this one, in a list that is sorted by path. Returns its
-/// index in the list, or as an error the index at which the path can be inserted.
+/// Finds an entry whose path is equal to `path`, in a list that is sorted by path. Returns the
+/// index of the entry, or as an error the index at which `path` can be inserted.
 ///
-/// It is a `slice::binary_search_by`.
+/// The search is a `slice::binary_search_by`.
 ///
 /// Among `a`, `a/b` and `b` it returns `Ok(1)` for `a//b`, and `Err(2)` for `a/c`.
 pub fn search_by_path<V>(files: &[(PathBuf, V)], path: Path<'_>) -> Result<usize, usize>

@@ -3,7 +3,7 @@
 //! and an index.
 //!
 //! Functions do not allocate unless they take an allocator or say so. Functions named as in `std`
-//! behave as they do on Unix unless stated. Lengths count bytes.
+//! behave like those on Unix unless stated otherwise. Lengths count bytes.
 #![tactic(auto)]
 
 pub mod archive;

@@ -25,7 +25,7 @@ fn add(alloc: Global, set: &mut BTreeSet<PathBuf>, path: Path<'_>) -> Result<(),
     Ok(())
 }
 
-// Returns the set of these paths, which are added from the first to the last.
+// Returns the set of the paths in canonical form, adding them from the first to the last.
 fn collect_forward(alloc: Global, paths: &[Path<'_>]) -> Result<BTreeSet<PathBuf>, AllocError>
     ensures { IfOk result (IsNormalised paths.now) }
 {
@@ -36,7 +36,7 @@ fn collect_forward(alloc: Global, paths: &[Path<'_>]) -> Result<BTreeSet<PathBuf
     Ok(set)
 }
 
-// Returns the set of these paths, which are added from the last to the first.
+// Returns the set of the paths in canonical form, adding them from the last to the first.
 fn collect_backward(alloc: Global, paths: &[Path<'_>]) -> Result<BTreeSet<PathBuf>, AllocError>
     ensures { IfOk result (IsNormalised paths.now) }
 {
@@ -47,10 +47,10 @@ fn collect_backward(alloc: Global, paths: &[Path<'_>]) -> Result<BTreeSet<PathBu
     Ok(set)
 }
 
-/// Returns the set of these paths in canonical form.
+/// Returns the set of the canonical forms of `paths`.
 ///
 /// The set is sorted, and has each path once. It contains a path if and only if the path is equal
-/// to one of these. Allocates for each path and its entry in the set. If an allocation fails, it
+/// to one of `paths`. Allocates for each path and its entry in the set. If an allocation fails, it
 /// fails and drops the set.
 ///
 /// For `b`, `a//b/.`, `a/b` and `./a` it is `./a`, `a/b` and `b`.

@@ -15,7 +15,7 @@ use unix_path::{Path, PathBuf};
 /// The nearest mount point is the longest mount point that the path starts with. The result is
 /// `None` if there is no such mount point, or if a NUL byte follows it in the path. Each `..` after
 /// the mount point drops the name before it, and a `..` that would go above the mount point leads
-/// to the root mounted there. Allocates for the file, and also for the path's key if the key is
+/// to the root mounted there. Allocates for the result, and also for the path's key if the key is
 /// longer than 512 bytes. Fails if an allocation fails.
 ///
 /// With `/srv` mounted at `/`, and `/home/me` at `/me`, the file of `/me/../a` is `/home/me/a`.

@@ -7,13 +7,13 @@ use path_tree::PathTree;
 use std::alloc::AllocError;
 use unix_path::Path;
 
-/// Returns the handler of a path, and what it has to handle: the handler at the longest prefix of
-/// the path, and the rest of the path after this prefix.
+/// Finds the route with the longest prefix of a path. Returns its handler, and the rest of the path
+/// after the prefix.
 ///
-/// If the routes have no prefix of the path, it returns the fallback and the whole path. Prefixes
-/// are of whole components, and no `..` is resolved. Allocates, once, only if the path's key is
-/// longer than 512 bytes, which requires a path of more than 510 bytes. Fails only if that
-/// allocation fails.
+/// If no route is a prefix of the path, returns the fallback and the whole path. A prefix consists
+/// of whole components, and no `..` is resolved. Allocates, once, only if the path's key is longer
+/// than 512 bytes, which requires a path of more than 510 bytes. Fails only if that allocation
+/// fails.
 ///
 /// With 1 at `/` and 2 at `/api`, `/api//users` has the handler 2 and the rest `users`, and `/apis`
 /// has the handler 1 and the rest `apis`.

@@ -1,4 +1,4 @@
-//! Paths that stay below whatever they are joined to.
+//! Paths that stay below each directory that they are joined to.
 ghost use Rattle.std.specs.Prelude.{◌≡◌, ◌↔◌, false, IsTrue};
 ghost use Rattle.unix_path.specs.Parts.{is_rooted, values};
 ghost use Rattle.callers.specs.Below.{StaysBelow};
@@ -6,8 +6,8 @@ ghost use Rattle.callers.specs.Below.{StaysBelow};
 use unix_path::laws::walks_in_order;
 use unix_path::{Component, Path};
 
-/// Returns true if a path stays below whatever it is joined to: it is relative, and no component is
-/// `..`.
+/// Returns true if a path stays below each directory that it is joined to: it is relative, and no
+/// component is `..`.
 ///
 /// It is true for `a/..b`, and false for `a/../b` and `/a`.
 pub fn stays_below(request: Path<'_>) -> bool

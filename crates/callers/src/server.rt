@@ -11,11 +11,11 @@ use std::alloc::AllocError;
 use unix_path::{Path, PathBuf};
 
 /// Sets `file` to the path of the file that a request names, below the served root. Returns false
-/// if and only if the request has a NUL byte; `file` is then unchanged.
+/// if and only if the request has a NUL byte; then `file` is unchanged.
 ///
-/// The request is read as in a chroot: leading slashes are dropped, and a `..` at the top stays at
-/// the top. Allocates only if the capacity of `file` is too small. If the allocation fails, `file`
-/// is unchanged.
+/// The request is read as in a chroot: leading slashes are dropped, and a `..` that would go above
+/// the served root leads to this root. Allocates only if the capacity of `file` is too small. If
+/// the allocation fails, `file` is unchanged.
 ///
 /// Below `/srv/www`, the file of `/a/../../b.html` is `/srv/www/b.html`.
 pub fn find_file(root: &Root, file: &mut PathBuf, request: Path<'_>) -> Result<bool, AllocError>

@@ -16,8 +16,9 @@ use unix_path::{Path, PathBuf};
 /// The file is the rest of the path after the prefix, joined within the document root.
 ///
 /// Nothing is decoded, and each `..` is dropped with the name before it. The error is `Escapes` if
-/// and only if the path starts with the prefix and the rest escapes; nothing has been allocated
-/// then. The error is `Memory` if the allocation fails. Allocates once, and nothing for `None`.
+/// and only if the path starts with the prefix and the rest after the prefix escapes; then nothing
+/// is allocated. The error is `Memory` if the allocation fails. Allocates once, and nothing for
+/// `None`.
 ///
 /// With the prefix `/static` and the root `/srv/www`, the file of `/static/css/../a.css` is
 /// `/srv/www/a.css`, and `/static/../a` is refused.

@@ -24,7 +24,7 @@ pub struct Tree<V> {
 impl<V> Tree<V> {
     /// Returns a tree without files. Nothing is allocated yet.
     ///
-    /// It has no value at `a`.
+    /// The new tree has no value at `a`.
     pub fn new(alloc: Global) -> Tree<V>
         ensures { rows result ≡ [] }
     {
@@ -33,8 +33,8 @@ impl<V> Tree<V> {
         }
     }
 
-    /// Inserts the value at the path. Returns the value of an equal path that was there, or `None`
-    /// if there was none.
+    /// Inserts the value at the path. Returns the old value of an equal path in the tree, or `None`
+    /// if there was no equal path.
     ///
     /// If there is an equal path, it stays as the key, and its value is replaced. Allocates for the
     /// path and, if there is no equal path, for its entry in the tree. Fails if an allocation
@@ -62,7 +62,8 @@ impl<V> Tree<V> {
         Ok(old)
     }
 
-    /// Returns the value of the path that is equal to this one, or `None` if there is none.
+    /// Returns the value of the path in the tree that is equal to `path`, or `None` if there is no
+    /// such path.
     ///
     /// With 1 at `a/b`, the value of `a/./b` is 1.
     pub fn get(&self, path: &PathBuf) -> Option<&V>
@@ -73,8 +74,8 @@ impl<V> Tree<V> {
         self.files.get(path)
     }
 
-    /// Removes the path that is equal to this one. Returns its value, or `None` if there is no such
-    /// path.
+    /// Removes the path in the tree that is equal to `path`. Returns its value, or `None` if there
+    /// is no such path.
     ///
     /// With 1 at `a/b` as the only entry, removing `a//b` returns 1, and leaves no files.
     pub fn remove(&mut self, path: &PathBuf) -> Option<V>

@@ -22,7 +22,7 @@ impl Digest {
         self.add(u64::from(flag));
     }
 
-    // Adds the bytes, eight at once, and their number.
+    // Adds the bytes, eight at once, and then the other bytes with the number of all bytes.
     pub(crate) fn add_bytes(&mut self, bytes: &[u8]) {
         let (words, rest) = bytes.as_chunks::<8>();
         for word in words {
@@ -39,7 +39,7 @@ impl Digest {
         self.add_bytes(path.as_unix_str().as_bytes());
     }
 
-    // Adds the text, or a number that no text adds first.
+    // Adds the text, or `u64::MAX` if there is none.
     pub(crate) fn add_text(&mut self, text: Option<UnixStr<'_>>) {
         match text {
             Some(text) => self.add_bytes(text.as_bytes()),

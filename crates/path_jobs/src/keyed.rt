@@ -36,8 +36,8 @@ fn filled(
     Ok(files)
 }
 
-// Looks up each file by another spelling of its path. One look-up in three is of a path in the same
-// directory that has no file.
+// Looks up each file by another spelling of its path. One look-up in three is for a path in the
+// same directory at which there is no file.
 fn look_up(
     alloc: Global,
     tree: Tree<'_>,
@@ -59,7 +59,8 @@ fn look_up(
     Ok(sum)
 }
 
-// Removes every eighth file that was inserted.
+// Removes every eighth file, in the order in which they were inserted. Returns the sum of their
+// values.
 fn remove(
     alloc: Global,
     tree: Tree<'_>,
@@ -78,8 +79,8 @@ fn remove(
     Ok(sum)
 }
 
-// Lists the files below some directories: below all large ones, and below one in eight of the
-// directories with 16 files.
+// Lists the files below some directories: below each directory of 8,192 files, and below one in
+// eight of the directories of 16 files.
 fn list_below(
     alloc: Global,
     tree: Tree<'_>,
@@ -103,8 +104,8 @@ fn list_below(
     Ok(())
 }
 
-// Finds, for each file, the nearest entry above a path below it: the file itself, unless it was
-// removed.
+// For each file, looks up the entry with the longest prefix of a path below the file: the file
+// itself, unless it was removed.
 fn find_nearest(
     alloc: Global,
     tree: Tree<'_>,
@@ -127,7 +128,7 @@ fn find_nearest(
 }
 
 // Fills a tree with `count` files, looks up each, lists some directories, removes some files, and
-// finds, for each file, the nearest entry above a path below it.
+// looks up the longest prefix of a path below each file.
 pub(crate) fn run(alloc: Global, seed: u64, count: u64) -> Result<u64, AllocError> {
     let mut digest = Digest::new();
     let tree = Tree::new("/srv/volumes/store", seed);

@@ -12,10 +12,11 @@ use unix_path::{Component, Path, PathBuf};
 // The number of names of a deep path, which has about 3,800 bytes.
 const NAMES: usize = 850;
 
-// The pieces that long runs repeat: filler, a name and a `..`.
+// The strings that long runs repeat. All are filler except the last two, a name and a `..`.
 static IDLE: [&str; 8] = ["/.", "./", "//", "/./", "/", "/./././", "/a", "/.."];
 
-// Texts in several scripts, and bytes that are not valid UTF-8: Latin-1, cut short, a surrogate.
+// Names in several scripts. The last four are not valid UTF-8: they have a byte of Latin-1, a
+// sequence that is cut short, a surrogate, and the byte FF.
 static TEXTS: [&[u8]; 16] = [
     b"plain-name",
     b"na\xC3\xAFve",
@@ -35,7 +36,8 @@ static TEXTS: [&[u8]; 16] = [
     b"\xFF",
 ];
 
-// Sets the bytes to a path of many names of one to six letters, one in eight after a `.`.
+// Sets `bytes` to a path of `NAMES` names of one to six letters. About one name in eight has a `.`
+// before it.
 pub(crate) fn make_deep(bytes: &mut Vec<u8>, random: &mut Random) -> Result<(), AllocError> {
     bytes.clear();
     for _ in 0..NAMES {
@@ -48,7 +50,8 @@ pub(crate) fn make_deep(bytes: &mut Vec<u8>, random: &mut Random) -> Result<(), 
     Ok(())
 }
 
-// Sets the bytes to 16 runs of about 22,500 bytes in all, three in four of them of filler.
+// Sets `bytes` to a path with 16 runs, of about 22,500 bytes in all. On average three runs in four
+// are filler.
 fn make_filler(bytes: &mut Vec<u8>, random: &mut Random) -> Result<(), AllocError> {
     bytes.clear();
     bytes.extend_from_slice(b"x")?;
@@ -62,8 +65,8 @@ fn make_filler(bytes: &mut Vec<u8>, random: &mut Random) -> Result<(), AllocErro
     Ok(())
 }
 
-// Sets the bytes to a path of a dozen names, each with one of the texts. About one such path in 16
-// is not valid UTF-8.
+// Sets `bytes` to a path of twelve names, each of which begins with one of `TEXTS`. About one such
+// path in 16 is not valid UTF-8.
 fn make_text(bytes: &mut Vec<u8>, random: &mut Random) -> Result<(), AllocError> {
     bytes.clear();
     for _ in 0..12 {
@@ -79,7 +82,7 @@ fn make_text(bytes: &mut Vec<u8>, random: &mut Random) -> Result<(), AllocError>
     Ok(())
 }
 
-// Adds the length and the kind of a component.
+// Adds the kind of a component to the digest, and the length if the component is a name.
 fn add_part(part: Option<Component<'_>>, digest: &mut Digest) {
     digest.add(match part {
         Some(Component::Normal(name)) => 8 | (name.len() as u64) << 4,
@@ -125,7 +128,7 @@ fn compare(alloc: Global, path: Path<'_>, digest: &mut Digest) -> Result<(), All
     Ok(())
 }
 
-// Returns the edit for a random word. Nearly one in three is a pop.
+// Returns the edit for a random word. Five words in sixteen are for a pop.
 fn edit_of(word: u64) -> Edit<'static> {
     match word & 15 {
         0..=4 => Edit::Pop,
@@ -163,8 +166,8 @@ fn edit(
     Ok(())
 }
 
-// Displays the path, lossily converts it to text, and writes and reads it as JSON if it is valid
-// UTF-8.
+// Displays the path and converts it lossily to a string. If it is valid UTF-8, also writes it as
+// JSON and reads it back.
 fn show(alloc: Global, path: Path<'_>, digest: &mut Digest) -> Result<(), AllocError> {
     digest.add_bytes(path.to_string_lossy(alloc)?.as_str().as_bytes());
     digest.add_bytes(format!(in alloc; "{}", path.display())?.as_bytes());
@@ -180,9 +183,9 @@ fn show(alloc: Global, path: Path<'_>, digest: &mut Digest) -> Result<(), AllocE
     Ok(())
 }
 
-// Walks and compares `count` deep paths, and shows for each twenty paths with names in several
-// scripts. For one in 32, it also applies a list of edits, and walks and compares a path with long
-// runs of filler.
+// Walks and compares `count` deep paths. For each of them, shows twenty paths with names in several
+// scripts. For one deep path in 32, also applies a list of edits to the path, and walks and
+// compares a path with long runs of filler.
 pub(crate) fn run(alloc: Global, seed: u64, count: u64) -> Result<u64, AllocError> {
     let mut digest = Digest::new();
     let mut random = Random::new(seed);

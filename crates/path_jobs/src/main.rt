@@ -1,4 +1,4 @@
-//! The jobs that users of paths wait for, on synthetic inputs, for timing.
+//! Jobs to be timed. They do what users of paths wait for, on synthetic inputs.
 //!
 //! `path_jobs JOB SEED COUNT` runs one of the jobs `manifest`, `table`, `requests`, `rules`,
 //! `long`, `server`, `pairs` and `tree` on `COUNT` inputs, which are generated from the seed, and
@@ -42,7 +42,7 @@ fn digest_of(alloc: Global, job: &str, seed: u64, count: u64) -> Result<Option<u
     Ok(Some(digest))
 }
 
-// Runs a job and prints its digest. Returns true if there is such a job.
+// Runs a job and prints its digest. Returns false if there is no such job.
 fn run(rt: &HostRuntime, job: &str, seed: u64, count: u64) -> io::Result<bool> {
     let Some(digest) = digest_of(rt.alloc(), job, seed, count)? else {
         return Ok(false);
@@ -65,7 +65,8 @@ fn run_all(rt: &HostRuntime, seed: u64, count: u64) -> io::Result<bool> {
     Ok(true)
 }
 
-// Runs the job that the program's arguments name. Returns true if they name one.
+// Runs the job, or all jobs, that the program's arguments name. Returns false if the arguments are
+// wrong.
 fn answer(rt: &HostRuntime) -> io::Result<bool> {
     let mut words = env::args(rt)?;
     let _program = words.next();

@@ -1,4 +1,4 @@
-//! Normalises manifests: the paths of two listings, each once, in order and in canonical form.
+//! Normalises two manifests: sorts their paths, in canonical form, and lists equal paths once.
 use crate::digest::Digest;
 use crate::lines::Lines;
 use crate::random::Random;
@@ -8,7 +8,8 @@ use path_runs::canonical::canonical;
 use std::alloc::{AllocError, Global};
 use unix_path::{Path, PathBuf};
 
-// Returns the noise for a path. One word in five changes the path's spelling.
+// Returns the noise for a path from a random word. For one word in five it changes the path's
+// spelling; for the other words it is 0.
 fn noise(word: u64) -> u64 {
     if word % 5 == 0 {
         noise_of(word >> 8)
@@ -17,8 +18,9 @@ fn noise(word: u64) -> u64 {
     }
 }
 
-// Returns the paths of `count` files in the order of a walk over the tree, and then as many in
-// another order, of which one in ten is a file of the walk in another spelling.
+// Returns the paths of `count` files in the order of a walk over the tree, and then as many paths
+// in an order that looks random. One in ten of the latter is in another spelling and may be a file
+// of the walk. The others are not files of the walk.
 fn listing(alloc: Global, tree: Tree<'_>, seed: u64, count: u64) -> Result<Lines, AllocError> {
     let mut random = Random::new(seed);
     let mut lines = Lines::new(alloc);
@@ -39,7 +41,7 @@ fn listing(alloc: Global, tree: Tree<'_>, seed: u64, count: u64) -> Result<Lines
     Ok(lines)
 }
 
-// Adds the paths as a set in canonical form.
+// Adds the paths in canonical form to the digest, sorted by a set, and each once.
 fn order_set(alloc: Global, paths: &[Path<'_>], digest: &mut Digest) -> Result<(), AllocError> {
     for path in normalise(alloc, paths)?.iter() {
         digest.add_path(path.as_path());
@@ -47,7 +49,7 @@ fn order_set(alloc: Global, paths: &[Path<'_>], digest: &mut Digest) -> Result<(
     Ok(())
 }
 
-// Adds the paths in canonical form, sorted, and each once.
+// Adds the paths in canonical form to the digest, sorted as a list, and each once.
 fn order_list(alloc: Global, paths: &[Path<'_>], digest: &mut Digest) -> Result<(), AllocError> {
     let mut list: Vec<PathBuf> = Vec::with_capacity(alloc, paths.len())?;
     for path in paths {

@@ -1,4 +1,5 @@
-//! Compares, matches and walks paths and paths similar to them. Each result is added to the digest.
+//! Compares and matches paths with paths similar to them, and walks the similar ones. Each result
+//! is added to the digest.
 use crate::digest::Digest;
 use crate::long::make_deep;
 use crate::random::Random;
@@ -8,11 +9,11 @@ use std::alloc::{AllocError, Global};
 use std::cmp::Ordering;
 use unix_path::{Component, Path};
 
-// The bytes to which a byte is changed.
+// The bytes by which a byte of a path is replaced.
 static BYTES: [u8; 4] = [b'/', b'.', b'b', 0xFF];
 
-// Appends the path with a separator for each slash, selected by three bits of the noise, from the
-// lowest up.
+// Appends the path, with each slash replaced by a separator. Three bits of the noise select each
+// separator, beginning with the lowest three.
 fn push_respelled(out: &mut Vec<u8>, path: &[u8], noise: u64) -> Result<(), AllocError> {
     let mut noise = noise;
     for byte in path {
@@ -26,8 +27,8 @@ fn push_respelled(out: &mut Vec<u8>, path: &[u8], noise: u64) -> Result<(), Allo
     Ok(())
 }
 
-// Returns the path or a part of it: the bytes before or after the index, the path's parent, or its
-// file name.
+// Returns the path or a part of it, which `word` selects: the bytes before or from index `place`
+// on, the path's parent, or its file name.
 fn part_of(path: &[u8], place: usize, word: u64) -> &[u8] {
     let part = match word & 7 {
         0 => path.get(..place),
@@ -43,9 +44,8 @@ fn part_of(path: &[u8], place: usize, word: u64) -> &[u8] {
     part.unwrap_or(path)
 }
 
-// Sets the bytes to a path similar to the given one: all or a part of it, half of the times in
-// another spelling, sometimes with another byte at an index, and sometimes with more bytes at the
-// end.
+// Sets `near` to a path similar to `path`: all or a part of it, half of the time in another
+// spelling, sometimes with one byte replaced, and sometimes with more bytes at the end.
 fn make_near(near: &mut Vec<u8>, path: &[u8], word: u64) -> Result<(), AllocError> {
     let place = (word >> 32) as usize % (path.len() + 1);
     let noise = if word & 1 == 0 {
@@ -68,7 +68,7 @@ fn make_near(near: &mut Vec<u8>, path: &[u8], word: u64) -> Result<(), AllocErro
     Ok(())
 }
 
-// Adds how two paths compare.
+// Adds to the digest whether two paths are equal, and then their order.
 fn compare(first: Path<'_>, second: Path<'_>, digest: &mut Digest) {
     digest.add_flag(first == second);
     digest.add(match first.cmp(&second) {
@@ -78,7 +78,8 @@ fn compare(first: Path<'_>, second: Path<'_>, digest: &mut Digest) {
     });
 }
 
-// Adds whether the path starts and ends with the other, and the rest of the path after the other.
+// Adds to the digest whether `path` starts and ends with `other`, and the rest of `path` after
+// `other`.
 fn match_ends(path: Path<'_>, other: Path<'_>, digest: &mut Digest) {
     digest.add_flag(path.starts_with(other));
     digest.add_flag(path.ends_with(other));
@@ -88,7 +89,7 @@ fn match_ends(path: Path<'_>, other: Path<'_>, digest: &mut Digest) {
     }
 }
 
-// Adds the kind and the bytes of a component.
+// Adds the kind and the bytes of a component to the digest.
 fn add_part(part: Component<'_>, digest: &mut Digest) {
     digest.add(match part {
         Component::RootDir => 1,
@@ -99,8 +100,8 @@ fn add_part(part: Component<'_>, digest: &mut Digest) {
     digest.add_path(part.as_path());
 }
 
-// Walks the path from both ends. Each bit of `turns` is a step. Adds the component that each step
-// takes, and the path that remains.
+// Walks the path from both ends. Each bit of `turns` selects the end for one step, beginning with
+// the lowest bit. Adds to the digest the component that each step takes, and the rest of the path.
 fn walk(path: Path<'_>, turns: u64, digest: &mut Digest) {
     let mut walk = path.components();
     let mut turns = turns;
@@ -119,7 +120,7 @@ fn walk(path: Path<'_>, turns: u64, digest: &mut Digest) {
     }
 }
 
-// Adds the results for a path and a similar one.
+// Adds to the digest the results for a path and a similar one.
 fn answer(
     path: &[u8],
     near: &mut Vec<u8>,
@@ -135,8 +136,8 @@ fn answer(
     Ok(())
 }
 
-// Adds the results for `count` paths, alternately files of a tree and requests. For one in 64, also
-// adds the results for a deep path.
+// Returns the digest of the results for `count` paths, alternately files of a tree and requests.
+// After one path in 64 come the results for a deep path.
 pub(crate) fn run(alloc: Global, seed: u64, count: u64) -> Result<u64, AllocError> {
     let mut digest = Digest::new();
     let mut random = Random::new(seed);

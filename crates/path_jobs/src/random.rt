@@ -1,6 +1,6 @@
-//! Numbers that look random, the same from the same seed.
+//! Numbers that look random. The same seed yields the same numbers.
 
-// The final mixing of splitmix64.
+// Mixes the bits of a number, like the last step of splitmix64.
 #[inline]
 pub(crate) fn mix(number: u64) -> u64 {
     let mixed = (number ^ number >> 30).wrapping_mul(0xBF58_476D_1CE4_E5B9);

@@ -19,10 +19,11 @@ pub(crate) static ROOTS: [&str; 8] = [
     "/",
 ];
 
-// Hidden directories, of which one begins some requests.
+// Hidden directories. Some requests begin with one of them.
 static HIDDEN: [&str; 4] = [".well-known/acme", ".git/objects", ".config/app", ".cache"];
 
-// Beginnings of requests with `..`, `.` or a root; some of them escape.
+// Strings that some requests begin with: they have a `..`, a `.` or a root, and some of them
+// escape.
 static UPS: [&str; 8] = [
     "../",
     "a/../../",
@@ -34,7 +35,8 @@ static UPS: [&str; 8] = [
     "./",
 ];
 
-// Appends a request that a hostile client sends: up to 127 `..`, or any bytes.
+// Appends a request of a hostile client: a tag, and then up to 127 `..` after two names, or 64 to
+// 120 random bytes.
 fn push_hostile(out: &mut Vec<u8>, random: &mut Random, place: u64) -> Result<(), AllocError> {
     let word = random.next();
     push_tag(out, place)?;
@@ -53,7 +55,7 @@ fn push_hostile(out: &mut Vec<u8>, random: &mut Random, place: u64) -> Result<()
 
 // Appends a request. Most are plain paths, some of which begin with a hidden name. One in ten has
 // `.`, `..` or `//`, a few escape, and a few are hostile. No two requests are the same, because
-// `place` is in each. Inlined into the loop of each job that generates requests.
+// each has a tag made from `place`. Inlined into the loop of each job that generates requests.
 #[inline(always)]
 pub(crate) fn push_request(
     out: &mut Vec<u8>,
@@ -85,8 +87,8 @@ pub(crate) fn push_request(
     tree.push_short(out, number, noise, place)
 }
 
-// Adds the result for a request: the join within the root, and the rest of the join after the root;
-// 0 if the request escapes.
+// Adds the result for a request to the digest: the join within the root, and the rest of the join
+// after the root, or 0 if the request is rejected.
 fn answer(
     alloc: Global,
     root: Path<'_>,
@@ -106,8 +108,8 @@ fn answer(
     Ok(())
 }
 
-// Adds the result for users who trust no link: the verbatim join, if the request has no root, no
-// `..` and no NUL.
+// Adds to the digest whether the request escapes, and then its verbatim join, or 0 if the request
+// is rejected because it has a root, a `..` or a NUL byte.
 fn answer_verbatim_join(
     alloc: Global,
     root: Path<'_>,
@@ -123,8 +125,8 @@ fn answer_verbatim_join(
     Ok(())
 }
 
-// Adds the result for a mapper of links: the resolved request, and the relative path to it from a
-// page.
+// Adds to the digest the results for a request as a link on a page: the resolved request, and the
+// relative path from the page to the request.
 fn answer_link(
     alloc: Global,
     page: Path<'_>,
@@ -139,8 +141,8 @@ fn answer_link(
     Ok(())
 }
 
-// Adds the results for `count` requests: each under three roots and verbatim under one more, and
-// each as a link on the page of the request before it.
+// Returns the digest of the results for `count` requests. Each is joined within three roots, and
+// verbatim with one more. Each is also a link on a page, whose path is the request before it.
 pub(crate) fn run(alloc: Global, seed: u64, count: u64) -> Result<u64, AllocError> {
     let mut digest = Digest::new();
     let mut random = Random::new(seed);

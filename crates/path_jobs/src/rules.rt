@@ -11,8 +11,8 @@ const BASES: u64 = 40;
 
 const SUFFIXES: u64 = 20;
 
-// Returns the directories that rules are for, one in four of them in another spelling than the
-// sources have.
+// Returns the directories for which there are rules. One in four is in another spelling than the
+// paths of the sources.
 fn bases(alloc: Global, tree: Tree<'_>, random: &mut Random) -> Result<Vec<PathBuf>, AllocError> {
     let mut bases = Vec::new(alloc);
     let mut bytes = Vec::new(alloc);
@@ -30,8 +30,8 @@ fn bases(alloc: Global, tree: Tree<'_>, random: &mut Random) -> Result<Vec<PathB
     Ok(bases)
 }
 
-// Returns the suffixes of paths that rules are for: a file's name and, in every second one, its
-// directory's name before it.
+// Returns the suffixes of paths for which there are rules: the names of files, every second one
+// with the name of its directory before it.
 fn suffixes(alloc: Global, tree: Tree<'_>, random: &mut Random) -> Result<Lines, AllocError> {
     let mut suffixes = Lines::new(alloc);
     for place in 0..SUFFIXES {
@@ -54,7 +54,7 @@ fn suffixes(alloc: Global, tree: Tree<'_>, random: &mut Random) -> Result<Lines,
     Ok(suffixes)
 }
 
-// Adds the names of a source that rules use.
+// Adds the file name of a source to the digest, and its stem, extension and file prefix.
 fn add_names(source: Path<'_>, digest: &mut Digest) {
     digest.add_text(source.file_name());
     digest.add_text(source.file_stem());
@@ -82,8 +82,8 @@ fn suffix_count(source: Path<'_>, suffixes: &[Path<'_>]) -> u64 {
     count
 }
 
-// Returns the output of a source: the rest after the base, below another directory, with another
-// extension.
+// Returns the path of a source's output: the rest of the source after the base, below another
+// directory and with another extension.
 fn output_of(alloc: Global, source: Path<'_>, base: Path<'_>) -> Result<PathBuf, ExtensionError> {
     let folder = Path::from_text("/work/out/debug/objects");
     let rest = match source.strip_prefix(base) {
@@ -101,7 +101,7 @@ fn list_of(alloc: Global, source: Path<'_>) -> Result<PathBuf, ExtensionError> {
     Ok(list)
 }
 
-// Adds the paths that are built by the source's rules.
+// Adds to the digest the paths that the rules of a source build.
 fn add_outputs(
     alloc: Global,
     source: Path<'_>,
@@ -115,7 +115,8 @@ fn add_outputs(
     Ok(())
 }
 
-// Adds how deep the source is, and how much it shares with the source before it.
+// Adds to the digest the length of each ancestor of the source, and `common_dir` of the source and
+// the source before it.
 fn add_place(source: Path<'_>, before: Path<'_>, digest: &mut Digest) {
     for folder in source.ancestors() {
         digest.add(folder.as_unix_str().len() as u64);
@@ -123,7 +124,7 @@ fn add_place(source: Path<'_>, before: Path<'_>, digest: &mut Digest) {
     digest.add(source.common_dir(before) as u64);
 }
 
-// Matches `count` sources against the rules.
+// Returns the digest of `count` sources, each matched against the rules.
 pub(crate) fn run(alloc: Global, seed: u64, count: u64) -> Result<u64, AllocError> {
     let mut digest = Digest::new();
     let mut random = Random::new(seed);

@@ -1,5 +1,5 @@
-//! Joins requests below roots like a server that creates its roots once, checks each request once,
-//! and joins it in a buffer that it reuses.
+//! Joins requests below roots, like a server. Each root is created once and each request is checked
+//! once. The joins are written to one buffer, which is reused.
 use crate::digest::Digest;
 use crate::random::Random;
 use crate::requests::{ROOTS, push_request};
@@ -8,7 +8,7 @@ use path_within::{Request, RequestError, Root};
 use std::alloc::{AllocError, Global};
 use unix_path::{Path, PathBuf};
 
-// The roots of the job `requests`, resolved and verbatim.
+// The roots of the job `requests`: each of them once resolved, and once verbatim.
 #[derive(Drop)]
 struct Roots {
     resolved: Vec<Root>,
@@ -27,7 +27,7 @@ impl Roots {
     }
 }
 
-// Adds the join below a resolved root, and the rest of the join after the root.
+// Adds to the digest the join below a resolved root, and the rest of the join after the root.
 fn answer(
     root: &Root,
     file: &mut PathBuf,
@@ -42,8 +42,8 @@ fn answer(
     Ok(())
 }
 
-// Adds the results for a request: its joins below three resolved roots, and below one verbatim
-// root.
+// Adds to the digest the results for a request: its joins below three resolved roots, and below one
+// verbatim root.
 fn answer_all(
     roots: &Roots,
     file: &mut PathBuf,
@@ -72,8 +72,8 @@ fn number_of(error: RequestError) -> u64 {
     }
 }
 
-// Adds the results for the requests of the job `requests` with this seed and count, each below the
-// same roots.
+// Returns the digest of the results for the requests that the job `requests` has with the same seed
+// and count. Each is joined below the same roots as there.
 pub(crate) fn run(alloc: Global, seed: u64, count: u64) -> Result<u64, AllocError> {
     let mut digest = Digest::new();
     let mut random = Random::new(seed);

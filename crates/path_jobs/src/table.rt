@@ -37,8 +37,8 @@ fn filled(
     Ok(table)
 }
 
-// Looks up each file by another spelling of its path. One look-up in three is of a path in the same
-// directory that has no file.
+// Looks up each file by another spelling of its path. One look-up in three is for a path in the
+// same directory at which there is no file.
 fn look_up(
     alloc: Global,
     tree: Tree<'_>,
@@ -60,7 +60,8 @@ fn look_up(
     Ok(sum)
 }
 
-// Removes every eighth file that was inserted.
+// Removes every eighth file, in the order in which they were inserted. Returns the sum of their
+// values.
 fn remove(
     alloc: Global,
     tree: Tree<'_>,
@@ -79,8 +80,8 @@ fn remove(
     Ok(sum)
 }
 
-// Lists the files below some directories: below all large ones, and below one in eight of the
-// directories with 16 files.
+// Lists the files below some directories: below each directory of 8,192 files, and below one in
+// eight of the directories of 16 files.
 fn list_below(
     alloc: Global,
     tree: Tree<'_>,
@@ -103,8 +104,8 @@ fn list_below(
     Ok(())
 }
 
-// Looks up each file's number in a hash map, by another spelling of its path. One look-up in three
-// is of a path in the same directory that has no file.
+// Looks up the number of each file in a hash map, by another spelling of the file's path. One
+// look-up in three is for a path in the same directory at which there is no file.
 fn find_by_hash(
     alloc: Global,
     tree: Tree<'_>,

@@ -4,7 +4,7 @@ ghost use Rattle.std.specs.Prelude.{◌<◌};
 use crate::random::mix;
 use std::alloc::AllocError;
 
-// Sorted, so that the names in one directory are in the order of their numbers.
+// Sorted, so that the names in one directory are in the order of the files' numbers.
 #[rattlefmt::skip]
 static WORDS: [&str; 64] = [
     "accept", "adapter", "async", "backend", "base", "buffer", "build", "cache", "channel",
@@ -42,8 +42,8 @@ pub(crate) fn separator(noise: u64) -> &'static str {
     }
 }
 
-// Returns noise that changes the spelling of a path at one or two of its separators: at its end or
-// before its first or second name, and possibly at one more.
+// Returns noise that changes the spelling of a path: at its end or before its first or second name,
+// and possibly at one more separator.
 #[inline]
 pub(crate) fn noise_of(random: u64) -> u64 {
     let first = match random >> 8 & 3 {
@@ -103,7 +103,8 @@ impl<'a> Tree<'a> {
         Ok(())
     }
 
-    // Appends the names of the directories of a file, each with a separator before it.
+    // Appends the names of the first three directories between the tree's directory and the file,
+    // each with a separator before it.
     fn push_folders(self, out: &mut Vec<u8>, number: u64, noise: u64) -> Result<(), AllocError> {
         push_text(out, separator(noise))?;
         self.push_name(out, 1 << 32 | number >> 17, (number >> 17 & 7) << 3, 8)?;
@@ -113,7 +114,8 @@ impl<'a> Tree<'a> {
         self.push_name(out, 3 << 32 | number >> 13, (number >> 13 & 3) << 4, 16)
     }
 
-    // Appends the names of a file's inner directories, each with a separator before it.
+    // Appends the names of the next three directories between the tree's directory and the file,
+    // each with a separator before it.
     fn push_inner(self, out: &mut Vec<u8>, number: u64, noise: u64) -> Result<(), AllocError> {
         push_text(out, separator(noise >> 9))?;
         self.push_name(out, 4 << 32 | number >> 10, (number >> 10 & 7) << 3, 8)?;
@@ -123,13 +125,13 @@ impl<'a> Tree<'a> {
         self.push_name(out, 6 << 32 | number >> 4, (number >> 4 & 7) << 3, 8)
     }
 
-    // Returns true if the file is in a directory of 8,192 files, as one in eight is. The other
-    // files are in directories of 16.
+    // Returns true if the file is in a directory of 8,192 files. This is so for about one file in
+    // eight. The other files are in directories of 16 files.
     pub(crate) fn is_in_large(self, number: u64) -> bool {
         mix(self.seed ^ number >> 13) & 7 == 0
     }
 
-    // Appends the number, which is below 8,192, as four digits.
+    // Appends the number, which is less than 8,192, as four decimal digits.
     fn push_digits(out: &mut Vec<u8>, number: u64) -> Result<(), AllocError> {
         let digit = |value: u64| b'0' + (value % 10) as u8;
         out.push(digit(number / 1000))?;
@@ -139,7 +141,8 @@ impl<'a> Tree<'a> {
         Ok(())
     }
 
-    // Appends a file's name with its ending. One in a hundred has a byte that is not valid UTF-8.
+    // Appends a file's name with its ending. One name in a hundred has a byte that is not valid
+    // UTF-8.
     fn push_file(
         self,
         out: &mut Vec<u8>,
@@ -159,9 +162,10 @@ impl<'a> Tree<'a> {
         push_text(out, ENDINGS[(random >> 32 & 15) as usize])
     }
 
-    // Appends the path of a file after the tree's directory, beginning with a separator. Without
-    // noise it is in canonical form. Each separator uses three bits of the noise, from the lowest
-    // on. The filler after the file's name uses the three from the 22nd on.
+    // Appends the path of a file after the tree's directory, beginning with a separator. If the
+    // noise is 0, the path is in canonical form. Each separator uses three bits of the noise,
+    // beginning with the lowest three. The filler after the file's name uses bits 21 to 23, counted
+    // from 0.
     pub(crate) fn push_below(
         self,
         out: &mut Vec<u8>,
@@ -181,7 +185,7 @@ impl<'a> Tree<'a> {
         Ok(())
     }
 
-    // Appends a name that depends on the highest bits of the number.
+    // Appends a name that depends on the number without its lowest 12 bits.
     pub(crate) fn push_first(self, out: &mut Vec<u8>, number: u64) -> Result<(), AllocError> {
         self.push_name(out, 9 << 32 | number >> 12, 0, 64)
     }
@@ -213,8 +217,8 @@ impl<'a> Tree<'a> {
     }
 }
 
-// Returns the number of a file. The indices below 2^19 yield all even numbers below 2^20, each
-// once, in an order that looks random.
+// Returns the number of a file. If `place` runs through the numbers below 2^19, the results are all
+// even numbers below 2^20, each once, in an order that looks random.
 #[inline]
 pub(crate) fn shuffled(place: u64, seed: u64) -> u64 {
     (place.wrapping_mul(0x9E37_79B9).wrapping_add(seed) & 0x7_FFFF) << 1

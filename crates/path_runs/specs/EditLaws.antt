@@ -9,7 +9,7 @@ use Rattle.path_runs.specs.declared.edits.Answer.TheVariants.{Plain, Flag}
 use Rattle.path_runs.specs.EditLists.{EditValue, Push, Pop, SetFileName, SetExtension}
 use Rattle.path_runs.specs.EditLists.{edit_of, edits_of}
 
--- the same edit, except that pushed paths need only have the same components
+-- the two edits are the same, or they push equal paths
 abbrev pub SameEdit : EditValue → EditValue → Type 0
 SameEdit (Push b) (Push c) = SameValues b c
 SameEdit d e = d ≡ e
@@ -26,7 +26,7 @@ EqualPathsStayEqual =
     (s t : List ℕ) (ds es : List EditValue) → SameValues s t → AllZip SameEdit ds es
     → SameValues (edits_of s ds).0 (edits_of t es).0
 
--- n has one component, which is this name
+-- the only component of n is the name `name`
 abbrev pub IsOneName : List ℕ → List ℕ → Type 0
 IsOneName n name = values n ≡ Normal name ∷ []
 

@@ -32,8 +32,8 @@ edit_of s (AddExtension extension) =
     else (added_extension_of s extension, Flag (is_some (file_name_of (values s))))
 edit_of s Clear = ([], Plain)
 
--- the path s after a list of edits, each applied to the result of the one before it, and all
--- answers
+-- the path s after a list of edits, each applied to the result of the edit before it, and the
+-- answers of all edits
 abbrev pub edits_of : List ℕ → List EditValue → List ℕ × List Answer
 edits_of s [] = (s, [])
 edits_of s (e ∷ es) =
@@ -41,7 +41,8 @@ edits_of s (e ∷ es) =
     let more = edits_of one.0 es in
     (more.0, one.1 ∷ more.1)
 
--- the edit is a push, a new file name, or an extension that isn't empty and contains no slash
+-- the edit may allocate: it is a push, a new file name, or an extension that isn't empty and
+-- contains no slash
 abbrev pub may_allocate : EditValue → Bool
 may_allocate (Push b) = true
 may_allocate (SetFileName name) = true

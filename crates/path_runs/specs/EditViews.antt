@@ -1,5 +1,5 @@
--- The source's edits as edits of `EditLists`, and the results of setting or adding an extension as
--- answers.
+-- Converts edits of the code to edits of `EditLists`, and results of setting or adding an extension
+-- to answers.
 use Rattle.std.specs.Prelude.{Bool, Option, Some, None, Result, Ok, Err}
 use Rattle.unix_path.specs.declared.buf.extensions.ExtensionError.{ExtensionError}
 use Rattle.unix_path.specs.declared.buf.extensions.ExtensionError.TheVariants.{Separator, Memory}
@@ -11,7 +11,7 @@ use Rattle.path_runs.specs.declared.edits.Edit.{Edit}
 use Rattle.path_runs.specs.declared.edits.Edit.TheVariants.{Push, Pop, SetFileName}
 use Rattle.path_runs.specs.declared.edits.Edit.TheVariants.{SetExtension, AddExtension, Clear}
 
--- the edit, with the bytes that its view points to
+-- the edit, with its bytes instead of a view of them
 abbrev pub edit_value : Edit → EditValue
 edit_value (Push path) = edit_lists.Push path.bytes.now
 edit_value Pop = edit_lists.Pop
@@ -20,7 +20,8 @@ edit_value (SetExtension extension) = edit_lists.SetExtension extension.bytes.no
 edit_value (AddExtension extension) = edit_lists.AddExtension extension.bytes.now
 edit_value Clear = edit_lists.Clear
 
--- the answer of an edit of the extension, from the call's result; `None` if an allocation failed
+-- the answer of setting or adding an extension, from the result of the call; `None` if an
+-- allocation failed
 abbrev pub extension_answer : Result Bool ExtensionError → Option Answer
 extension_answer (Ok is_made) = Some (answers.Flag is_made)
 extension_answer (Err Separator) = Some answers.Separator

@@ -14,25 +14,25 @@ is_gap s i =
     slice_index s i == slash
     && (next == slash || (next == dot && slice_index_or s (i + 2) slash == slash))
 
--- the first gap of s begins at `at`, or s has none and is `at` bytes long
+-- `at` is the index of the first gap of s, or the length of s if there is no gap
 pub record FirstGap (s : List ℕ) (at : ℕ) : Type 0 where
   pub in_range : at ≤ length s
   pub gap : at < length s → is_gap s at ≡ true
   pub none_before : (i : ℕ) → i < at → is_gap s i ≡ false
 
--- a component begins at `at`, after a slash
+-- a component of s begins at index `at`, after a slash
 pub record IsPartStart (s : List ℕ) (at : ℕ) : Type 0 where
   pub after_start : 0 < at
   pub after_slash : slice_index s (at - 1) ≡ slash
   pub begins : is_filler s at ≡ false
 
--- the bytes of the pieces of s that are neither empty nor `.`, each after a slash
+-- the pieces of s that are neither empty nor `.`, with a slash before each
 unfoldable pub slashed_parts : List ℕ → List ℕ
 slashed_parts s = flat_map (λ v. slash ∷ value_bytes v) (inner_values s)
 
--- `run` is the component at `start` and any number of components after it, each after a slash; the
--- bytes of s after the run, at index `start - 1 + length run`, have the remaining components, and
--- the first of these bytes, if any, is a slash
+-- `run` is the component at index `start` and any number of components after it, with a slash
+-- before each. The run ends at index `start - 1 + length run`, exclusive. The bytes of s from there
+-- on have the remaining components, and are empty or begin with a slash.
 pub record IsGaplessRun (s : List ℕ) (start : ℕ) (run : List ℕ) : Type 0 where
   pub more : 1 < length run
   pub in_range : start - 1 + length run ≤ length s

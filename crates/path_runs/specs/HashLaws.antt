@@ -9,11 +9,12 @@ use Rattle.unix_path.specs.Prefixes.{IsPrefixOf}
 abbrev pub bytes_fed : List ℕ → List ℕ
 bytes_fed s = concat (hash_input_of (values s))
 
--- only equal paths feed the same bytes
+-- if two paths feed a hasher the same bytes, they are equal
 abbrev pub InputsInjective : Type 0
 InputsInjective = (s t : List ℕ) → bytes_fed s ≡ bytes_fed t → SameValues s t
 
--- the bytes that a path feeds are a prefix of another's only if its components are
+-- if the bytes that s feeds are a prefix of the bytes that t feeds, the components of s are a
+-- prefix of the components of t
 abbrev pub InputsReflectPrefixes : Type 0
 InputsReflectPrefixes =
     (s t : List ℕ) → IsPrefixOf (bytes_fed s) (bytes_fed t) → IsPrefixOf (values s) (values t)

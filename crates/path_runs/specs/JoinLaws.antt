@@ -33,17 +33,18 @@ JoinAddsValues =
     (a b : List ℕ) → a ≢ [] → is_rooted b ≡ false
     → values (join_of a b) ≡ values a ++ drop_dot (values b)
 
--- what follows a slash adds its components without a leading root or `.`
+-- the bytes b after a slash add their components, without a leading root or `.`
 abbrev pub SlashAddsValues : Type 0
 SlashAddsValues =
     (a b : List ℕ) → values (a ++ slash ∷ b) ≡ values (a ++ slash ∷ []) ++ drop_leading (values b)
 
--- what b adds after a's components: its own, without a leading `.` unless a is empty
+-- the components that a join of a and b has after those of a: the components of b, without a
+-- leading `.` unless a is empty
 abbrev pub values_added : List ℕ → List ℕ → List Value
 values_added [] b = values b
 values_added (x ∷ a) b = drop_dot (values b)
 
--- a path without its base, joined to that base, has the components of the path
+-- if s starts with base, joining base with the rest of s after it leads to the components of s
 abbrev pub StripThenJoin : Type 0
 StripThenJoin =
     (s base : List ℕ) → IsPrefixOf (values base) (values s)

@@ -6,15 +6,15 @@ use Rattle.unix_path.specs.Order.{values_cmp, IsBefore}
 use Rattle.unix_path.specs.Parts.{slash, Value, values}
 use Rattle.unix_path.specs.Prefixes.{IsPrefixOf}
 
--- one and only one of the three holds
+-- one and only one of P, Q and R holds
 pub record ExactlyOne (P Q R : Type 0) : Type 0 where
   pub one_holds : P ⊎ (Q ⊎ R)
   pub not_first_two : ¬ (P × Q)
   pub not_outer : ¬ (P × R)
   pub not_last_two : ¬ (Q × R)
 
--- for two lists of components one and only one holds: they are equal, the first is before the
--- second, or the second is before the first
+-- for two lists of components v and w, one and only one of these holds: v equals w, v is before w,
+-- or w is before v
 abbrev pub OneOrder : Type 0
 OneOrder = (v w : List Value) → ExactlyOne (v ≡ w) (IsBefore v w) (IsBefore w v)
 
@@ -26,7 +26,7 @@ BeforeIsTransitive = (u v w : List Value) → IsBefore u v → IsBefore v w → 
 abbrev pub PrefixBothWays : Type 0
 PrefixBothWays = (v w : List Value) → IsPrefixOf v w → IsPrefixOf w v → v ≡ w
 
--- if two lists of components start with base, so does every list between them
+-- if two lists of components start with base, so does every list between them in the order
 abbrev pub DescendantsContiguous : Type 0
 DescendantsContiguous =
     (base u v w : List Value) → IsPrefixOf base u → IsPrefixOf base w
@@ -36,13 +36,15 @@ DescendantsContiguous =
 abbrev pub BaseBeforeUnder : Type 0
 BaseBeforeUnder = (base v : List Value) → IsPrefixOf base v → is_le (values_cmp base v) ≡ true
 
--- two paths that begin with the same bytes and then a slash are ordered by what follows the slash
+-- two paths that begin with the same bytes and then a slash are ordered by the components after
+-- this slash, without a root or a leading `.`
 abbrev pub OrderAfterSlash : Type 0
 OrderAfterSlash = (prefix s t : List ℕ)
     → values_cmp (values (prefix ++ slash ∷ s)) (values (prefix ++ slash ∷ t))
     ≡ values_cmp (inner_values s) (inner_values t)
 
--- two paths whose common prefix has a slash are ordered by what follows its last slash
+-- if the common prefix of two paths has a slash, they are ordered by the components after the last
+-- slash of that prefix, without a root or a leading `.`
 abbrev pub OrderAfterCommonDir : Type 0
 OrderAfterCommonDir = (s t : List ℕ) → let n = common_dir_of s t in 0 < n
     → values_cmp (values s) (values t)

@@ -1,4 +1,4 @@
--- Bytes that overwrite others. No public clause cites this definition.
+-- Bytes of a buffer that are overwritten. No public clause cites this definition.
 use Rattle.std.specs.Prelude.{ℕ, ◌+◌, List, ◌++◌, length, take, drop}
 
 -- the old bytes, with `bytes` written over them at index `at`

@@ -1,4 +1,4 @@
--- Laws of a path's components and of its rests (Rust's `Components`).
+-- Laws of a path's components, and of the rest after some are taken (Rust's `Components`).
 use Rattle.std.specs.Prelude.{◌≡◌, ◌↔◌, ℕ, ◌+◌, ◌-◌, List, [], length, take, drop}
 use Rattle.unix_path.specs.Parts.{Value, values}
 use Rattle.unix_path.specs.Rest.{rest}

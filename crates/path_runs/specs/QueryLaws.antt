@@ -17,28 +17,29 @@ name_from_stem stem (Some extension) = stem ++ dot ∷ extension
 abbrev pub NameFromStem : Type 0
 NameFromStem = (name : List ℕ) → name_from_stem (split_name name).0 (split_name name).1 ≡ name
 
--- a path's file name consists of its stem and its extension
+-- if a path has a stem, its file name is this stem, followed by a dot and the extension if it has
+-- one
 abbrev pub FileNameFromStem : Type 0
 FileNameFromStem =
     (s stem : List ℕ) → stem_of (values s) ≡ Some stem
     → file_name_of (values s) ≡ Some (name_from_stem stem (extension_of (values s)))
 
--- a path's parent is before the path in the order
+-- if a path has a parent, the parent is before the path in the order
 abbrev pub ParentIsBefore : Type 0
 ParentIsBefore =
     (s parent : List ℕ) → parent_of s ≡ Some parent → IsBefore (values parent) (values s)
 
--- a path's parent, joined with its file name, is equal to the path
+-- if a path has a parent and a file name, the parent joined with the file name is equal to the path
 abbrev pub ParentJoinsName : Type 0
 ParentJoinsName =
     (s parent name : List ℕ) → parent_of s ≡ Some parent → file_name_of (values s) ≡ Some name
     → SameValues (join_of parent name) s
 
--- a path without a parent is its only ancestor
+-- if a path has no parent, its only ancestor is the path itself
 abbrev pub AncestorsEnd : Type 0
 AncestorsEnd = (s : List ℕ) → parent_of s ≡ None → ancestors_of s ≡ s ∷ []
 
--- a path's ancestors are the path and its parent's ancestors
+-- if a path has a parent, its ancestors are the path itself and the ancestors of the parent
 abbrev pub AncestorsStep : Type 0
 AncestorsStep =
     (s parent : List ℕ) → parent_of s ≡ Some parent → ancestors_of s ≡ s ∷ ancestors_of parent

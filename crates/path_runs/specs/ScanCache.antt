@@ -1,5 +1,5 @@
--- What a list of edits records of its path's leading bytes. No public clause cites these
--- definitions.
+-- What the cache of a list of edits records about the path's leading bytes. No public clause cites
+-- these definitions.
 use Rattle.std.specs.Prelude.{◌≡◌, ◌<◌, ◌≤◌, ℕ, List, length, slice_index, take, Some}
 use Rattle.unix_path.specs.Parts.{parts}
 use Rattle.unix_path.specs.Edits.{stem_end_of}
@@ -7,19 +7,21 @@ use Rattle.unix_path.specs.Scan.{EndsInPart}
 use Rattle.path_runs.specs.declared.edits.cache.ScanCache.{ScanCache}
 use Rattle.path_runs.specs.declared.edits.stems.Stems.{Stems}
 
--- in the first `len` bytes the last component ends at `end`, and the bytes after it are filler
+-- in the first `len` bytes of s, the last component ends at index `end`, exclusive, and only filler
+-- follows it
 pub record CachesEnd (s : List ℕ) (end len : ℕ) : Type 0 where
   pub in_order : end ≤ len
   pub in_range : len ≤ length s
   pub same : parts (take end s) ≡ parts (take len s)
   pub ends : EndsInPart (take end s)
 
--- the first `stem` bytes end in a name without an extension, or `stem` is 0
+-- the first `stem` bytes of s end in a name without an extension, or `stem` is 0
 pub record CachesStem (s : List ℕ) (stem : ℕ) : Type 0 where
   pub in_range : stem ≤ length s
   pub ends : 0 < stem → stem_end_of (take stem s) ≡ Some stem
 
--- the first of the offsets is 0, and those up to number `last` are in ascending order
+-- the first of the 32 offsets is 0, and the offsets up to index `last`, inclusive, are in ascending
+-- order
 pub record IsStack (stems : Stems) : Type 0 where
   pub size : length stems.offsets ≡ 32
   pub in_range : stems.last < 32
@@ -27,8 +29,8 @@ pub record IsStack (stems : Stems) : Type 0 where
   pub ascending : (i j : ℕ) → i ≤ j → j ≤ stems.last
       → slice_index stems.offsets i ≤ slice_index stems.offsets j
 
--- each of the offsets up to number `last` is 0, or the length of a prefix of s that ends in a name
--- without an extension
+-- each offset up to index `last`, inclusive, is 0 or the length of a prefix of s that ends in a
+-- name without an extension
 abbrev pub CachesStems : List ℕ → Stems → Type 0
 CachesStems s stems = (i : ℕ) → i ≤ stems.last → CachesStem s (slice_index stems.offsets i)
 

@@ -7,7 +7,7 @@ use Rattle.unix_path.specs.Parts.{Value, RootDir, slash, value_bytes}
 abbrev pub slashed_bytes : List Value → List ℕ
 slashed_bytes vs = join_with_byte slash (map value_bytes vs)
 
--- the components' bytes, each after a slash
+-- the components' bytes, with a slash before each component
 abbrev pub slash_each : List Value → List ℕ
 slash_each vs = flat_map (λ v. slash ∷ value_bytes v) vs
 

@@ -8,7 +8,7 @@ use Rattle.path_runs.specs.Spelling.{spelling_of}
 abbrev pub SpellingReadsBack : Type 0
 SpellingReadsBack = (s : List ℕ) → SameValues (spelling_of (values s)) s
 
--- a path t with the components of s is the canonical form of s, or longer than it
+-- if t has the components of s, t is the canonical form of s or longer than it
 abbrev pub SpellingIsShortest : Type 0
 SpellingIsShortest =
     (s t : List ℕ) → SameValues t s

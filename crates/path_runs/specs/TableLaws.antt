@@ -12,18 +12,18 @@ use Rattle.unix_path.specs.declared.path.Path.{Path}
 abbrev pub view_bytes : Path → List ℕ
 view_bytes path = path.bytes.now
 
--- the entries, with each key replaced by its components
+-- the entries as rows: each key is replaced by the key's components
 abbrev pub rows_of : {K V : Type 0} → (K → List ℕ) → List (K × V) → List (List Value × V)
 rows_of bytes_of entries = map (λ e. (values (bytes_of e.0), e.1)) entries
 
--- a lookup by a path finds what the rows have at its components
+-- a lookup by a path finds the value of the row with the path's components
 abbrev pub LookupByValues : {K : Type 0} → (K → List ℕ) → Type 0 → Type 0
 LookupByValues {K} bytes_of V =
     (w : List Value) (entries : List (K × V))
     → lookup (is_at (λ k. values_cmp w (values (bytes_of k)))) entries
     ≡ lookup (is_at (values_cmp w)) (rows_of bytes_of entries)
 
--- inserting by a path inserts into the rows at its components
+-- inserting by a path adds a row with the path's components, or replaces the value of that row
 abbrev pub InsertByValues : {K : Type 0} → (K → List ℕ) → Type 0 → Type 0
 InsertByValues {K} bytes_of V =
     (entries : List (K × V)) (key : K) (value : V)
@@ -31,7 +31,7 @@ InsertByValues {K} bytes_of V =
     (insert_entry (on (λ k. values (bytes_of k)) values_cmp) entries key value)
     ≡ insert_entry values_cmp (rows_of bytes_of entries) (values (bytes_of key)) value
 
--- removing by a path removes from the rows at its components
+-- removing by a path removes the row with the path's components
 abbrev pub RemoveByValues : {K : Type 0} → (K → List ℕ) → Type 0 → Type 0
 RemoveByValues {K} bytes_of V =
     (w : List Value) (entries : List (K × V))

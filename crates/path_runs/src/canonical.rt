@@ -30,8 +30,9 @@ fn trimmed(path: Path<'_>) -> &[u8]
     path.components().as_path().as_unix_str().as_bytes()
 }
 
-// Appends the components after the gap at `gap`, each with a slash before it. The bytes of a
-// gapless run already have this form in the path, so each run is copied at once.
+// Appends the components after the gap at index `gap`, each with a slash before it. A gap is a
+// slash that is followed by an empty piece or `.`. The bytes between two gaps already have this
+// form, so they are copied at once.
 fn push_parts(buffer: &mut UnixString, bytes: &[u8], gap: usize) -> Result<(), AllocError>
     requires in_range { gap ≤ length bytes.now }
     requires gap { gap < length bytes.now → is_gap bytes.now gap ≡ true }
@@ -47,13 +48,13 @@ fn push_parts(buffer: &mut UnixString, bytes: &[u8], gap: usize) -> Result<(), A
     Ok(())
 }
 
-/// Returns the canonical form of a path: its components, each joined to those before it.
+/// Returns the canonical form of a path: its components, joined one after the other.
 ///
 /// Every other path that is equal to this one is longer. The empty path is its own canonical form.
 /// `collected` returns the same bytes for a fresh walk over the path. Allocates once, as many bytes
-/// as lie from the first component to the end of the last, and fails if the allocation fails. For
-/// the empty path does not allocate, and succeeds. In Rust's std this is a `Components` that is
-/// collected into a `PathBuf`.
+/// as the path has without trailing filler, and fails if the allocation fails. For the empty path
+/// does not allocate, and succeeds. Works like collecting a `Components` of Rust's std into a
+/// `PathBuf`.
 ///
 /// For `.//a/./b/` it is `./a/b`.
 pub fn canonical(alloc: Global, path: Path<'_>) -> Result<PathBuf, AllocError>
@@ -72,12 +73,13 @@ pub fn canonical(alloc: Global, path: Path<'_>) -> Result<PathBuf, AllocError>
     Ok(PathBuf::from(spelling))
 }
 
-/// Returns the components that a walk has not taken, each joined to those before it.
+/// Joins the components that a walk has not taken, one after the other, and returns the path.
 ///
-/// The result is the canonical form of these components, in whatever order the walk took components
-/// from the two ends. For a fresh walk `canonical` returns the same bytes in less time. Allocates
-/// as the path grows, and fails if an allocation fails. If no component remains, does not allocate,
-/// and succeeds. Works like collecting a `Components` of Rust's std into a `PathBuf`.
+/// The result is the canonical form of these components. It doesn't matter in which order the walk
+/// took components from the two ends. For a fresh walk `canonical` returns the same bytes in less
+/// time. Allocates as the path grows, and fails if an allocation fails. If no component remains,
+/// does not allocate, and succeeds. Works like collecting a `Components` of Rust's std into a
+/// `PathBuf`.
 ///
 /// After one `next_back` of `.//a/./b/` it is `./a`.
 pub fn collected(alloc: Global, components: Components<'_>) -> Result<PathBuf, AllocError>
@@ -87,8 +89,8 @@ pub fn collected(alloc: Global, components: Components<'_>) -> Result<PathBuf, A
     PathBuf::from_iter(alloc, components.map(|part| part.as_path()))
 }
 
-/// Returns true if and only if the path is in canonical form: `canonical` would return the same
-/// bytes.
+/// Returns true if and only if the path is in canonical form, so that `canonical` would return the
+/// same bytes.
 ///
 /// It is true for `./a/b` and the empty path, and false for `a//b`, `a/./b` and `a/`.
 #[must_use]

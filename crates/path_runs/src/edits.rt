@@ -1,5 +1,5 @@
-//! Edits of a path as values, and functions that apply a list of them (`apply`) or join the rest of
-//! a path to its base again (`rejoin`).
+//! Edits of a path as values, and two functions: `apply` makes a list of edits, and `rejoin` joins
+//! a base with what follows it in a path.
 ghost use Rattle.std.specs.Prelude.{◌≡◌, ◌↔◌, ◌<◌, [], true, length, take, slice_get, MatchOption};
 ghost use Rattle.std.specs.Prelude.{map, Some, IsSome, IsOk, IfOk, IfErr, IfSome, OnOk, OnErr};
 ghost use Rattle.std.specs.Fmt.{padded};
@@ -27,7 +27,7 @@ use unix_path::{ExtensionError, Path, PathBuf};
 /// One edit of a path, with the bytes that it needs.
 ///
 /// Each variant represents the `PathBuf` method of the same name. Two pushes are equal if their
-/// paths are equal. Two other edits are equal if they are of one kind and have the same bytes.
+/// paths are equal. Other edits are equal if they are of the same variant and have the same bytes.
 /// Copying an edit copies views, not bytes.
 ///
 /// `Edit::Push(path)` joins `path` to the edited path.
@@ -56,16 +56,16 @@ pub enum Edit<'a> {
 pub enum Answer {
     /// Nothing to report: an edit of this kind always takes effect.
     Plain,
-    /// True if there was something to edit: a parent for a pop, a file name for an extension. It
-    /// can be true even if the edit changes no byte.
+    /// True if the path had what the edit requires: a parent for a pop, a file name for an
+    /// extension. It can be true even if the edit changes no byte.
     Flag(bool),
     /// The extension contains a `/`. The path is unchanged.
     Separator,
 }
 
-/// The error of [`apply`] when an allocation fails. An edit with the answer `Separator` is no error
-/// and does not end the list. The error is printed as `out of memory`, padded by width, precision,
-/// fill and alignment.
+/// The error of [`apply`] when an allocation fails. An edit whose answer is `Separator` has not
+/// failed, and the edits after it are made. The error is printed as `out of memory`, padded by
+/// width, precision, fill and alignment.
 ///
 /// `ApplyError { done: 1 }` says that the first edit was made, and that the second one failed.
 #[derive(Debug, Drop)]
@@ -89,7 +89,8 @@ impl fmt::Display for ApplyError {
 
 impl Error for ApplyError {}
 
-// Returns the answer of an edit of the extension, or the error if an allocation fails.
+// Turns the result of setting or adding an extension into an answer. Returns the error if an
+// allocation failed.
 fn extension_answer(edited: Result<bool, ExtensionError>) -> Result<Answer, AllocError>
     ensures { result_ok result ≡ extension_answer edited }
 {
@@ -100,7 +101,7 @@ fn extension_answer(edited: Result<bool, ExtensionError>) -> Result<Answer, Allo
     }
 }
 
-// Makes one edit of a path, using and updating the cache, and returns its answer.
+// Makes one edit of a path, using and updating the cache, and returns the edit's answer.
 fn apply_one(
     path: &mut PathBuf,
     cache: &mut ScanCache,
@@ -143,12 +144,12 @@ fn apply_one(
 ///
 /// Allocates once for all answers, before the first edit. Then each edit allocates like the
 /// `PathBuf` method of the same name, except that an edit of the extension may leave spare
-/// capacity. An empty list allocates nothing, and succeeds. If an allocation fails, the path is as
-/// the edits before the failing one left it, and the error has the number of these edits: 0 if the
-/// answers could not be allocated, or if the first edit failed. An edit whose extension contains a
-/// `/` does not fail: it leaves the bytes unchanged, its answer is `Separator`, and the next edit
-/// is made. The time of a list is linear in the number of its edits, their bytes, and the bytes of
-/// the path and of the result.
+/// capacity. An empty list allocates nothing, and succeeds. If an allocation fails, the edits
+/// before the failing one have been made, and the error contains their number: 0 if the answers
+/// could not be allocated, or if the first edit failed. An edit whose extension contains a `/` does
+/// not fail: it leaves the bytes unchanged, its answer is `Separator`, and the next edit is made.
+/// The time is linear in the number of edits plus the lengths of their bytes, of the path and of
+/// the result.
 ///
 /// On `foo/.`, setting the extension `bar` and then two pops leave the empty path. The answers are
 /// true, true and false.
@@ -189,9 +190,10 @@ pub fn apply(
 ///
 /// The path returned has the same components as `path`. Makes one allocation, exactly as long as
 /// the result, and fails if the allocation fails. If the result is `None` or empty, does not
-/// allocate, and succeeds. In Rust's std this is a `Path::strip_prefix` and a `Path::join`.
+/// allocate, and succeeds. Works like `Path::strip_prefix` and then `Path::join` in Rust's std.
 ///
-/// For `/a//b/.` and `/a/` it is `/a/b`, and for `a` and `a` it is `a/`.
+/// For the path `/a//b/.` and the base `/a/` it is `/a/b`, and for the path `a` and the base `a` it
+/// is `a/`.
 #[tactic(auto, using(crate::proofs::lemmas::joins::StripLemmas::strip_then_join))]
 pub fn rejoin(alloc: Global, path: Path<'_>, base: Path<'_>) -> Result<Option<PathBuf>, AllocError>
     ensures ok { IfOk result (λ found. IsSome found

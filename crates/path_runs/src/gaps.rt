@@ -1,4 +1,5 @@
-//! The gaps of a path: each slash that is followed by an empty piece or the piece `.`.
+//! Finds the gaps of a path. A gap is a slash that is followed by an empty piece or the piece `.`;
+//! the canonical form leaves both out.
 ghost use Rattle.std.specs.Prelude.{◌≡◌, ℕ, ◌+◌, ◌<◌, ◌≤◌, length, drop, false, slice_index};
 ghost use Rattle.unix_path.specs.Parts.{slash};
 ghost use Rattle.unix_path.specs.Scan.{is_filler};
@@ -16,8 +17,8 @@ fn is_gap(bytes: &[u8], at: usize) -> bool
     bytes[at] == b'/' && (at + 1 == bytes.len() || is_filler(bytes, at + 1))
 }
 
-// Returns how many of the 16 bytes at index `at` come before the first gap that begins among them,
-// or 16 if no gap does.
+// Searches the 16 bytes from index `at` on for the first byte at which a gap begins. Returns the
+// number of bytes before it, or 16 if a gap begins at none of the 16.
 #[inline]
 fn gapless_simd16(bytes: &[u8], at: usize) -> usize
     requires { at + 18 ≤ length bytes.now }
@@ -38,8 +39,8 @@ fn gapless_simd16(bytes: &[u8], at: usize) -> usize
     }
 }
 
-// Returns the length of a prefix in which no gap begins: the bytes before the first gap, or all
-// bytes except the last two if no gap begins before those two. Returns 0 for fewer than 18 bytes.
+// Returns the length of a prefix in which no gap begins: the index of the first gap, or
+// `bytes.len() - 2` if no gap begins before that index. Returns 0 if there are fewer than 18 bytes.
 #[inline]
 fn gapless_len(bytes: &[u8]) -> usize
     ensures in_range { result ≤ length bytes.now }
@@ -60,8 +61,8 @@ fn gapless_len(bytes: &[u8]) -> usize
     last + gapless_simd16(bytes, last)
 }
 
-// Returns the index of the first gap, or the length if there is none. Searches 16 bytes at a time,
-// and where that search ends, continues byte by byte.
+// Returns the index of the first gap, or `bytes.len()` if there is none. Searches 16 bytes at a
+// time, and the last two bytes one by one. Fewer than 18 bytes are all searched one by one.
 #[inline]
 pub(crate) fn first_gap(bytes: &[u8]) -> usize
     ensures { FirstGap bytes.now result }
@@ -73,7 +74,8 @@ pub(crate) fn first_gap(bytes: &[u8]) -> usize
     at
 }
 
-// Returns the index of the next component after the gap at `gap`, or the length if none follows.
+// Returns the index of the first component after the gap at index `gap`, or `bytes.len()` if no
+// component follows.
 #[inline]
 pub(crate) fn after_gap(bytes: &[u8], gap: usize) -> usize
     requires in_range { gap ≤ length bytes.now }

@@ -1,4 +1,5 @@
-//! Laws of paths: facts about the definitions, each available to a proof that calls it.
+//! Laws of paths. Each law states a fact, which a function's proof can use if the function calls
+//! the law.
 mod edits;
 mod hashes;
 mod joins;

@@ -1,11 +1,11 @@
 //! Walks, lists of edits and canonical forms of Unix paths, and laws of paths.
 //!
 //! Functions do not allocate unless they take an allocator or say so. Functions named as in
-//! `std::path` behave as they do on Unix unless stated otherwise. Laws do nothing at run time.
+//! `std::path` behave like those on Unix unless stated otherwise. Laws do nothing at run time.
 //! Indices and lengths count bytes.
 //!
-//! In names of definitions, a part is a component with its position, and a value is a component
-//! without it.
+//! In names of definitions, a part is a component with its index, and a value is a component
+//! without its index.
 #![tactic(auto)]
 
 pub mod canonical;

@@ -28,8 +28,8 @@ pub enum Turn {
 pub struct Walked<'a> {
     /// The components taken from the front, in the order of the path.
     pub front: Vec<Component<'a>>,
-    /// The rest of the path, as a slice of it: from the first component that was not taken to the
-    /// end of the last.
+    /// The rest of the path, as a slice of the path: from the first to the last of the components
+    /// that were not taken.
     pub rest: Path<'a>,
     /// The components taken from the back, in the order taken: the path's last component comes
     /// first.
@@ -54,9 +54,9 @@ fn push_some<'a>(
 /// Takes a component from one end of the path for each turn, and returns the components taken from
 /// each end and the rest between them.
 ///
-/// A turn takes nothing if no component remains. The components of `front`, of `rest`, and of
-/// `behind` in reverse order are the components of the path. The rest is a slice of the path.
-/// Allocates as the two lists grow. Fails if an allocation fails, and then drops both lists.
+/// A turn takes nothing if no component remains. The components of `front`, then of `rest`, and
+/// then of `behind` in reverse order are the components of the path. The rest is a slice of the
+/// path. Allocates as the two lists grow. Fails if an allocation fails, and then drops both lists.
 /// Without turns, or for the empty path, does not allocate, and succeeds. Each turn is a `next` or
 /// `next_back` of Rust's `Components`.
 ///

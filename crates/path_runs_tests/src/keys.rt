@@ -1,4 +1,5 @@
-//! Keys that own their bytes: rows of ranges, parents and names, and texts of errors.
+//! Tests of keys that own their bytes: expected ranges, parents and names, bytes that are not keys,
+//! and texts of errors.
 mod short_pairs;
 mod written;
 
@@ -7,7 +8,8 @@ use std::alloc::{AllocError, Global};
 use std::test::Fail;
 use unix_path::Path;
 
-// A path, the start and the end of its key's range, the key of its parent, and its name in the key.
+// A path, the first key and the end (exclusive) of the range of all paths that start with it, the
+// key of its parent, and its name as written in the key.
 type Parts = (
     &'static str,
     &'static [u8],
@@ -51,7 +53,7 @@ static PARTS: [Parts; 8] = [
     ),
 ];
 
-// Returns true if the range, the parent and the name of the path's key are those in the row.
+// Returns true if the range, the parent and the name of the path's key are the values in the row.
 fn has_key_parts(alloc: Global, row: &Parts) -> Result<bool, AllocError> {
     let key = PathKey::from_path(alloc, Path::from_text(row.0))?;
     let range = key.range_under()?;
@@ -70,7 +72,8 @@ fn ranges_parents_and_names(rt: HostRuntime) -> Result<(), Fail> {
     Ok(())
 }
 
-// Returns true if a key can be set to another path's key within its capacity, and has its bytes.
+// Returns true if a new key is empty, and a key that is set twice has the bytes of the second
+// path's key.
 fn is_reused(alloc: Global) -> Result<bool, AllocError> {
     let mut key = PathKey::new(alloc);
     let is_empty = key.as_bytes().is_empty() && key.as_vec().is_empty();

@@ -1,5 +1,5 @@
-//! Tests of path_runs, path_table and path_keys, in a crate of their own: a crate with tests is
-//! proved twice.
+//! Tests of path_runs, path_table and path_keys. They are in a crate of their own, because a crate
+//! with tests is proved twice.
 #![tactic(auto)]
 
 #[cfg(test)]

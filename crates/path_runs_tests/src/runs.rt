@@ -1,4 +1,4 @@
-//! Callers of walks, laws and edits, pairs of paths, and what only owned paths and texts return.
+//! Tests of path_runs: walks, laws, edits, canonical forms, pairs of paths, and lossy texts.
 ghost use Rattle.std.specs.Prelude.{◌≡◌, is_some};
 ghost use Rattle.unix_path.specs.Names.{name_of};
 ghost use Rattle.unix_path.specs.Views.{value_of};
@@ -24,7 +24,7 @@ fn is_name(part: Component<'_>) -> bool
     matches!(part, Component::Normal(_))
 }
 
-// Returns true if a list was created and is this list.
+// Returns true if the list was created without an error and is `want`.
 fn is_list<T: PartialEq + Drop>(list: Result<Vec<T>, AllocError>, want: &[T]) -> bool {
     match list {
         Ok(list) => list.as_slice() == want,

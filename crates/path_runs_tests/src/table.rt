@@ -1,4 +1,5 @@
-//! Methods that a table has like any map, callers of tables, and a table compared with a list.
+//! Tests of tables: methods that every map has, callers with contracts, and comparisons with a
+//! list.
 mod callers;
 mod vs_list;
 
@@ -36,13 +37,13 @@ fn write(
     Ok(())
 }
 
-// Returns true if this is the table's debug text.
+// Returns true if `text` is the table's debug text.
 fn has_debug_text(alloc: Global, table: &PathTable<u32>, text: &str) -> Result<bool, AllocError> {
     let shown = format!(in alloc; "{table:?}")?;
     Ok(shown.as_str() == text)
 }
 
-// Returns true if these are the table's values, in path order.
+// Returns true if `want` are the table's values, in path order.
 fn has_values(alloc: Global, table: &PathTable<u32>, want: &[u32]) -> Result<bool, AllocError> {
     let mut values = Vec::new(alloc);
     for (_, value) in table.iter() {
@@ -51,8 +52,8 @@ fn has_values(alloc: Global, table: &PathTable<u32>, want: &[u32]) -> Result<boo
     Ok(values.as_slice() == want)
 }
 
-// Returns true if the table, with `a.b` and `a//b`, contains what it should, and is empty once it
-// is cleared.
+// Returns true if a table with 1 at `a.b` and 2 at `a//b` has these paths, has 7 at `a//b` once it
+// is written at `a/b/`, and is empty once it is cleared.
 fn behaves_as_map(alloc: Global, table: &mut PathTable<u32>) -> Result<bool, AllocError> {
     if !contains(alloc, table, "a/b/")? || contains(alloc, table, "a")? {
         return Ok(false);

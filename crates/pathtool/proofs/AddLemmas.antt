@@ -1,4 +1,4 @@
--- The bytes that a step of a command appended are the answer of the command. Each lemma is about
+-- The bytes that the last step of a command appended are the command's answer. Each lemma is about
 -- one kind of step.
 use Rattle.std.proofs.Common.{◌≡◌, ℕ, Bool, List, ◌++◌, Option, Some, None, option_map, Result}
 use Rattle.std.proofs.Common.{OnOk, Decides, codes, ap, sym, ◌∙◌}
@@ -18,25 +18,27 @@ use Rattle.pathtool.proofs.lemmas.answers.PrefixTestLemmas.{strip_answer-ok, str
 use Rattle.pathtool.proofs.lemmas.answers.AddLemmas.{adds}
 use Rattle.pathtool.proofs.lemmas.answers.QuoteLemmas.{json_of-text}
 
--- the step appended the answer for an optional name
+-- if the optional name `found` has the bytes `bytes`, the step that appended the answer for `found`
+-- appended the answer for `bytes`
 pub adds_found : {T E : Type 0} (r : Result T E) (new old : List ℕ) (found : Option UnixStr)
     (bytes : Option (List ℕ)) → option_map (λ name. name.bytes.now) found ≡ bytes
     → OnOk r (new ≡ old ++ optional (option_map (λ name. name.bytes.now) found))
     → OnOk r (new ≡ old ++ optional bytes)
 adds_found r new old found bytes e h = adds r new old (ap optional e) h
 
--- the step appended the answer for bytes that were found
+-- if `known` is `Some`, the step that appended `+` and its bytes appended the answer for `known`
 pub adds_some : {T E : Type 0} (r : Result T E) (new old found bytes : List ℕ)
     (known : Option (List ℕ)) → found ≡ bytes → Some bytes ≡ known
     → OnOk r (new ≡ old ++ optional (Some found)) → OnOk r (new ≡ old ++ optional known)
 adds_some r new old found bytes known e k h = adds r new old (ap optional (ap Some e ∙ k)) h
 
--- the step appended the answer for bytes that were not found
+-- if `known` is `None`, the step that appended `-` appended the answer for `known`
 pub adds_none : {T E : Type 0} (r : Result T E) (new old : List ℕ) (known : Option (List ℕ))
     → None ≡ known → OnOk r (new ≡ old ++ optional None) → OnOk r (new ≡ old ++ optional known)
 adds_none r new old known k h = adds r new old (ap optional k) h
 
--- the step appended the word for whether the path starts with the components of the base
+-- if `is_so` says whether the path starts with the components of the base, the step that appended
+-- its word appended the answer of `starts`
 pub adds_starts : {T E : Type 0} (r : Result T E) (new old : List ℕ) (is_so : Bool)
     (path base : List ℕ) → Decides is_so (IsPrefixOf (values base) (values path))
     → OnOk r (new ≡ old ++ bool_text is_so)
@@ -45,7 +47,8 @@ adds_starts r new old is_so path base d h = adds r new old
     (ap bool_text (same_from_decides is_so (starts_with same_value (values path) (values base)) d
     (starts_with-Decides (values path) (values base)))) h
 
--- the step appended the word for whether the path ends with the components of the child
+-- if `is_so` says whether the path ends with the components of the child, the step that appended
+-- its word appended the answer of `ends`
 pub adds_ends : {T E : Type 0} (r : Result T E) (new old : List ℕ) (is_so : Bool)
     (path child : List ℕ) → Decides is_so (IsSuffixOf (values child) (values path))
     → OnOk r (new ≡ old ++ bool_text is_so)
@@ -54,21 +57,23 @@ adds_ends r new old is_so path child d h = adds r new old
     (ap bool_text (same_from_decides is_so (ends_with same_value (values path) (values child)) d
     (ends_with-Decides (values path) (values child)))) h
 
--- for a path that starts with the base, the step appended the rest after the base
+-- if the path starts with the base, the step that appended `+` and the rest after the base appended
+-- the answer of `strip`
 pub adds_rest : {T E : Type 0} (r : Result T E) (new old path base rest found : List ℕ)
     → IsPrefixOf (values base) (values path) → rest ≡ stripped_of path base → found ≡ rest
     → OnOk r (new ≡ old ++ optional (Some found)) → OnOk r (new ≡ old ++ strip_answer path base)
 adds_rest r new old path base rest found starts e is h =
     adds r new old (strip_answer-ok path base found starts (is ∙ e)) h
 
--- for a path that doesn't start with the base, the step appended the message
+-- if the path doesn't start with the base, the step that appended the message appended the answer
+-- of `strip`
 pub adds_error : {T E : Type 0} (r : Result T E) (new old path base : List ℕ)
     → (IsPrefixOf (values base) (values path) → ⊥) → OnOk r (new ≡ old ++ codes "prefix not found")
     → OnOk r (new ≡ old ++ strip_answer path base)
 adds_error r new old path base h said =
     adds r new old (strip_answer-not_found path base h) said
 
--- for a path that is valid UTF-8, the step appended the JSON string
+-- if the path is valid UTF-8, the step that appended its JSON string appended the answer of `json`
 pub adds_quoted : {T E : Type 0} (r : Result T E) (new old path said : List ℕ)
     → ((IsText path → ⊥) → ⊥) → said ≡ quoted path → OnOk r (new ≡ old ++ said)
     → OnOk r (new ≡ old ++ json_of path)

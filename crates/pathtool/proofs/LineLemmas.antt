@@ -22,32 +22,35 @@ cut_lines s line rest e =
     ∙ without_empty_last-cons line x xs
     ∙ ap (λ parts. line ∷ without_empty_last parts) (sym more)
 
--- an input that has bytes and no newline has one line
+-- if an input isn't empty and has no newline, it has one line
 one_line : (s line : List ℕ) → 0 < length s → slice_split is_newline s ≡ line ∷ []
     → lines_of s ≡ line ∷ []
 one_line s [] l e = absurd (omega (arith, ap length (slice_split-one newline s [] e)))
 one_line s (b ∷ line) l e = ap without_empty_last e
 
--- an input without a newline is its only line, and nothing follows it
+-- if an input isn't empty and has no newline, it is its only line, and the rest after that line is
+-- empty
 pub only_line : (s line rest : List ℕ) → 0 < length s → slice_split is_newline s ≡ line ∷ []
     → rest ≡ [] → lines_of s ≡ line ∷ lines_of rest
 only_line s line rest l e none =
     one_line s line l e ∙ ap (λ rest. line ∷ lines_of rest) (sym none)
 
--- the output for an input begins with the answer to its first line
+-- the output for an input is the answer to its first line, a newline, and the output for the rest
 pub output_of-cons : (s line rest : List ℕ) → lines_of s ≡ line ∷ lines_of rest
     → output_of s ≡ (answer_of line ++ newline ∷ []) ++ output_of rest
 unfolding output_of
 output_of-cons s line rest e = ap (flat_map (λ line. answer_of line ++ newline ∷ [])) e
 
--- the output for the whole input continues with the answer to the first remaining line
+-- if `done` and the output for the remaining input s are the whole output, it continues after
+-- `done` with the answer to the first line of s
 pub output_of-next : (s line rest done all : List ℕ) → lines_of s ≡ line ∷ lines_of rest
     → done ++ output_of s ≡ all
     → done ++ ((answer_of line ++ newline ∷ []) ++ output_of rest) ≡ all
 output_of-next s line rest done all e h =
     ap (λ more. done ++ more) (sym (output_of-cons s line rest e)) ∙ h
 
--- an answer that was appended to a cleared buffer is what is written for the line
+-- if the answer to a line, and a newline, were appended to an empty buffer, the buffer has the
+-- bytes to write for the line
 pub writes_answer : {said answer cleared : List ℕ} (line : List ℕ) → said ≡ answer
     → answer ≡ cleared ++ (answer_of line ++ newline ∷ []) → cleared ≡ []
     → said ≡ answer_of line ++ newline ∷ []
@@ -57,7 +60,7 @@ pub output_of-nil : output_of [] ≡ []
 unfolding output_of
 output_of-nil = refl
 
--- if no input remains, everything has been written
+-- if no input remains, the bytes written so far are the whole output
 pub output_of-done : (done remaining all : List ℕ) → remaining ≡ [] → done ++ output_of remaining
     ≡ all
     → done ≡ all

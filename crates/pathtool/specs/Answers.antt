@@ -32,8 +32,8 @@ order_text Less = codes "less"
 order_text Equal = codes "equal"
 order_text Greater = codes "greater"
 
--- the rest of a path after the components of `base`, or a message if the path doesn't start with
--- them
+-- the answer of `strip`: the rest of a path after the components of `base`, or a message if the
+-- path doesn't start with these components
 abbrev pub strip_answer : List ℕ → List ℕ → List ℕ
 strip_answer path base =
     if starts_with same_value (values path) (values base)
@@ -88,7 +88,7 @@ answer_to _ = bad_command
 unfoldable pub answer_of : List ℕ → List ℕ
 answer_of line = answer_to (fields_of line)
 
--- these pieces, without the last one if it is empty
+-- the pieces of an input, without the last piece if it is empty
 abbrev pub without_empty_last : List (List ℕ) → List (List ℕ)
 without_empty_last [] = []
 without_empty_last ([] ∷ []) = []

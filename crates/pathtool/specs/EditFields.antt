@@ -10,8 +10,8 @@ use Rattle.path_runs.specs.declared.edits.Answer.{Answer}
 use Rattle.path_runs.specs.declared.edits.Answer.TheVariants.{Plain, Flag, Separator}
 use Rattle.pathtool.specs.Fields.{tabs, bad_command, bool_text}
 
--- for each edit, the name that its fields begin with, and the edit as a function of the bytes after
--- that name
+-- for each kind of edit, the name that a field begins with, and the edit as a function of the bytes
+-- after that name
 abbrev pub edits_by_name : List (List ℕ × (List ℕ → EditValue))
 edits_by_name =
     (codes "push:", Push)

@@ -3,11 +3,11 @@ use Rattle.std.specs.Prelude.{ℕ, Bool, ◌==◌, List, codes, if◌then◌else
 use Rattle.std.specs.List.{slice_split, join_with_byte}
 use Rattle.std.specs.Str.{byte}
 
--- the fields of a line, which are n + 1 if it has n tabs
+-- the fields of a line; if it has n tabs, it has n + 1 fields
 abbrev pub fields_of : List ℕ → List (List ℕ)
 fields_of line = slice_split (λ b. b == byte "\t") line
 
--- a list as an answer, with a tab between two items
+-- a list as an answer: the items with a tab between neighbours
 abbrev pub tabs : List (List ℕ) → List ℕ
 tabs items = join_with_byte (byte "\t") items
 

@@ -4,8 +4,8 @@ use Rattle.std.specs.Prelude.{ℕ, List, codes, if◌then◌else◌}
 use Rattle.json.specs.Print.{quoted}
 use Rattle.unix_bytes.specs.Lossy.{is_text}
 
--- the JSON string of the path if its bytes are valid UTF-8, and otherwise the message that they
--- aren't
+-- the path as a JSON string if its bytes are valid UTF-8, and otherwise the message that they are
+-- not
 abbrev pub json_of : List ℕ → List ℕ
 json_of path =
     if is_text path then quoted path else codes "path contains invalid UTF-8 characters"

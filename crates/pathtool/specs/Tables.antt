@@ -1,4 +1,5 @@
--- The answer of `under`: what follows a base in the paths that start with it. Not in Rust's std.
+-- The answer of the command `under`: for each path that starts with a base, the rest of the path
+-- after the base. Not in Rust's std.
 use Rattle.std.specs.Prelude.{ℕ, List, [], map}
 use Rattle.std.specs.BTreeMap.{insert_entry}
 use Rattle.std.specs.List.{fold}
@@ -8,7 +9,7 @@ use Rattle.path_runs.specs.Spelling.{spelling_of}
 use Rattle.path_table.specs.Table.{entries_under}
 use Rattle.pathtool.specs.Fields.{tabs}
 
--- these entries, and a new entry for each path whose components have no entry yet
+-- the entries, and a new entry for each path whose components have no entry yet
 abbrev pub entries_with : List (List Value × Unit {0}) → List (List ℕ)
     → List (List Value × Unit {0})
 entries_with entries paths =

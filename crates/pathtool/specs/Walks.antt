@@ -21,8 +21,9 @@ turn_of letter = lookup (λ key. key == letter) ((byte "f", Front) ∷ (byte "b"
 abbrev pub part_bytes : List ℕ → List (List ℕ)
 part_bytes path = map value_bytes (values path)
 
--- how many components these turns take from the front and from the back; the components from the
--- front; the rest; and the components from the back, in the order taken
+-- the results of a walk, as items: the numbers of components that the turns take from the front and
+-- from the back, the components from the front, the rest, and the components from the back, in the
+-- order taken
 abbrev pub walk_items : List ℕ → List Turn → List (List ℕ)
 walk_items path turns =
     let parts = part_bytes path in

@@ -25,6 +25,6 @@ abbrev pub transfers_none : {E : Type 0} → Result ℕ E → ℕ → Bool
 transfers_none (Ok n) len = n == 0 && not (len == 0)
 transfers_none (Err e) len = false
 
--- if the bytes are known, a prefix of bs was appended to them
+-- if the contents `old` and `new` of a sink are known, `new` is `old` and then a prefix of bs
 abbrev pub AppendsPrefix : Option (List ℕ) → Option (List ℕ) → List ℕ → Type 0
 AppendsPrefix old new bs = (n : ℕ) × Appends old new (take n bs)

@@ -86,7 +86,7 @@ fn push_answer(line: &[u8], answer: &mut Vec<u8>) -> Result<(), AllocError>
 /// Appends the answer to `line`, and a newline, to `answer`.
 ///
 /// The answer is `bad command` if the command, an edit or a turn is unknown, or if the number of
-/// fields is wrong. Allocates as the command's function does.
+/// fields is wrong. Allocates like the function of the command, and when `answer` grows.
 ///
 /// The answer to `parts`, a tab and `a//b` is `a`, a tab and `b`.
 pub fn push_answer_line(line: &[u8], answer: &mut Vec<u8>) -> Result<(), AllocError>

@@ -1,4 +1,4 @@
-//! Answers that are `true` or `false`, or an order.
+//! Answers that are `true` or `false`, or the order of two paths.
 ghost use Rattle.std.specs.Prelude.{◌≡◌, ◌++◌, OnOk};
 ghost use Rattle.std.specs.List.{starts_with, ends_with};
 ghost use Rattle.unix_path.specs.Parts.{values};

@@ -27,7 +27,8 @@ pub fn split_at_byte(bytes: &[u8], end: u8) -> (&[u8], Option<&[u8]>)
     (&bytes[..index], Some(&bytes[index + 1..]))
 }
 
-/// Returns the first line of an input that isn't empty, and what follows the line.
+/// Returns the first line of the input, without its newline, and the rest of the input after that
+/// newline. The input must not be empty.
 ///
 /// `first_line(b"a\nb")` is `a` and `b`.
 #[tactic(auto, using(crate::proofs::LineLemmas::cut_lines, crate::proofs::LineLemmas::only_line))]
@@ -54,7 +55,8 @@ pub fn is_named(field: &[u8], name: &[u8]) -> bool
 
 /// The extra fields of a line: those that follow its path.
 ///
-/// If they are only `pop`, it is `One`. If they are `pop`, a tab and `pop`, it is `Several`.
+/// If the only extra field is `pop`, the value is `One`. If the extra fields are `pop`, a tab and
+/// `pop`, the value is `Several`.
 #[derive(Clone, Copy)]
 pub enum ExtraFields<'a> {
     /// No field follows.
@@ -79,7 +81,7 @@ pub struct Line<'a> {
     ghost count: { min_count extra ≤ length (extra_fields extra) },
 }
 
-// Returns the extra fields in these bytes, which follow a path.
+// Returns the extra fields of a line, from the bytes after the path and its tab.
 fn extra_fields_from(fields: &[u8]) -> ExtraFields<'_>
     ensures value { extra_fields result ≡ fields_of fields.now }
     ensures count { min_count result ≤ length (extra_fields result) }

@@ -9,8 +9,8 @@ use std::io;
 /// A source of bytes.
 ///
 /// `read_gives` relates the source and the buffer before one read, the read's result, and the
-/// buffer and the source after it. It has no default. Code for any source can't see its definition,
-/// so only the call of a single read proves it: neither no read nor two reads in a row do.
+/// buffer and the source after the read. The relation has no default. Generic code can't see how a
+/// source defines it, so it can only prove the relation by making exactly one read.
 ///
 /// A read of one byte from `StdIo::new(b"a".as_slice())` reads `a`.
 pub trait Source {
@@ -18,7 +18,7 @@ pub trait Source {
 
     ghost read_gives: { Self → List ℕ → Result ℕ Error → List ℕ → Self → Type 0 };
 
-    /// Makes one read into `buf`, and returns how many bytes it read.
+    /// Reads once into `buf`, and returns the number of bytes read.
     fn read_once(&mut self, buf: &mut [u8]) -> io::Result<usize>
         ensures bound { ReadsAtMost result buf.new }
         ensures bytes { ReadConsumes (remaining self.old) (remaining self.new) result buf.new }
@@ -28,7 +28,8 @@ pub trait Source {
 /// A sink of bytes.
 ///
 /// `write_gives` relates the sink before one write, the bytes, the write's result, and the sink
-/// after it. `flush_gives` does the same for one flush. Like `read_gives`, they have no default.
+/// after the write. `flush_gives` does the same for one flush. Like `read_gives` of [`Source`],
+/// these relations have no default.
 ///
 /// A write to `StdIo::new(Vec::new(alloc))` writes all bytes, unless an allocation fails.
 pub trait Sink {
@@ -38,13 +39,14 @@ pub trait Sink {
 
     ghost flush_gives: { Self → Result (Unit {0}) Error → Self → Type 0 };
 
-    /// Makes one write of `buf`, and returns how many bytes it wrote.
+    /// Writes `buf` once, and returns the number of bytes written, which may be less than its
+    /// length.
     fn write_once(&mut self, buf: &[u8]) -> io::Result<usize>
         ensures bound { WritesAtMost result buf.now }
         ensures bytes { WriteAppends (contents self.old) (contents self.new) result buf.now }
         ensures single_call { write_gives self.old buf.now result self.new };
 
-    /// Makes one flush.
+    /// Flushes once.
     fn flush_once(&mut self) -> io::Result<()>
         ensures bytes { Keeps (contents self.old) (contents self.new) }
         ensures single_call { flush_gives self.old result self.new };

@@ -1,4 +1,4 @@
-//! Answers that are a name or another slice of a path, or that say there is none.
+//! Answers that are `+` and a slice of a path, such as its file name, or `-` if there is none.
 ghost use Rattle.std.specs.Prelude.{◌≡◌, ◌++◌, OnOk, option_map};
 ghost use Rattle.unix_path.specs.Parts.{values};
 ghost use Rattle.unix_path.specs.Names.{file_name_of, stem_of, extension_of};

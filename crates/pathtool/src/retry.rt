@@ -10,9 +10,10 @@ use std::io::ErrorKind;
 // The maximum number of times that a call is repeated.
 const MAX_RETRIES: u64 = u64::MAX;
 
-/// A source or a sink that repeats a call if the system interrupted it.
+/// A source or a sink that repeats each call that the system interrupted.
 ///
-/// It does so like the library's `read_to_end` and `write_all`, and at most `u64::MAX` times.
+/// The library's `read_to_end` and `write_all` do the same. A call is repeated at most `u64::MAX`
+/// times.
 ///
 /// `RetryInterrupted::new(StdIo::new(b"a".as_slice()))` is a source of one byte.
 #[derive(Drop)]

@@ -61,7 +61,7 @@ impl From<AllocError> for RunError {
     }
 }
 
-// Reads to the end, and returns all bytes.
+// Reads until a read returns no byte, and returns all bytes read.
 fn read_to_end<R: Source>(alloc: Global, reader: &mut Watched<R>) -> Result<Vec<u8>, RunError>
     requires failed { has_failed reader.old ≡ false }
     requires ended { has_ended reader.old ≡ false }
@@ -169,11 +169,12 @@ pub fn run<R: Source, W: Sink>(
     ensures flushed { OnOk result (IsTrue (is_flushed writer.new)) }
 
     // The error is `Read` if and only if the reader has failed, and `Write` if and only if the
-    // writer has.
+    // writer has failed.
     ensures read { IsErrOf result RunError.Read ↔ IsTrue (has_failed reader.new) }
     ensures write { IsErrOf result RunError.Write ↔ IsTrue (has_failed writer.new) }
 
-    // What a failing run has written.
+    // If the run fails, it has written a prefix of the output, or nothing if the input was not read
+    // to its end.
     ensures err { OnErr result (IfSome (R.remaining (watched_inner reader.old)) (λ input.
         AppendsPrefix (W.contents (watched_inner writer.old))
         (W.contents (watched_inner writer.new)) (output_of input))) }

@@ -8,8 +8,8 @@ use std::io::{Read, Write};
 
 /// A reader or a writer of the standard library, used as a source or a sink.
 ///
-/// The standard library has no relation for a single call. Only the one line of each method body
-/// below shows that the method makes a single call: these three lines are trusted.
+/// The contracts of the standard library don't say how many calls were made. So it is trusted, not
+/// proved, that each of the three methods below makes a single call: its body is that call.
 ///
 /// `StdIo::new(7).into_inner()` is 7.
 #[derive(Drop)]

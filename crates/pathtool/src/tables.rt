@@ -1,4 +1,4 @@
-//! Answers from a table of paths.
+//! The answer of the command `under`, which puts paths into a table.
 ghost use Rattle.std.specs.Prelude.{◌≡◌, ◌++◌, ◌∷◌, [], IfOk, OnOk, map, if◌then◌else◌};
 ghost use Rattle.std.specs.BTreeMap.{insert_entry};
 ghost use Rattle.unix_path.specs.Order.{values_cmp};
@@ -25,7 +25,7 @@ fn insert_path(alloc: Global, table: &mut PathTable<()>, path: Path<'_>) -> Resu
     Ok(())
 }
 
-// Inserts each of these fields into the table, as a path.
+// Inserts each field into the table, as a path. The fields have tabs between them.
 fn insert_paths(alloc: Global, table: &mut PathTable<()>, fields: &[u8]) -> Result<(), AllocError>
     ensures { OnOk result (table_of table.new
         ≡ entries_with (table_of table.old) (fields_of fields.now)) }
@@ -36,7 +36,7 @@ fn insert_paths(alloc: Global, table: &mut PathTable<()>, fields: &[u8]) -> Resu
     Ok(())
 }
 
-// Returns a table of these fields, each as a path.
+// Returns a table with each of the extra fields as a path.
 fn table_from(alloc: Global, extra: ExtraFields<'_>) -> Result<PathTable<()>, AllocError>
     ensures { IfOk result (λ table. table_of table ≡ entries_with [] (extra_fields extra.entry)) }
 {
@@ -74,13 +74,14 @@ fn push_all(paths: &[(Path<'_>, &())], answer: &mut Vec<u8>) -> Result<(), Alloc
     Ok(())
 }
 
-/// Appends a list to `answer`: for each of the paths that start with `base`, the rest after `base`.
+/// Appends a list to `answer`: for each path of the extra fields that starts with `base`, the rest
+/// of the path after `base`.
 ///
-/// The list is in the order of paths. Each item is in canonical form, and equal paths appear once.
-/// Also allocates for copies of `base` and of each path, for the table, for the list and for each
-/// canonical form.
+/// The list is in the order of paths. Each item is in canonical form, and equal paths are listed
+/// once. Also allocates for copies of `base` and of each path, for the table, for the list and for
+/// each canonical form.
 ///
-/// For `/a` with `/a.b` and `/a/b` appends `b`.
+/// For the base `/a` and the fields `/a.b` and `/a/b` appends `b`.
 pub fn push_under(
     base: Path<'_>,
     extra: ExtraFields<'_>,

@@ -47,7 +47,7 @@ pub fn push_show(path: Path<'_>, answer: &mut Vec<u8>) -> Result<(), AllocError>
     Ok(())
 }
 
-// Returns the compact text of the path as a JSON string.
+// Returns the path as a JSON string: its compact text, with quotes.
 fn json_text(alloc: Global, path: Path<'_>) -> Result<String, JsonError>
     ensures value { IfOk result (λ text. string_bytes text ≡ quoted path.entry.bytes.now) }
     ensures not_utf8 { IsErrOf result JsonError.NotUtf8 ↔ ¬ (IsText path.entry.bytes.now) }

@@ -50,7 +50,8 @@ fn push_count(count: usize, answer: &mut Vec<u8>) -> Result<(), AllocError>
     answer.extend_from_slice(text.as_bytes())
 }
 
-// Appends how many components a walk took from each end, with a tab after each count.
+// Appends the number of components that a walk took from the front, and then from the back, with a
+// tab after each number.
 fn push_counts(walked: &Walked<'_>, answer: &mut Vec<u8>) -> Result<(), AllocError>
     ensures { OnOk result (answer.new.items ≡ answer.old.items ++ counts_text walked.now) }
 {
@@ -61,7 +62,8 @@ fn push_counts(walked: &Walked<'_>, answer: &mut Vec<u8>) -> Result<(), AllocErr
     Ok(())
 }
 
-// Appends what a walk took from each end, and the rest between them.
+// Appends the results of a walk as a list: the two counts, the components taken from the front, the
+// rest, and the components taken from the back.
 fn push_walked(walked: &Walked<'_>, answer: &mut Vec<u8>) -> Result<(), AllocError>
     ensures { OnOk result (answer.new.items
         ≡ answer.old.items ++ tabs (walked_items walked.now)) }
@@ -75,7 +77,8 @@ fn push_walked(walked: &Walked<'_>, answer: &mut Vec<u8>) -> Result<(), AllocErr
     )
 }
 
-/// Walks over the path by turns, and appends what they take to `answer`, as a list.
+/// Takes a component from one end of the path for each letter, and appends the results to `answer`,
+/// as a list.
 ///
 /// The letter `f` takes a component from the front, and `b` takes one from the back. For any other
 /// letter, appends only `bad command`. The list consists of:

@@ -23,15 +23,15 @@ capacity p = owned_capacity p.inner
 abbrev pub bytes_of_each : List Path → List (List ℕ)
 bytes_of_each paths = map (λ path. path.bytes.now) paths
 
--- all items of an iterator were joined to the old bytes, one after the other
+-- `new` is `old` joined with all items of the iterator `items`, one after the other
 pub record JoinsAll {S : Type 0} (steps : S → Option Path → S → Type 0) (items : S)
     (old new : List ℕ) : Type 0 where
   pub paths : List Path
   pub all_items : Drains steps items paths
   pub bytes : new ≡ join_all_of old (bytes_of_each paths)
 
--- the first items of an iterator were joined to the old bytes, one after the other, and the join
--- with the next item is longer than `max_len` bytes
+-- `new` is `old` joined with the first items of the iterator `items`, one after the other, and the
+-- join of `new` with the next item is longer than `max_len` bytes
 pub record JoinsBeginning {S : Type 0} (steps : S → Option Path → S → Type 0) (items : S)
     (old new : List ℕ) (max_len : ℕ) : Type 0 where
   pub paths : List Path
@@ -41,15 +41,15 @@ pub record JoinsBeginning {S : Type 0} (steps : S → Option Path → S → Type
   pub bytes : new ≡ join_all_of old (bytes_of_each paths)
   pub longer : max_len < length (join_of new next.bytes.now)
 
--- however many first items of an iterator are taken, the old bytes joined with them, one after the
--- other, have at most `max_len` bytes
+-- `old` joined with any number of first items of the iterator `items`, one after the other, has at
+-- most `max_len` bytes
 abbrev pub JoinsFit : {S : Type 0} (steps : S → Option Path → S → Type 0) (items : S)
     (old : List ℕ) (max_len : ℕ) → Type 0
 JoinsFit steps items old max_len =
     EachRunFrom steps items (λ run. length (join_all_of old (bytes_of_each run.items)) ≤ max_len)
 
--- however many first items of an iterator are taken, the sum of their lengths, plus 1 for each, is
--- at most `max_len`
+-- for any number of first items of the iterator `items`, the sum of their lengths, plus 1 for each
+-- item, is at most `max_len`
 abbrev pub ItemsFit : {S : Type 0} (steps : S → Option Path → S → Type 0) (items : S) (max_len : ℕ)
     → Type 0
 ItemsFit steps items max_len = EachRunFrom steps items

@@ -16,7 +16,7 @@ use Rattle.unix_path.specs.declared.cursor.iter.Iter.{Iter}
 unfoldable pub cursor_rest : Components → List ℕ
 cursor_rest c = slice_range c.source.now c.start c.end
 
--- the slice that a cursor walks over, which contains these bytes
+-- the slice that a cursor walks over; it contains the bytes that the cursor represents
 abbrev pub cursor_source : Components → Bor (List ℕ)
 cursor_source c = c.source
 
@@ -44,8 +44,8 @@ iter_start it = cursor_start it.components
 abbrev pub iter_bytes : Iter → List (List ℕ)
 iter_bytes it = map value_bytes (cursor_values it.components)
 
--- a call yields the first of `pending`, as seen by `shows`, and leaves the rest after the first
--- component, in the same memory, up to the same end
+-- a call yields the item that `shows` maps to the first of `pending`, if there is one, and leaves
+-- the rest after the first component, in the same memory and with the same end
 pub record GivesFirst {S A V : Type 0} (shows : A → V) (pending : S → List V) (bytes : S → List ℕ)
     (source : S → Bor (List ℕ)) (start : S → ℕ) (old : S) (item : Option A) (new : S)
     : Type 0 where
@@ -54,8 +54,8 @@ pub record GivesFirst {S A V : Type 0} (shows : A → V) (pending : S → List V
   pub place_is : LiesIn (source new) (source old)
   pub end_is : start new + length (bytes new) ≡ start old + length (bytes old)
 
--- a call yields the last of `pending`, as seen by `shows`, and leaves the rest before the last
--- component, in the same memory, from the same beginning
+-- a call yields the item that `shows` maps to the last of `pending`, if there is one, and leaves
+-- the rest before the last component, in the same memory and with the same beginning
 pub record GivesLast {S A V : Type 0} (shows : A → V) (pending : S → List V) (bytes : S → List ℕ)
     (source : S → Bor (List ℕ)) (start : S → ℕ) (old : S) (item : Option A) (new : S)
     : Type 0 where

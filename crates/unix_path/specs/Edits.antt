@@ -27,7 +27,7 @@ with_name_of s name = join_of (before_name_of s) name
 abbrev pub last_start_of : List Part → ℕ
 last_start_of ps = option_map_or (λ p. p.start) (last_or None ps) 0
 
--- the index where the stem of the file name ends
+-- the index where the stem of the file name ends, or None if there is no file name
 unfoldable pub stem_end_of : List ℕ → Option ℕ
 stem_end_of s = option_map (λ stem. last_start_of (parts s) + length stem) (stem_of (values s))
 
@@ -35,8 +35,8 @@ stem_end_of s = option_map (λ stem. last_start_of (parts s) + length stem) (ste
 abbrev pub dot_before : List ℕ → List ℕ
 dot_before extension = if length extension == 0 then [] else dot ∷ []
 
--- the path up to its stem's end, then the dot and the extension; the whole path if it has no file
--- name
+-- the path up to the end of its stem, then a dot unless the extension is empty, and then the
+-- extension; the whole path if it has no file name
 unfoldable pub with_extension_of : List ℕ → List ℕ → List ℕ
 with_extension_of s extension =
     option_map_or (λ end. (take end s ++ dot_before extension) ++ extension) (stem_end_of s) s

@@ -9,12 +9,13 @@ use Rattle.unix_path.specs.Parts.{Value, slash, value_bytes}
 abbrev pub terminator : List ℕ
 terminator = slash ∷ repeat 7 (0 ∷ [])
 
--- these bytes in writes of eight each; if fewer than eight remain at the end, they are dropped
+-- these bytes, cut into writes of eight each; up to seven bytes that are left over at the end are
+-- dropped
 unfoldable pub in_eights : List ℕ → HashWrites
 in_eights bytes = first_chunks 8 (length bytes / 8) bytes
 
--- the bytes of a value, followed by the terminator, in writes of eight each; if fewer than eight
--- remain at the end, they are dropped
+-- the bytes of a value and the terminator, cut into writes of eight each; up to seven zeros that
+-- are left over at the end are dropped
 abbrev pub value_input : Value → HashWrites
 value_input v = in_eights (value_bytes v ++ terminator)
 

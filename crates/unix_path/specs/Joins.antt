@@ -4,7 +4,7 @@ use Rattle.std.specs.Option.{option_map_or}
 use Rattle.std.specs.List.{last_or}
 use Rattle.unix_path.specs.Parts.{slash, is_slash, is_rooted}
 
--- the last byte is a slash, or there is no byte
+-- s is empty or ends in a slash, so that a join to it needs no separator
 abbrev pub needs_no_separator : List ℕ → Bool
 needs_no_separator s = option_map_or is_slash (last_or None s) true
 

@@ -10,7 +10,7 @@ use Rattle.unix_path.specs.declared.json.JsonError.TheVariants.{NotUtf8, NotStri
 abbrev pub IsString : Value → List ℕ → Type 0
 IsString value bytes = view value ≡ string bytes
 
--- the text that an error of reading or writing JSON is printed as
+-- the text that is printed for an error of reading or writing JSON
 abbrev pub error_text : JsonError → List ℕ
 error_text NotUtf8 = codes "path contains invalid UTF-8 characters"
 error_text NotString = codes "expected path string"

@@ -8,7 +8,7 @@ is_end_candidate_of separator dot s i =
     let next = slice_index_or s (i + 1) separator in
     slice_index s i == separator && (next == separator || next == dot)
 
--- the byte has none of the bits of 208; names seldom begin with such a byte
+-- the byte has none of the bits of 208 (0xD0); names seldom begin with such a byte
 abbrev pub LacksBits : ℕ → Type 0
 LacksBits b = bit_and b 208 ≡ 0
 

@@ -1,4 +1,5 @@
--- The order of values and of their lists is total, and only equal values and equal lists tie.
+-- The order of values and of their lists is total, and only equal values and equal lists compare as
+-- equal.
 use Rattle.std.proofs.Common.{◌≡◌, true, List, refl, ap}
 use Rattle.std.specs.Ordering.{is_eq}
 use Rattle.std.specs.Cmp.{IsTotalOrder, Equal-is}
@@ -25,6 +26,6 @@ value_cmp-equal v w e = cc
 pub values_cmp-equal : IsAntisymmetric values_cmp
 values_cmp-equal = slice_cmp-IsAntisymmetric value_cmp-equal
 
--- lists of values that tie are equal
+-- lists of values that compare as equal are equal
 pub is_eq-values_cmp : (v w : List Value) → is_eq (values_cmp v w) ≡ true → v ≡ w
 is_eq-values_cmp v w e = values_cmp-equal v w ((Equal-is (values_cmp v w)).0 e)

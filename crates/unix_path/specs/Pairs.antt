@@ -40,13 +40,13 @@ DifferenceShows a b n (Decided order) = AreApart a.now b order
 DifferenceShows a b n FirstComponents = DiffersAtStart a.now b n
 DifferenceShows a b n (CutBefore x y) = Cuts a b x y.now
 
--- `rest_bytes` is the rest of the first path after the second, if a and b are their rests after a
--- cut
+-- for any two paths whose rests after a cut are a and b, `rest_bytes` is the rest of the first path
+-- after the second
 pub record IsRest (a : Bor (List ℕ)) (b : List ℕ) (rest_bytes : Bor (List ℕ)) : Type 0 where
   pub shares : (s t : List ℕ) → SharesPrefix s t a.now b → SharesPrefix s t rest_bytes.now []
   pub tail : IsTail rest_bytes a
 
--- what a comparison says of two paths whose rests after a cut are a and b
+-- what the result of a comparison says of any two paths s and t whose rests after a cut are a and b
 abbrev pub Compared : Bor (List ℕ) → List ℕ → Comparison → Type 0
 Compared a b (Differs order) = (s t : List ℕ) → SharesPrefix s t a.now b → AreApart s t order
 Compared a b (StartsWith rest_bytes) = IsRest a b rest_bytes × (is_filler rest_bytes.now 0 ≡ false)

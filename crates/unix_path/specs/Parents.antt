@@ -5,7 +5,7 @@ use Rattle.std.specs.List.{range_with_len}
 use Rattle.unix_path.specs.Parts.{values, is_rooted}
 use Rattle.unix_path.specs.Rest.{rest}
 
--- how many components can be removed from the end: all except the root
+-- the number of trailing components that can be removed: all except the root
 abbrev pub depth_of : List ℕ → ℕ
 depth_of s = length (values s) - (if is_rooted s then 1 else 0)
 

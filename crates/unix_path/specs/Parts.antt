@@ -1,7 +1,8 @@
 -- The components of a path, here called parts. The path is split at every slash into pieces. Pieces
 -- that are neither empty nor `.` count. The components are the root or a leading `.`, if there is
 -- one, and then the pieces that count (POSIX.1-2017 section 4.13, and Rust's `Path::components`).
--- The bytes that belong to no component, namely other slashes and `.` pieces, are filler.
+-- The bytes that belong to no component, namely slashes other than the root and other `.` pieces,
+-- are filler.
 use Rattle.std.specs.Prelude.{◌≡◌, ℕ, ◌+◌, Bool, false, ◌==◌, ◌||◌, not, List, [], ◌∷◌, ◌++◌}
 use Rattle.std.specs.Prelude.{map, length, slice_get, if◌then◌else◌}
 use Rattle.std.specs.Option.{option_map_or}
@@ -45,7 +46,7 @@ pub record Part : Type 0 where
 abbrev pub counts : List ℕ → Bool
 counts piece = not (bytes_eq piece [] || bytes_eq piece cur_dir)
 
--- the value of a piece that counts: `..`, or else a name
+-- the value of a piece that is neither empty nor `.`: `..`, or else a name
 abbrev pub value_of_piece : List ℕ → Value
 value_of_piece bytes = if bytes_eq bytes parent_dir then ParentDir else Normal bytes
 
@@ -57,7 +58,8 @@ parts_of_pieces at (p ∷ ps) =
     let part : Part = record { start = at; end = at + length p; value = value_of_piece p } in
     (if counts p then part ∷ [] else []) ++ parts_of_pieces (at + length p + 1) ps
 
--- the components of the pieces between the slashes of s, if s begins at index `at`
+-- the inner components of s: those of the pieces between its slashes, without the root and without
+-- a leading `.`; s begins at index `at`
 unfoldable pub inner_parts : ℕ → List ℕ → List Part
 inner_parts at s = parts_of_pieces at (slice_split is_slash s)
 
@@ -65,15 +67,16 @@ inner_parts at s = parts_of_pieces at (slice_split is_slash s)
 abbrev pub is_rooted : List ℕ → Bool
 is_rooted s = option_map_or is_slash (slice_get s 0) false
 
--- the root at 0..1 if byte 0 is a slash, else the `.` at 0..1 if the first piece is `.`, else
--- nothing
+-- the leading part: the root at 0..1 if byte 0 is a slash, else the `.` at 0..1 if the first piece
+-- is `.`, else nothing
 unfoldable pub leading_part : List ℕ → List Part
 leading_part s =
     let dotted = bytes_eq (before_first is_slash s) cur_dir in
     if is_rooted s then record { start = 0; end = 1; value = RootDir } ∷ []
     else (if dotted then record { start = 0; end = 1; value = CurDir } ∷ [] else [])
 
--- the root or leading `.`, and then the pieces that count, each with its position
+-- the components of s: the root or leading `.`, and then the pieces that are neither empty nor `.`,
+-- each with its position
 unfoldable pub parts : List ℕ → List Part
 parts s = leading_part s ++ inner_parts 0 s
 
@@ -81,7 +84,7 @@ parts s = leading_part s ++ inner_parts 0 s
 unfoldable pub values : List ℕ → List Value
 values s = map (λ p. p.value) (parts s)
 
--- the two paths are equal
+-- the paths s and t are equal: they have the same components
 abbrev pub SameValues : List ℕ → List ℕ → Type 0
 SameValues s t = values s ≡ values t
 

@@ -3,7 +3,7 @@
 use Rattle.std.specs.Prelude.{ℕ, ◌+◌, ◌-◌, List, [], ◌∷◌, length, take, drop, slice_range}
 use Rattle.unix_path.specs.Parts.{Part, parts}
 
--- the end of the last of p and ps
+-- the index where the last component ends, if the components are p and then ps
 abbrev pub last_end : Part → List Part → ℕ
 last_end p [] = p.end
 last_end p (q ∷ qs) = last_end q qs
@@ -13,6 +13,7 @@ abbrev pub span_of : List ℕ → List Part → List ℕ
 span_of s [] = []
 span_of s (p ∷ ps) = slice_range s p.start (last_end p ps)
 
--- the span of the components of s, except its first k and its last m
+-- the bytes of s from the start of the first to the end of the last of its components, not counting
+-- its first k and its last m components
 unfoldable pub rest : List ℕ → ℕ → ℕ → List ℕ
 rest s k m = let all = parts s in span_of s (take (length all - (k + m)) (drop k all))

@@ -64,13 +64,15 @@ pub record AfterFiller (s t : List ℕ) : Type 0 where
 abbrev pub IsCommonPrefixLen : List ℕ → List ℕ → ℕ → Type 0
 IsCommonPrefixLen a b n = n ≡ common_prefix_len nat_eq a b
 
--- a and b differ from byte n on, which belongs to their first components
+-- the first difference of a and b, at byte n, is at the beginning of their first components: n is
+-- 0, or n is 1 and both begin with a dot
 pub record DiffersAtStart (a b : List ℕ) (n : ℕ) : Type 0 where
   pub near : n ≤ 1
   pub dot : 0 < n → slice_index a 0 ≡ dot
   pub at_ends : piece_rank a n ≡ piece_rank b n → n ≡ 0
 
--- x and y are the rests of a and b after the same values, and may begin with filler
+-- a and b begin with the same components, and x and y are their rests after these components; the
+-- rests may begin with filler
 pub record SharesPrefix (a b x y : List ℕ) : Type 0 where
   pub shared : List Part
   pub at : ℕ
@@ -78,7 +80,7 @@ pub record SharesPrefix (a b x y : List ℕ) : Type 0 where
   pub first : parts a ≡ shared ++ inner_parts at x
   pub second : values b ≡ map (λ p. p.value) shared ++ inner_values y
 
--- a does not start with b, and the order is the order of the first values that differ
+-- a does not start with b, and `order` is the order of the paths a and b
 pub record AreApart (a b : List ℕ) (order : Ordering) : Type 0 where
   pub order_is : order ≡ values_cmp (values a) (values b)
   pub no_prefix : IsPrefixOf (values b) (values a) → ⊥

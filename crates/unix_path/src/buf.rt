@@ -18,11 +18,12 @@ use std::alloc::{AllocError, Global};
 use std::fmt;
 use unix_bytes::bytes::{UnixStr, UnixString};
 
-/// An owned path: bytes that slashes separate into components, and that edits change.
+/// An owned path that can be edited: bytes that slashes separate into components.
 ///
 /// It keeps its allocator. An edit makes at most one allocation, before it removes anything. If the
 /// allocation fails, the bytes are unchanged. `extend` is an exception: it pushes item by item, and
-/// if a push fails, the items before it stay joined. `into_boxed_path` drops the path if it fails.
+/// if a push fails, the items that were pushed before stay joined. `into_boxed_path` drops the path
+/// if it fails.
 ///
 /// `foo//bar/.` after `pop` is `foo`.
 #[derive(Drop)]

@@ -32,7 +32,7 @@ pub(crate) fn compare(a: &[u8], b: &[u8]) -> Ordering
 
 // Returns true if and only if two paths have the same components. Most paths that differ do so in
 // their last components, so these are compared first. Paths with the same length and last byte are
-// an exception, because they may well have the same bytes.
+// an exception, because they often have the same bytes.
 pub(crate) fn is_same(a: &[u8], b: &[u8]) -> bool
     ensures { result ≡ is_eq (values_cmp (values a.now) (values b.now)) }
 {

@@ -1,4 +1,4 @@
-//! Paths as strings: valid UTF-8, and lossy text.
+//! Conversion of paths to strings: exact for valid UTF-8, and lossy for all paths.
 ghost use Rattle.std.specs.Prelude.{◌≡◌, ◌↔◌, IsOk, IsSome, IfOk, IfSome, Some, if◌then◌else◌};
 ghost use Rattle.std.specs.Fmt.{padded};
 ghost use Rattle.unix_bytes.specs.Utf8.{IsText};
@@ -33,10 +33,10 @@ impl<'a> Display<'a> {
 }
 
 /// Writes the lossy text: valid UTF-8 unchanged (RFC 3629 section 4), and one U+FFFD for each group
-/// of invalid bytes. Such a group is the longest prefix of a UTF-8 sequence, if the sequence is cut
-/// off there, or else one byte.
+/// of invalid bytes. Such a group is the longest valid beginning of a UTF-8 sequence that is cut
+/// off, or else a single byte.
 ///
-/// Valid UTF-8 is padded by width, precision, fill and alignment, like a `str`. Other bytes are
+/// Valid UTF-8 is formatted like a `str` (width, precision, fill and alignment). Other bytes are
 /// printed without padding or truncation. Fails only if the writer does.
 ///
 /// The bytes 61 FF are printed as `a` and U+FFFD.
@@ -60,8 +60,8 @@ impl fmt::Debug for Display<'_> {
 }
 
 impl<'a> Path<'a> {
-    /// Returns the path as a `str` if and only if its bytes are valid UTF-8 (RFC 3629 section 4),
-    /// and otherwise `None`.
+    /// Returns the path as a `str` if its bytes are valid UTF-8 (RFC 3629 section 4), and `None`
+    /// otherwise.
     ///
     /// For `/tmp` it is `/tmp`, and for the bytes 61 FF it is `None`.
     #[must_use]

@@ -1,6 +1,6 @@
 //! Filler: the slashes of a path, and its `.` pieces, that belong to no component.
 //!
-//! This module is for code that reads the bytes of a path itself. Other callers use `Path` and
+//! This module is for code that works on the single bytes of a path. Other code uses `Path` and
 //! `Components`.
 ghost use Rattle.std.specs.Prelude.{◌≡◌, ℕ, ◌+◌, ◌<◌, ◌≤◌, true, false, length, drop, IsTrue};
 ghost use Rattle.unix_path.specs.CommonDir.{inner_values};
@@ -13,9 +13,9 @@ use std::simd::prelude::*;
 
 /// Returns true if and only if the byte at `at` is a slash, or a `.` before a slash or the end.
 ///
-/// After the first byte such a slash belongs to no component, and neither does such a `.` directly
-/// after a slash: they are filler. At the beginning of a path the byte is the root or a leading
-/// `.`. In `a/./b` it is true at 1, 2 and 3.
+/// As the first byte of a path, such a byte is the root or a leading `.`. Elsewhere, the slash is
+/// filler, and the `.` is filler if it directly follows a slash; otherwise it ends a name or a
+/// `..`. In `a/./b` the result is true at 1, 2 and 3.
 #[inline]
 pub fn is_filler(bytes: &[u8], at: usize) -> bool
     requires { at < length bytes.now }
@@ -27,7 +27,8 @@ pub fn is_filler(bytes: &[u8], at: usize) -> bool
 /// Returns true if and only if the byte at `at` is not the first byte, and is a slash, or a `.`
 /// directly after a slash.
 ///
-/// Such a byte is filler if no component follows it. In `/a/.` it is true at 2 and 3.
+/// Such a byte is filler if all bytes after it are also such bytes. In `/a/.` the result is true at
+/// 2 and 3.
 #[inline]
 pub fn is_trailing(bytes: &[u8], at: usize) -> bool
     requires { at < length bytes.now }
@@ -36,7 +37,7 @@ pub fn is_trailing(bytes: &[u8], at: usize) -> bool
     0 < at && (bytes[at] == b'/' || (bytes[at] == b'.' && bytes[at - 1] == b'/'))
 }
 
-/// Returns the length of the filler at the beginning of bytes that follow a slash or a component.
+/// Returns how many bytes of filler `bytes` begins with, if it follows a slash or a component.
 ///
 /// Reads byte by byte, since filler is usually short. For `/./a` it is 3, and for `.a` it is 0.
 #[inline]
@@ -102,8 +103,8 @@ fn filler_end_from(path: &[u8], start: usize) -> usize
     len
 }
 
-// Returns the length of the filler at `i` that one step skips: a slash, a `.` and the slash after
-// it, or a `.` at the end. Returns 0 if a component begins there.
+// Returns how many bytes of filler at `i` to skip at once: 1 for a slash, 2 for a `.` and the slash
+// after it, and 1 for a `.` at the end. Returns 0 if a component begins at `i`.
 #[inline]
 fn filler_step(path: &[u8], i: usize) -> usize
     requires { i < length path.now }

@@ -1,6 +1,6 @@
 //! The first component of bytes that begin with no filler: a `..` or a name, and its length.
 //!
-//! This module is for code that reads the bytes of a path itself. Other callers use `Path` and
+//! This module is for code that works on the single bytes of a path. Other code uses `Path` and
 //! `Components`.
 ghost use Rattle.std.specs.Prelude.{◌≡◌, ◌<◌, ◌≤◌, ◌∷◌, true, false, length, take, drop};
 ghost use Rattle.unix_path.specs.Parts.{inner_parts, parts, Normal, ParentDir};
@@ -23,7 +23,8 @@ pub fn starts_with_parent_dir(bytes: &[u8]) -> bool
         && (bytes.len() == 2 || bytes[2] == b'/')
 }
 
-/// Returns the length of the first component, which is a `..`, with the filler after it.
+/// Returns the length of the first component, which must be `..`, plus the length of the filler
+/// after it.
 ///
 /// In `.././a` it is 5.
 #[inline(always)]
@@ -37,8 +38,8 @@ pub fn parent_dir_step(bytes: &[u8]) -> usize
     2 + filler_len(&bytes[2..])
 }
 
-/// Returns the length of the first component, which is a name, without and with the filler after
-/// it.
+/// Returns the length of the first component, which must be a name, and the index where the filler
+/// after it ends.
 ///
 /// In `a/./b` they are 1 and 4.
 #[inline(always)]

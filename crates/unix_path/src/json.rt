@@ -17,8 +17,8 @@ use std::fmt;
 
 /// The error of writing a path as JSON, or of reading a JSON value as a path.
 ///
-/// Each variant is printed as the text in its comment, padded by width, precision, fill and
-/// alignment.
+/// Each variant is printed as the text in its comment, formatted like a `str` (width, precision,
+/// fill and alignment).
 ///
 /// `to_json` of the path with the bytes 66 FF fails with `NotUtf8`.
 #[derive(Debug, Drop)]
@@ -31,7 +31,7 @@ pub enum JsonError {
     Memory(AllocError),
 }
 
-/// Writes the variant's text, padded by width, precision, fill and alignment.
+/// Writes the variant's text, formatted like a `str` (width, precision, fill and alignment).
 ///
 /// `JsonError::NotString` is printed as `expected path string`.
 impl fmt::Display for JsonError {

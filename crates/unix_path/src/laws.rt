@@ -9,10 +9,10 @@ mod walks;
 use crate::cursor::Component;
 pub use walks::{ends_meet, walks_in_order};
 
-/// Components are equal if and only if they have the same value, and are ordered as their values
-/// are.
+/// Components are equal if and only if their values are, and are ordered like their values. The
+/// value of a component is its kind and, for a name, its bytes.
 ///
-/// This describes `==` (`equal`) and `cmp` (`order`) of `Component`.
+/// The clause `equal` describes `==` of `Component`, and the clause `order` describes `cmp`.
 ///
 /// The root comes first, then `.`, then `..`, and then the names, ordered by their bytes.
 pub fn components_ordered()

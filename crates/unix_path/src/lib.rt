@@ -1,14 +1,15 @@
 //! Unix paths as byte strings, with the same behaviour on every platform.
 //!
 //! Unless stated otherwise:
-//! - Functions named as in `std::path` behave as they do on Unix.
+//! - Functions with a name from `std::path` behave as std's functions do on Unix.
 //! - Functions do not allocate unless they take an allocator or say so.
 //! - Laws do nothing at run time.
 //! - Indices and lengths count bytes.
 //!
-//! A component is the root, a leading `.`, a name, or `..`. Bytes that belong to no component,
-//! namely other slashes and `.` pieces, are filler. In clauses, `parts` and `values` are the
-//! components with and without their positions.
+//! A component is the root, a leading `.`, a name, or `..`. A piece is the bytes between two
+//! slashes, before the first slash or after the last. Bytes that belong to no component are filler:
+//! slashes other than the root, and `.` pieces that are not leading. In clauses, `parts` and
+//! `values` are the components with and without their positions.
 #![tactic(auto)]
 
 pub mod buf;

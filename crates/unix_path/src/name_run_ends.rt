@@ -6,7 +6,7 @@
 //! candidate is a separator before another separator, before a dot, or at the end of the bytes.
 //! Only an end candidate can end a run.
 //!
-//! This module is for code that reads the bytes of a path itself.
+//! This module is for code that works on the single bytes of a path or a key.
 ghost use Rattle.std.specs.Prelude.{◌≡◌, ℕ, ◌+◌, ◌<◌, ◌≤◌, ◌==◌, false, length, slice_index_or};
 ghost use Rattle.std.specs.Prelude.{IsTrue, ◌↔◌};
 ghost use Rattle.unix_path.specs.NameRunEnds.{is_end_candidate_of, ends_name_run_of};
@@ -47,9 +47,9 @@ fn ends_name_run(bytes: &[u8], at: usize, separator: u8, dot: u8) -> bool
 }
 
 /// Returns true if one of the 16 bytes that start at `at` is a separator, and the byte after it is
-/// one of a few.
+/// from 00 to 0F or from 20 to 2F (hexadecimal).
 ///
-/// Names seldom start with one of these few bytes, which include the separator and the dot. If the
+/// Names seldom start with these bytes, which have to include the separator and the dot. If the
 /// result is false, none of the 16 bytes is an end candidate. With a slash and a dot it is false
 /// for `0123456789abc/ef/` at 0, and true for `0123456789abc/.f/`.
 #[inline(always)]
@@ -82,7 +82,7 @@ fn may_end_name_run_simd32(bytes: &[u8], at: usize, separator: u8, dot: u8) -> b
 }
 
 // Returns true only if none of the bytes, except possibly the last, is an end candidate. Reads the
-// last bytes first, since most paths that escape do so there.
+// last bytes first, since most paths that escape do so near their end.
 #[inline(always)]
 fn has_no_end_candidate_over_32(bytes: &[u8], separator: u8, dot: u8) -> bool
     requires apart { BothLackBits separator dot }
@@ -104,8 +104,8 @@ fn has_no_end_candidate_over_32(bytes: &[u8], separator: u8, dot: u8) -> bool
     true
 }
 
-// Returns true only if none of the bytes is an end candidate. May also return false if none of them
-// is: it does so for fewer than 17 bytes.
+// Returns true only if none of the bytes is an end candidate. Returns false for fewer than 17
+// bytes, and may return false for more bytes without an end candidate.
 #[inline(always)]
 fn has_no_end_candidate(bytes: &[u8], separator: u8, dot: u8) -> bool
     requires { BothLackBits separator dot }

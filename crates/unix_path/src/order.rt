@@ -78,8 +78,8 @@ impl Ord for Path<'_> {
 /// same bytes as `a/b`.
 ///
 /// Different tuples of paths can feed the same bytes, for example (`a`, `b/c`) and (`a/b`, `c`). A
-/// key of several paths should therefore feed something between them, such as a slash and a NUL,
-/// with which no component begins.
+/// type that hashes several paths should therefore feed the hasher something between them that the
+/// input of no component begins with, such as a slash and a NUL.
 impl Hash for Path<'_> {
     ghost hash_input = { λ path. hash_input_of (values path.bytes.now) };
 

@@ -18,31 +18,31 @@ use crate::first_component::starts_with_parent_dir;
 use std::cmp::Ordering;
 use unix_bytes::search::{common_len, common_len_expect_short};
 
-// The relation of two paths.
+// How the first of two paths relates to the second.
 #[derive(Clone, Copy)]
 pub(crate) enum Comparison<'a> {
-    // The order of their first components that differ.
+    // The first components that differ are in this order.
     Differs(Ordering),
-    // The first path starts with the second. The slice is the rest of the first path, without
-    // filler at its start.
+    // The first path starts with the second. The slice is the rest of the first path after the
+    // second, without filler at its start.
     StartsWith(&'a [u8]),
-    // The first path is a prefix of the second, which has more components.
+    // The second path starts with the first, and has more components.
     IsPrefix,
 }
 
 // What the first bytes that differ in two paths show.
 #[derive(Clone, Copy)]
 pub(crate) enum Difference<'a, 'b> {
-    // They lie in two components that differ, and determine the order of the paths.
+    // These bytes lie in two components that differ, and determine the order of the paths.
     Decided(Ordering),
-    // The first components differ, or one path has none. The bytes determine the order only if both
-    // are names.
+    // The first components differ, or one path has none. The differing bytes determine the order
+    // only if both components are names.
     FirstComponents,
-    // Both paths can be cut before them. The slices are the rests after the cut.
+    // Both paths can be cut before these bytes. The slices are the rests after the cut.
     CutBefore(&'a [u8], &'b [u8]),
 }
 
-// Two paths, and the length of their longest common prefix.
+// Two paths, and the length in bytes of their longest common prefix.
 #[derive(Clone, Copy)]
 pub(crate) struct Pair<'a, 'b> {
     pub(crate) first: &'a [u8],
@@ -51,8 +51,8 @@ pub(crate) struct Pair<'a, 'b> {
     ghost alike: { IsCommonPrefixLen first.now second.now common } by { Prim.hlevel props },
 }
 
-// The kind of a path's first component, in the order of paths. `Nothing` is for a path without
-// components.
+// The kind of a path's first component; the kinds are in the order in which paths sort. `Nothing`
+// is for a path without components.
 #[derive(Clone, Copy, PartialEq, Eq, PartialOrd, Ord)]
 enum Kind {
     Nothing,
@@ -62,8 +62,9 @@ enum Kind {
     Name,
 }
 
-// Returns how many bytes follow the filler after a cut: 0 if and only if no component follows. Not
-// inlined, like `order_after_cut` and `rest_after_cut`, so that their callers stay small.
+// Returns the length of `bytes`, the rest of a path after a cut, without the filler at its
+// beginning. The result is 0 if and only if no component follows the cut. Not inlined, like
+// `order_after_cut` and `rest_after_cut`, so that their callers stay small.
 #[inline(never)]
 pub(crate) fn rest_len(bytes: &[u8]) -> usize
     ensures after { nat_cmp result 0 ≡ values_cmp (inner_values bytes.now) [] }
@@ -131,14 +132,15 @@ impl Kind {
 //
 // If there are at least two such bytes, or one that isn't a dot, or if both pieces have a byte
 // other than a dot at `n`, then both pieces are names, or one is the `..` that ends at `n`. The
-// bytes at `n` determine the order, and the end of a piece comes first.
+// bytes at `n` determine the order, where the end of a piece is less than any byte.
 //
-// Otherwise both pieces begin or end at `n`, or begin with a dot just before `n`. Both paths are
-// cut there. The bytes before the cut are the same and have the same components, and filler after
-// the cut is dropped. If only one path has a component after the cut, it is the longer path. If
-// neither has, the paths are equal. Otherwise the rests are compared in the same way, until the cut
-// is at their beginning. There the first components differ: either in their kinds, which three
-// bytes determine, or they are names, whose order the bytes at `n` determine. No component is
+// Otherwise both pieces begin or end at `n`, and both paths are cut at `n`; or both pieces begin
+// with a dot just before `n`, and both paths are cut before this dot. The bytes before the cut are
+// the same and have the same components, and filler after the cut is dropped. If only one path has
+// a component after the cut, that path is the greater one. If neither has, the paths are equal.
+// Otherwise the rests are compared in the same way, until a cut would be at their beginning. In
+// this case the first components of the rests differ: either they are of different kinds, which
+// three bytes determine, or they are names, whose order the bytes at `n` determine. No component is
 // compared twice, since each cut leaves fewer bytes.
 impl<'a, 'b> Pair<'a, 'b> {
     ghost use Rattle.unix_path.specs.Pairs.{DifferenceShows};
@@ -149,7 +151,7 @@ impl<'a, 'b> Pair<'a, 'b> {
         ensures { DifferenceShows self.entry.first self.entry.second.now self.entry.common result }
     {
         let (first, second, common) = (self.first, self.second, self.common);
-        // Most differences lie in two names, which the bytes show before a rank is computed.
+        // Most differences lie in two names. This test finds them before a rank is computed.
         if is_in_name(first, common) && is_in_name(second, common) {
             let order = piece_rank(first, common).cmp(&piece_rank(second, common));
             return Difference::Decided(order);
@@ -168,8 +170,8 @@ impl<'a, 'b> Pair<'a, 'b> {
         Difference::CutBefore(&first[cut_index..], &second[cut_index..])
     }
 
-    // Returns the rest of the first path after the second, if the first starts with the second,
-    // which isn't empty. The rest may begin with filler.
+    // Returns the rest of `first` after `second`, or `None` if `first` doesn't start with `second`,
+    // which must not be empty. The rest may begin with filler.
     #[inline(always)]
     pub(crate) fn rest_bytes(first: &'a [u8], second: &'b [u8]) -> Option<&'a [u8]>
         requires { 0 < length second.now }
@@ -193,8 +195,8 @@ impl<'a, 'b> Pair<'a, 'b> {
         }
     }
 
-    // Returns the order of the two paths. Their first components differ, or at least one path is
-    // empty.
+    // Returns the order of the two paths, whose first components must differ unless at least one
+    // path is empty.
     #[inline]
     pub(crate) fn first_components_order(self) -> Ordering
         requires { DiffersAtStart self.first.now self.second.now self.common }
@@ -253,8 +255,8 @@ impl<'a> Comparison<'a> {
         }
     }
 
-    // Returns what remains of the first path after the second, if the first starts with the second.
-    // `a` and `b` are the rests of the two paths after a cut.
+    // Returns the rest of the first path after the second, or `None` if the first doesn't start
+    // with the second. `a` and `b` are the rests of the two paths after a cut.
     #[inline(never)]
     fn rest_after_cut(a: &'a [u8], b: &[u8]) -> Option<&'a [u8]>
         ensures begins { (s t : List ℕ) → SharesPrefix s t a.now b.now

@@ -35,7 +35,7 @@ use unix_bytes::bytes::UnixStr;
 ///
 /// Any byte string is a path, including the empty one, and a `Path` keeps all of its bytes. Slashes
 /// and `.` pieces that are not components are filler. Copying a `Path` copies the view, not the
-/// bytes. Rust's `Path` is itself only used behind a reference.
+/// bytes. The type corresponds to Rust's `&Path`.
 ///
 /// `///foo///bar` has three components: the root, `foo` and `bar`.
 #[derive(Clone, Copy)]

@@ -1,6 +1,6 @@
 //! The end of a path: a `..`, a name, or a slash.
 //!
-//! This module is for code that reads the bytes of a path itself. Other callers use `Path` and
+//! This module is for code that works on the single bytes of a path. Other code uses `Path` and
 //! `Components`.
 ghost use Rattle.std.specs.Prelude.{◌≡◌, ◌<◌, ◌↔◌, length, Some, IsTrue};
 ghost use Rattle.unix_path.specs.Extensions.{name_end_of};

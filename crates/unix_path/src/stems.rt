@@ -6,8 +6,9 @@ ghost use Rattle.unix_path.specs.Scan.{separator_bytes};
 
 use unix_bytes::search::after_last_of_two;
 
-/// Returns the index where the stem of the last name ends. The bytes must end in that name, and the
-/// first `known` bytes must also end in a stem, unless `known` is 0.
+/// Returns the index where the stem of the last name ends. The bytes must end in that name. Unless
+/// `known` is 0, the first `known` bytes must also end in a name, and this name must have no
+/// extension.
 ///
 /// Searches back to the last dot or slash. Of the bytes before `known`, reads only the last.
 ///

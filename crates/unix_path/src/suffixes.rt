@@ -20,7 +20,7 @@ fn ends_in_part(bytes: &[u8]) -> bool
     bytes[len - 1] != b'.' || len == 1 || bytes[len - 2] != b'/'
 }
 
-// Returns the length of the longest common suffix without a slash.
+// Returns the length of the longest common suffix that contains no slash.
 #[inline]
 #[tactic(auto, using(crate::proofs::lemmas::order::EndingLemmas::longer_ends))]
 fn common_suffix_len(a: &[u8], b: &[u8]) -> usize
@@ -38,9 +38,9 @@ fn common_suffix_len(a: &[u8], b: &[u8]) -> usize
     len
 }
 
-// Returns the length of the last component if both paths end in the same one, or `None` if the last
-// components differ. Returns 0 if one of the paths is empty, or ends in a slash or in filler. Reads
-// only the last components and the slashes before them.
+// Returns 0 if one of the paths is empty, or ends in a slash or in filler. Otherwise returns the
+// length of the last component if both paths have the same one, and `None` if their last components
+// differ. Reads only the last components and the slashes before them.
 #[inline]
 #[tactic(auto, using(crate::proofs::lemmas::order::EndingLemmas::last_parts))]
 pub(crate) fn shared_last_len(a: &[u8], b: &[u8]) -> Option<usize>
@@ -62,7 +62,7 @@ pub(crate) fn shared_last_len(a: &[u8], b: &[u8]) -> Option<usize>
 }
 
 // Returns true if and only if `path`'s components end with `child`'s, compared one by one. Not
-// inlined, so that a result from the last bytes needs no stack space for two walks.
+// inlined, so that callers need no stack space for two walks if the last bytes decide.
 #[inline(never)]
 pub(crate) fn ends_with_parts(path: &[u8], child: &[u8]) -> bool
     ensures { IsTrue result ↔ IsSuffixOf (values child.now) (values path.now) }

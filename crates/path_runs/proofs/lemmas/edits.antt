@@ -1,4 +1,4 @@
--- Edits, what they cache of a path, and queries with the same result for equal paths.
+-- Edits, the cache of a list of edits, and queries with the same result for equal paths.
 pub mod EditListLemmas
 pub mod CongruenceLemmas
 pub mod ExtensionLemmas

@@ -1,4 +1,4 @@
--- Joins, their components, and what removing a base or a last component leaves.
+-- Joins, their components, and joins from which a base or the last component is removed.
 pub mod AssociativeLemmas
 pub mod ValueLemmas
 pub mod LeadLemmas

@@ -1,3 +1,3 @@
--- Rows of components and values: those that start with a base, and what an update leaves.
+-- Rows of components and values: rows whose components start with a base, and rows after an update.
 pub mod UnderLemmas
 pub mod UpdateLemmas

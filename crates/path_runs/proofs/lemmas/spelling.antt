@@ -1,4 +1,4 @@
--- The components of a path from its pieces, and their canonical form.
+-- The components of a path, computed from its pieces, and their canonical form.
 pub mod PieceValueLemmas
 pub mod SpellLemmas
 pub mod LeanLemmas

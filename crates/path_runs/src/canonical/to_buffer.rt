@@ -12,9 +12,9 @@ use crate::gaps::{after_gap, first_gap};
 use unix_bytes::buffers::write_at;
 use unix_path::Path;
 
-// Returns the length of a prefix of the path that its canonical form starts with: the bytes before
-// the first gap, or all bytes if the path has at most one. The path has to be empty or end in a
-// component.
+// Returns the length of a prefix that the path shares with its canonical form: the bytes before the
+// first gap, or all bytes if the path has at most one byte or no gap. The path has to be empty or
+// end in a component.
 #[inline]
 fn canonical_prefix_len(bytes: &[u8]) -> usize
     requires { EndsInPart bytes.now }
@@ -31,8 +31,9 @@ fn canonical_prefix_len(bytes: &[u8]) -> usize
     first_gap(bytes)
 }
 
-// Returns the gapless run at `start`: the bytes from the slash before the component there to the
-// next gap or the end. The canonical form contains them unchanged.
+// Returns the gapless run at `start`, the index of a component: the bytes from the slash before
+// this component up to the next gap, exclusive, or up to the end. The canonical form contains the
+// run unchanged.
 #[inline]
 pub(super) fn gapless_run_at(bytes: &[u8], start: usize) -> &[u8]
     requires in_range { start < length bytes.now }
@@ -43,7 +44,8 @@ pub(super) fn gapless_run_at(bytes: &[u8], start: usize) -> &[u8]
     &bytes[start - 1..start + len]
 }
 
-// Returns how many bytes the components after the gap at `gap` have, with a slash before each.
+// Returns the total length of the components after the gap at index `gap`, with a slash before
+// each.
 #[inline]
 fn parts_len(bytes: &[u8], gap: usize) -> usize
     requires in_range { gap ≤ length bytes.now }
@@ -60,8 +62,8 @@ fn parts_len(bytes: &[u8], gap: usize) -> usize
     len
 }
 
-// Writes the bytes before the gap at `gap` to the beginning of `out`, and then the gapless runs of
-// the components after the gap. Returns how many bytes it wrote.
+// Writes the bytes before the gap at index `gap` to the beginning of `out`, and then the components
+// after the gap, each with a slash before it. Returns the number of bytes written.
 #[inline]
 fn write_gapless_runs(bytes: &[u8], gap: usize, out: &mut [u8]) -> usize
     requires in_range { gap ≤ length bytes.now }
@@ -96,8 +98,8 @@ pub fn write_canonical(path: Path<'_>, out: &mut [u8]) -> usize
 {
     let bytes = trimmed(path);
     let gap = canonical_prefix_len(bytes);
-    // The canonical form is never longer than these bytes, so its length needn't be counted first
-    // if they fit.
+    // The canonical form is never longer than `bytes`. So if `bytes` would fit into `out`, the
+    // length of the canonical form needn't be computed first.
     if bytes.len() > out.len() {
         let len = gap + parts_len(bytes, gap);
         if len > out.len() {

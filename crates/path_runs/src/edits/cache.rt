@@ -15,7 +15,7 @@ use unix_path::filler::is_trailing;
 use unix_path::path_end::ends_in_name;
 use unix_path::stems::{has_slash, stem_end};
 
-// Returns the length of the path without its trailing filler, or `min` if that is greater.
+// Returns the length of the path without its trailing filler, or `min` if `min` is greater.
 #[inline]
 fn trimmed_len(path: &[u8], min: usize) -> usize
     requires { min ≤ length path.now }
@@ -49,7 +49,8 @@ fn ends_in_long_name(path: &[u8]) -> bool {
 // ordinary paths, because only long runs of filler and long stems are recorded.
 #[derive(Drop)]
 pub(super) struct ScanCache {
-    // In the first `len` bytes, the last component ends at `end`.
+    // In the first `len` bytes of the path, the last component ends at index `end`, exclusive. Both
+    // are 0 if no end is recorded.
     end: usize,
     len: usize,
     // Lengths of prefixes of the path that end in a name without an extension.
@@ -88,8 +89,9 @@ impl ScanCache {
         self.len == 0 && self.stems.is_empty()
     }
 
-    // Returns the index where the path's last component ends. Doesn't read the recorded bytes.
-    // Records the index if it read at least 16 bytes of filler.
+    // Returns the index just after the path's last component. Doesn't search the first `self.len`
+    // bytes, for which the end is recorded. Records the index if at least 16 bytes of filler were
+    // read.
     #[inline]
     pub(super) fn part_end(&mut self, path: &[u8]) -> usize
         requires { IsCacheOf path.now self.old }
@@ -111,8 +113,8 @@ impl ScanCache {
         end
     }
 
-    // Reads the trailing filler of the path, and records it if it is long, so that the next call
-    // doesn't read it again.
+    // Reads the trailing filler of the path. If it has at least 16 bytes, records where it begins,
+    // so that later calls don't read it again.
     #[inline]
     pub(super) fn record_filler(&mut self, path: &[u8])
         requires { IsCacheOf path.now self.old }
@@ -123,7 +125,8 @@ impl ScanCache {
         }
     }
 
-    // Returns the index where the file name of the path ends, or `None` if there is none.
+    // Returns the index just after the file name of the path, or `None` if the path has no file
+    // name.
     #[inline]
     pub(super) fn name_end(&mut self, path: &[u8]) -> Option<usize>
         requires { IsCacheOf path.now self.old }
@@ -164,9 +167,10 @@ impl ScanCache {
         self.part_end(path) <= 1
     }
 
-    // Returns the index where the stem of the file name ends, or `None` if there is no file name.
+    // Returns the index just after the stem of the file name, or `None` if there is no file name.
     // Searches for the stem's end only from the last recorded index on, and reads at most one byte
-    // before it. Records the index if the stem is the whole name and the name is long.
+    // before that index. Records the result if the stem is the whole name and has at least 64
+    // bytes.
     #[inline]
     pub(super) fn stem_end(&mut self, path: &[u8]) -> Option<usize>
         requires { IsCacheOf path.now self.old }

@@ -1,10 +1,10 @@
-//! Indices of a path at which stems end, so that a long name without an extension isn't searched
-//! for a dot again.
+//! A list of indices at which stems of a path end. With it, a long name without an extension isn't
+//! searched for a dot again.
 ghost use Rattle.std.specs.Prelude.{◌≡◌, ℕ, ◌<◌, ◌≤◌, List, length, take, IsTrue};
 ghost use Rattle.path_runs.specs.ScanCache.{IsStack, CachesStem, CachesStems};
 
-// Lengths of prefixes of the path, in ascending order: 0, and at `offsets[1..=last]` those of
-// prefixes that end in a name without an extension.
+// Lengths of prefixes of the path, in ascending order. `offsets[0]` is 0, and the prefixes whose
+// lengths are in `offsets[1..=last]` end in a name without an extension.
 #[derive(Drop)]
 pub(super) struct Stems {
     offsets: [usize; 32],
@@ -42,7 +42,7 @@ impl Stems {
         self.last == 0
     }
 
-    // Returns the last index.
+    // Returns the last index of the list, which is the greatest.
     #[inline]
     pub(super) fn last_offset(&self) -> usize
         requires { IsStack self.now }
@@ -77,10 +77,10 @@ impl Stems {
     }
 
     // Records `offset` if it is at least 64 bytes after the last index. First drops the last index
-    // while the distance to the index before it is less than four times the distance to `offset`.
-    // The bytes before a dropped index are read again only after edits have removed more than a
-    // quarter as many bytes. Each distance between neighbours is then at least four times the next
-    // distance, so the list never becomes full.
+    // while its distance to the index before it is less than four times its distance to `offset`.
+    // The bytes between a dropped index and the index before it are read again only after edits
+    // have removed more than a quarter as many bytes. After the call, each distance between
+    // neighbours is at least four times the next distance, so the list never becomes full.
     pub(super) fn add(&mut self, offset: usize)
         requires { IsStack self.old }
         ensures stack { IsStack self.new }

@@ -1,4 +1,4 @@
-//! The single edits of a list, which use and update its cache.
+//! The single edits of a list of edits. They use and update the list's cache.
 ghost use Rattle.std.specs.Prelude.{◌≡◌, ◌↔◌, [], true, IfOk, OnOk, OnErr, IsOk, IsErrOf, is_some};
 ghost use Rattle.unix_path.specs.Buffers.{path_bytes};
 ghost use Rattle.unix_path.specs.Edits.{popped_of, with_name_of, with_extension_of};
@@ -23,8 +23,8 @@ fn bytes_of(path: &PathBuf) -> &[u8]
     path.as_path().as_unix_str().as_bytes()
 }
 
-// Joins the other path to the path. Always inlined, like `PathBuf::push`. Each branch has its own
-// call of `PathBuf::push`, so that the inlined copies need not test for a root again.
+// Pushes `other` to `path`. Always inlined, like `PathBuf::push`. Each branch has its own call of
+// `PathBuf::push`, so that neither inlined copy has to test for a root again.
 #[inline(always)]
 #[tactic(auto, using(crate::proofs::lemmas::edits::EditStepLemmas::IsCacheOf_join))]
 pub(super) fn push(
@@ -46,8 +46,8 @@ pub(super) fn push(
 }
 
 // Truncates the path to its parent and returns true. Without a parent, leaves the path unchanged
-// and returns false. A pop that succeeds removes the bytes that it reads. A pop that fails leaves
-// the filler after a root, so this filler is recorded.
+// and returns false. A pop that succeeds removes the filler that it reads. A pop that fails leaves
+// the filler after a root, so the cache records this filler.
 #[inline]
 pub(super) fn pop(path: &mut PathBuf, cache: &mut ScanCache) -> bool
     requires { IsCacheOf (path_bytes path.old) cache.old }
@@ -101,8 +101,8 @@ pub(super) fn set_file_name(
     }
     path.set_file_name(name)?;
     if !cache.is_empty() {
-        // The new path consists of unchanged bytes, at most one slash, and the name. A rooted name
-        // replaces all bytes, and the difference saturates to 0.
+        // The new path consists of unchanged bytes, at most one slash, and the name. If the name is
+        // rooted, the new path is only the name, and the difference saturates to 0.
         let len = bytes_of(path).len();
         cache.truncate(len.saturating_sub(name.len() + 1));
     }

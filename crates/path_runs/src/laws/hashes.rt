@@ -3,8 +3,9 @@ ghost use Rattle.path_runs.specs.HashLaws.{InputsInjective, InputsReflectPrefixe
 
 /// Paths that feed a hasher the same bytes are equal.
 ///
-/// This holds however the bytes are split into writes. The bytes that one path feeds are a prefix
-/// of another's only if its components are a prefix of the other's.
+/// This holds however the bytes are split into writes. If the bytes that one path feeds are a
+/// prefix of the bytes that another path feeds, its components are a prefix of the components of
+/// that other path.
 ///
 /// `ab` and `a/b` feed different bytes, and so do `/a`, `./a` and `a`.
 pub fn hash_input_injective()

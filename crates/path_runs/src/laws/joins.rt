@@ -21,7 +21,8 @@ pub fn join_associative()
 /// A join has the components of the first path, followed by the components of the second.
 ///
 /// This holds if the first path isn't empty and the second is rootless. A leading `.` of the second
-/// is lost. Bytes appended after a slash also add their components, without a leading root or `.`.
+/// is lost. If a path ends in a slash, bytes appended to it also add their components, without a
+/// leading root or `.`.
 ///
 /// `/a` joined with `./b` has the components of `/a` and then `b`, and so has `/a/` followed by
 /// `/b`.
@@ -43,7 +44,7 @@ pub fn join_starts_with()
         → values (join_of a b) ≡ values a ++ values_added a b }
 {}
 
-/// A path without its base, joined to that base, is equal to the path.
+/// If a path starts with a base, the base joined with the rest of the path is equal to the path.
 ///
 /// The bytes may change. The components don't.
 ///

@@ -8,7 +8,8 @@ ghost use Rattle.path_runs.specs.OrderLaws.{OrderAfterCommonDir, OrderAfterSlash
 ghost use Rattle.path_runs.specs.OrderLaws.{DescendantsContiguous, BaseBeforeUnder};
 ghost use Rattle.path_runs.specs.OrderLaws.{OneOrder, BeforeIsTransitive};
 
-/// The order of lists of components is total, and only equal lists tie in it.
+/// The order of lists of components is total, and two lists compare as equal only if they are the
+/// same.
 ///
 /// For two lists, one and only one of these holds: they are equal, the first is less, or the second
 /// is less (`one`). Being less is transitive (`transitive`).
@@ -52,7 +53,8 @@ pub fn base_before_under()
 /// Two paths that begin with the same bytes and then a slash are ordered by what follows that
 /// slash, without a root or a leading `.`.
 ///
-/// Two paths are therefore ordered by what follows their `common_dir`, unless it is 0.
+/// If `common_dir` returns n for two paths, and n isn't 0, they are therefore ordered by their
+/// bytes after the first n.
 ///
 /// `x/./b` and `x//a` are ordered as `b` and `a` are.
 pub fn order_after_prefix()

@@ -1,4 +1,4 @@
-//! Laws of a path's components, and of what remains of a path after some are taken.
+//! Laws of a path's components, and of the rest of a path after some components are taken.
 ghost use Rattle.std.specs.Prelude.{◌≡◌, ◌≤◌, ℕ, List, [], length, map};
 ghost use Rattle.std.specs.List.{sum_by};
 ghost use Rattle.unix_path.specs.Parts.{values, value_bytes};
@@ -20,7 +20,7 @@ pub fn no_part_no_byte()
 /// A count of the components, or a sum of their lengths, therefore fits any integer type that the
 /// path's length fits.
 ///
-/// `/a//bc` has three components of 1, 1 and 2 bytes, and 6 bytes.
+/// `/a//bc` has 6 bytes, and three components of 1, 1 and 2 bytes.
 pub fn parts_fit()
     ensures count { (s : List ℕ) → length (values s) ≤ length s }
     ensures bytes { (s : List ℕ) → sum_by (λ v. length (value_bytes v)) (values s) ≤ length s }

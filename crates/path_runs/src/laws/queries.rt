@@ -15,8 +15,7 @@ ghost use Rattle.path_runs.specs.QueryLaws.{ParentIsBefore, ParentJoinsName};
 ghost use Rattle.path_runs.specs.QueryLaws.{AncestorsEnd, AncestorsStep, AncestorsArePrefixes};
 ghost use Rattle.path_runs.specs.EqualPathLaws.{SameOnEqual, SameOnEqualPairs, HoldsOnEqualPairs};
 
-/// The stem, a dot and the extension make up a file name. Without an extension, the name is the
-/// stem.
+/// A file name is its stem, a dot and its extension, or only its stem if it has no extension.
 ///
 /// This holds for every name, and for the file name of every path that has a stem.
 ///
@@ -28,8 +27,8 @@ pub fn name_rejoined()
 
 /// A path's parent is less than the path, and joined with the file name it is equal to the path.
 ///
-/// The first holds for paths that have a parent, the second for paths that also have a file name.
-/// The join may have other bytes than the path.
+/// The parent is less whenever there is one. The join requires that the path also has a file name,
+/// and may have other bytes than the path.
 ///
 /// The parent of `/a//b` is `/a`, which is less; joined with `b` it is `/a/b`.
 pub fn parent_before()

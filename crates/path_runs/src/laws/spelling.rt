@@ -26,7 +26,7 @@ pub fn canonical_is_short()
 
 /// A path's components, each joined to those before it, are the canonical form of the path.
 ///
-/// This holds byte for byte, and also for the rest of a walk, which is a path.
+/// This holds byte for byte. It also holds for the rest of a walk, since that is a path too.
 ///
 /// The components of `.//a/./b/` are `.`, `a` and `b`; joined one after the other they are `./a/b`.
 pub fn spelling_joined()

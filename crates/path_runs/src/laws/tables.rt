@@ -5,8 +5,9 @@ ghost use Rattle.path_runs.specs.TableLaws.{view_bytes};
 
 /// A lookup by a path finds the entry of an equal path.
 ///
-/// The law is about a table's rows, `rows_of`: its entries, with each key replaced by the key's
-/// components. A clause finds the row with the components `w` by std's `is_at (values_cmp w)`.
+/// The clauses are about a table's rows (`rows_of`): its entries, with each key replaced by the
+/// key's components. In a clause, `is_at (values_cmp w)` is std's test for the row with the
+/// components `w`.
 ///
 /// With 1 at `a/b`, a lookup by `a//b/` finds 1.
 pub fn lookup_by_values<V>()

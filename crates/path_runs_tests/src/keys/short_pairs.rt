@@ -1,5 +1,4 @@
-//! Keys that own their bytes, compared in the same way as their paths, for all pairs of short
-//! paths.
+//! Tests that keys that own their bytes compare like their paths, for all pairs of short paths.
 use path_keys::{PathKey, key_starts_with};
 use std::alloc::{AllocError, Global};
 use std::test::Fail;
@@ -19,7 +18,7 @@ struct KeyedPath<'a> {
     key: PathKey,
 }
 
-// Returns these paths with their keys.
+// Returns the paths with these bytes, each with its key.
 fn keyed_paths(alloc: Global, strings: &[Vec<u8>]) -> Result<Vec<KeyedPath<'_>>, AllocError> {
     let mut paths = Vec::new(alloc);
     for string in strings {
@@ -30,8 +29,8 @@ fn keyed_paths(alloc: Global, strings: &[Vec<u8>]) -> Result<Vec<KeyedPath<'_>>,
     Ok(paths)
 }
 
-// Returns true if two keys and their bytes have the order of the paths, and the keys are equal if
-// and only if the paths are.
+// Returns true if two keys, and also their bytes, have the same order as their paths, and the keys
+// are equal if and only if the paths are equal.
 fn orders_match(a: &KeyedPath<'_>, b: &KeyedPath<'_>) -> bool {
     let order = a.path.cmp(&b.path);
     a.key.cmp(&b.key) == order
@@ -52,8 +51,8 @@ fn keys_match_paths(a: &KeyedPath<'_>, b: &KeyedPath<'_>) -> bool {
     orders_match(a, b) && prefixes_match(a, b)
 }
 
-// Returns the number of paths before the first one that does not compare with `a` as its key
-// compares with the key of `a`.
+// Returns the number of paths before the first path `b` for which comparing the keys of `a` and `b`
+// has another result than comparing the paths.
 fn count_matching(a: &KeyedPath<'_>, paths: &[KeyedPath<'_>]) -> usize {
     for (count, b) in paths.iter().enumerate() {
         if !keys_match_paths(a, b) {

@@ -1,5 +1,5 @@
-//! Keys that own their bytes, compared with keys written to buffers: for all short strings, as
-//! paths and as keys, and for random strings.
+//! Compares keys that own their bytes with keys that are written to buffers. The inputs are all
+//! short strings, as paths and as keys, and random strings.
 use path_keys::{KeyError, PathKey, is_key, key_len, path_of, write_key, write_path_of};
 use std::alloc::{AllocError, Global};
 use std::test::Fail;
@@ -45,8 +45,8 @@ fn is_path_written(key: &[u8], path: &[u8]) -> bool {
     needed == Some(len) && written == Some(len) && is_untouched && is_exact
 }
 
-// Returns true if the bytes are a key and read back as the path that is written, or if they are not
-// a key and nothing is written.
+// If the bytes are a key, returns true if `path_of` and `write_path_of` read the same path from
+// them. Otherwise returns true if both refuse them, and nothing is written.
 fn is_read(alloc: Global, bytes: &[u8]) -> bool {
     match path_of(alloc, bytes) {
         Ok(path) => is_key(bytes) && is_path_written(bytes, path.as_path().bytes),
@@ -58,7 +58,7 @@ fn is_read(alloc: Global, bytes: &[u8]) -> bool {
     }
 }
 
-// Returns true if the key's parent is the key of the path's parent.
+// Returns true if the key's parent is the key of the path's parent, or if both have none.
 fn has_parent(alloc: Global, path: Path<'_>, key: &PathKey) -> Result<bool, AllocError> {
     match (path.parent(), key.parent()) {
         (Some(parent), Some(bytes)) => Ok(PathKey::from_path(alloc, parent)?.as_bytes() == bytes),
@@ -67,15 +67,14 @@ fn has_parent(alloc: Global, path: Path<'_>, key: &PathKey) -> Result<bool, Allo
     }
 }
 
-// Returns true if the bytes are the bytes of the name, with each byte less than a slash raised by
-// one.
+// Returns true if `bytes` is `name`, except that each byte less than a slash is one greater.
 fn is_escaped_name(bytes: &[u8], name: &[u8]) -> bool {
     bytes.len() == name.len()
         && bytes.iter().zip(name.iter()).all(|(b, n)| *b
             == if *n < b'/' { n.saturating_add(1) } else { *n })
 }
 
-// Returns true if the key's name is the path's file name.
+// Returns true if the key's name is the path's file name as written in keys, or if both have none.
 fn has_name(path: Path<'_>, key: &PathKey) -> bool {
     match (path.file_name(), key.name()) {
         (Some(name), Some(bytes)) => is_escaped_name(bytes, name.as_bytes()),

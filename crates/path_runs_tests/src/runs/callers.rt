@@ -1,4 +1,5 @@
-//! What a caller can prove about chains and loops over a walk that was passed in.
+//! Functions over a walk that is a parameter. They show what a caller can prove about chains of
+//! iterators and loops.
 ghost use Rattle.std.specs.Prelude.{◌≡◌, IfOk, length, map, reverse};
 ghost use Rattle.unix_path.specs.Cursor.{cursor_values, iter_bytes};
 ghost use Rattle.unix_path.specs.Parts.{value_bytes};

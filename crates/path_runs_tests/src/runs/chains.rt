@@ -1,4 +1,5 @@
-//! What a caller can prove about chains over a path's components, names and ancestors.
+//! Functions with contracts. They show what a caller can prove about chains of iterators over a
+//! path's components, names and ancestors.
 ghost use Rattle.std.specs.Prelude.{◌≡◌, ◌≢◌, ◌↔◌, ◌<◌, ◌≤◌, ◌+◌, ◌-◌, ℕ, IfNone, IfOk, IfSome};
 ghost use Rattle.std.specs.Prelude.{IsSome, IsTrue, Some, count_by, drop, is_some, length, map};
 ghost use Rattle.std.specs.Prelude.{option_map, reverse, slice_get, slice_index_or, take};

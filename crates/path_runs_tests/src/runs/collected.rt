@@ -1,4 +1,4 @@
-//! The rests of walks, collected and written, compared with their canonical forms.
+//! Compares the rests of walks, collected and written to buffers, with their canonical forms.
 use path_runs::canonical::{canonical, collected, write_canonical};
 use std::alloc::{AllocError, Global};
 use std::test::Fail;
@@ -8,15 +8,15 @@ use unix_path::{Components, Path};
 // The number of strings of at most 5 letters over an alphabet of three.
 const SHORTER_STRINGS: usize = 364;
 
-// The number of lists of at most 3 turns, and of at most 4 turns.
+// The number of lists of at most 3 turns. `LISTS` is the number of lists of at most 4 turns.
 const SHORTER_LISTS: usize = 15;
 
 const LISTS: usize = 31;
 
 const RANDOM_STRINGS: u32 = 10_000;
 
-// Returns what these turns leave of the walk. The letter `f` takes the first component, any other
-// letter the last one.
+// Returns the rest of the walk after the turns. The letter `f` takes the first component, and any
+// other letter takes the last one.
 fn rest_after<'a>(walk: Components<'a>, turns: &[u8]) -> Components<'a> {
     let mut rest = walk;
     for turn in turns {
@@ -29,8 +29,8 @@ fn rest_after<'a>(walk: Components<'a>, turns: &[u8]) -> Components<'a> {
     rest
 }
 
-// Returns true if the rest of the walk is collected to the bytes of its canonical form, and these
-// are written to a buffer of exactly their length.
+// Returns true if collecting the rest of the walk returns its canonical form, and `write_canonical`
+// writes the same bytes to a buffer of exactly their length.
 fn is_collected(alloc: Global, rest: Components<'_>) -> Result<bool, AllocError> {
     let spelled = canonical(alloc, rest.as_path())?;
     let bytes = spelled.as_path().bytes;
@@ -40,8 +40,7 @@ fn is_collected(alloc: Global, rest: Components<'_>) -> Result<bool, AllocError>
     Ok(joined.as_path().bytes == bytes && len == bytes.len() && out.as_slice() == bytes)
 }
 
-// Returns the number of lists of turns after which the rest of the path is collected to its
-// canonical form.
+// Returns the number of lists of turns after which `is_collected` is true for the rest of the path.
 fn count_collected(alloc: Global, path: &[u8], lists: &[Vec<u8>]) -> Result<usize, AllocError> {
     let walk = Path::from_bytes(path).components();
     let mut count = 0_usize;

@@ -1,5 +1,5 @@
-//! Random lists of edits, compared with the methods of the same names, and with the methods that
-//! edit a copy.
+//! Compares random lists of edits with the `PathBuf` methods of the same names, and with the `Path`
+//! methods that return an edited copy.
 use path_runs::edits::{Answer, Edit, apply};
 use std::alloc::{AllocError, Global};
 use std::test::Fail;
@@ -11,8 +11,8 @@ const LISTS: u32 = 2_000;
 
 const EXTENSIONS: u32 = 10_000;
 
-// Edits that leave filler, `..`, and names with and without dots, some of which have 64 bytes or
-// more.
+// Edits that leave filler, `..`, and names with and without dots. Some of the names have 64 bytes
+// or more.
 static EDITS: [Edit<'static>; 32] = [
     Edit::Push(Path { bytes: b"" }),
     Edit::Push(Path { bytes: b"." }),
@@ -82,7 +82,8 @@ fn plain_answer(edited: Result<(), AllocError>) -> Option<Answer> {
     }
 }
 
-// Calls the method with the edit's name, and returns its answer; `None` if an allocation fails.
+// Calls the method with the edit's name, and returns the method's result as an answer, or `None` if
+// an allocation fails.
 fn call_method(path: &mut PathBuf, edit: &Edit<'_>) -> Option<Answer> {
     match edit {
         Edit::Push(other) => plain_answer(path.push(*other)),
@@ -97,8 +98,8 @@ fn call_method(path: &mut PathBuf, edit: &Edit<'_>) -> Option<Answer> {
     }
 }
 
-// Returns a copy with the edit made, by the method that edits a copy; `None` if there is no such
-// method.
+// Calls the method that returns a copy with the edit made, and returns its result, or `None` if
+// there is no such method.
 fn edited_copy(
     alloc: Global,
     path: Path<'_>,
@@ -118,8 +119,8 @@ fn edited_copy(
     }
 }
 
-// Returns true if the method that edits a copy, if there is one, returned this path, or rejected
-// the extension as the answer says.
+// Returns true if `copied` has the bytes of `edited`, or if the method rejected the extension and
+// the answer is `Separator`. If there is no such method, returns true.
 fn copy_matches(
     copied: Option<Result<PathBuf, ExtensionError>>,
     edited: Path<'_>,
@@ -134,8 +135,8 @@ fn copy_matches(
     }
 }
 
-// Returns true if each edit has the answer of its method, and the path that it leaves is the edited
-// copy.
+// Makes the edits by calls of methods. Returns true if each edit's answer is the result of its
+// method, and the edited path has the bytes of the edited copy.
 fn answers_match(
     alloc: Global,
     path: &mut PathBuf,
@@ -154,7 +155,8 @@ fn answers_match(
     edits.len() == answers.len()
 }
 
-// Returns true if the list leaves the bytes that the methods leave, and returns the same answers.
+// Returns true if applying the list leaves the same bytes and returns the same answers as calling
+// the methods.
 fn list_matches_methods(
     alloc: Global,
     start: &[u8],
@@ -181,7 +183,7 @@ fn lists_are_their_methods(rt: HostRuntime) -> Result<(), Fail> {
     Ok(())
 }
 
-// Returns a random extension. Half of them have no slash.
+// Returns a random extension. In half of the cases, all slashes are left out.
 fn extension_from(alloc: Global, random: &mut Random) -> Result<Vec<u8>, AllocError> {
     let keeps_slashes = random.next() >> 32 & 1 == 0;
     let mut bytes = Vec::new(alloc);
@@ -193,7 +195,7 @@ fn extension_from(alloc: Global, random: &mut Random) -> Result<Vec<u8>, AllocEr
     Ok(bytes)
 }
 
-// Returns true if edits and methods set and add the extension in the same way.
+// Returns true if setting and adding the extension have the same results by edits as by methods.
 fn extension_matches(alloc: Global, start: &[u8], extension: &[u8]) -> Result<bool, AllocError> {
     let extension = UnixStr::from_bytes(extension);
     let set = [Edit::SetExtension(extension)];
@@ -213,7 +215,7 @@ fn extensions_are_their_methods(rt: HostRuntime) -> Result<(), Fail> {
         let is_match = extension_matches(rt.alloc(), &start, &extension)?;
         assert!(rt; is_match, "{start:?} {extension:?}");
     }
-    // A name of many dots.
+    // A name that consists of many dots.
     let dots = vec![in rt.alloc(); b'.'; 100_000]?;
     assert!(rt; extension_matches(rt.alloc(), &dots, b"x")?);
     Ok(())

@@ -1,10 +1,10 @@
-//! Rows of paths that are joined to a base again, and the text of an error.
+//! Tests of `rejoin`, and of the text of an error.
 use path_runs::edits::{ApplyError, rejoin};
 use std::alloc::{AllocError, Global};
 use unix_path::Path;
 use unix_path::bytes::UnixStr;
 
-// A path, a base, and what follows the base in the path, joined to the base; `None` if the path
+// A path, a base, and the base joined with the rest of the path after it, or `None` if the path
 // doesn't start with the base.
 type BaseRow = (&'static str, &'static str, Option<&'static str>);
 
@@ -21,7 +21,7 @@ static JOINS_TO_A_BASE: [BaseRow; 6] = [
     ("foo/bar", "foo/bar/baz", None),
 ];
 
-// Returns true if `rejoin` returns what the row says.
+// Returns true if `rejoin` returns the path in the row, or `None` if the row has none.
 fn is_rejoined(alloc: Global, row: &BaseRow) -> bool {
     match rejoin(alloc, Path::from_text(row.0), Path::from_text(row.1)) {
         Ok(Some(joined)) => match row.2 {
@@ -40,7 +40,7 @@ fn rows_of_joins_to_a_base(rt: HostRuntime) {
     }
 }
 
-// Returns true if the error is printed as its text, and padded to a width.
+// Returns true if the error is printed as `out of memory`, and padded if a width is given.
 fn is_printed(alloc: Global, error: &ApplyError) -> bool {
     match format!(in alloc; "{error}|{error:>15}") {
         Ok(text) => text.as_str() == "out of memory|  out of memory",

@@ -1,4 +1,5 @@
-//! Callers of laws. A law that is called in a body is a fact there, and no function needs a proof.
+//! Callers of laws. The proof of a function can use each law that the function calls. No function
+//! here needs a proof by hand.
 ghost use Rattle.std.specs.Prelude.{◌≡◌, ◌≤◌, ◌↔◌, ◌++◌, false, [], map, reverse, IfOk, IsTrue};
 ghost use Rattle.std.specs.Prelude.{IsFalse, length};
 ghost use Rattle.std.specs.Cmp.Lexicographic.{slice_cmp};
@@ -124,8 +125,8 @@ fn order_of_names(a: UnixStr<'_>, b: UnixStr<'_>) -> Ordering
     a.cmp(&b)
 }
 
-// Takes the first component of the rest, and then the last one. These two, with the new rest
-// between them, are the rest before.
+// Takes the first component of the rest, and then the last one. The first component, the new rest
+// and the last component are together the old rest.
 fn take_both<'a>(parts: &mut Components<'a>) -> (Option<Component<'a>>, Option<Component<'a>>)
     ensures { map value_of (option_to_list result.0) ++ cursor_values parts.new
         ++ reverse (map value_of (option_to_list result.1)) ≡ cursor_values parts.old }
@@ -153,7 +154,8 @@ fn laws_are_facts(rt: HostRuntime) -> Result<(), Fail> {
     Ok(())
 }
 
-// Returns true if these names and components are distinguished, and have this order.
+// Returns true if the names `a` and `ab`, and some different components, compare as different and
+// in the expected order.
 fn are_in_order() -> bool {
     let (a, b) = (UnixStr::new("a"), UnixStr::new("ab"));
     is_same_name(a, a)

@@ -1,4 +1,4 @@
-//! What a caller can prove about loops over a path's components, by their invariants only.
+//! Loops over a path's components. They show what a caller can prove with only loop invariants.
 ghost use Rattle.std.specs.Prelude.{◌≡◌, IfOk, is_some, map, reverse, filter};
 ghost use Rattle.std.specs.List.{position_or_len};
 ghost use Rattle.unix_path.specs.Names.{name_of};

@@ -1,17 +1,17 @@
-//! All pairs of short paths, compared in the same way as the lists of their components.
+//! Tests that two paths compare like the lists of their components, for all pairs of short paths.
 use std::alloc::{AllocError, Global};
 use std::test::Fail;
 use test_inputs::strings_over;
 use unix_path::{Component, Path};
 
-// The number of strings of at most 4 letters over an alphabet of four: 1, 4, 16, 64 and 256 of the
-// lengths 0 to 4.
+// The number of strings of at most 4 letters over an alphabet of four. There are 1, 4, 16, 64 and
+// 256 strings of the lengths 0 to 4.
 const STRINGS: usize = 341;
 
 // The number of strings of at most 3 letters over an alphabet of four.
 const SHORTER_STRINGS: usize = 85;
 
-// Returns the components of the path of these bytes.
+// Returns the components of the path with these bytes.
 fn list_of<'a>(alloc: Global, bytes: &'a [u8]) -> Result<Vec<Component<'a>>, AllocError> {
     Path::from_bytes(bytes).components().collect(alloc)
 }
@@ -35,7 +35,7 @@ fn compare_as_lists(a: &[u8], v: &[Component<'_>], b: &[u8], w: &[Component<'_>]
     (p == q) == (v == w) && p.cmp(&q) == v.cmp(w)
 }
 
-// Returns the number of paths that compare with the first path as the lists of their components do.
+// Returns the number of paths that compare with the path `a` as the lists of their components do.
 fn count_matching_paths(
     a: &[u8],
     v: &[Component<'_>],

@@ -1,4 +1,5 @@
-//! Random byte strings and a long run of invalid bytes, as lossy texts and displayed.
+//! Tests that paths are displayed as their lossy texts: paths of random bytes, and a path with a
+//! long run of invalid bytes.
 use std::alloc::{AllocError, Global};
 use std::test::Fail;
 use test_inputs::Random;
@@ -6,8 +7,8 @@ use unix_path::Path;
 
 const STRINGS: u32 = 10_000;
 
-// Returns true if the path is this text and is shown as it, or if it is not valid UTF-8 and is
-// shown with replacement characters.
+// Returns true if the path is `text` and `shown` is the same text, or if there is no text, the path
+// is not valid UTF-8, and `shown` has a replacement character.
 fn is_lossy(path: Path<'_>, text: Option<&str>, shown: &str) -> bool {
     match text {
         Some(text) => path.to_str() == Some(text) && shown == text,
@@ -15,8 +16,8 @@ fn is_lossy(path: Path<'_>, text: Option<&str>, shown: &str) -> bool {
     }
 }
 
-// Returns true if the path is displayed as its lossy text, which is the path itself if std's
-// `from_utf8` accepts its bytes.
+// Returns true if the path is displayed as its lossy text. If std's `from_utf8` accepts the bytes,
+// this text has to be the path itself.
 fn displays_as_lossy(alloc: Global, bytes: &[u8]) -> Result<bool, AllocError> {
     let path = Path::from_bytes(bytes);
     let shown = format!(in alloc; "{}", path.display())?;

@@ -1,4 +1,4 @@
-//! Callers of tables that need no line of proof.
+//! Callers of tables. The prover proves their contracts without help.
 ghost use Rattle.std.specs.Prelude.{◌≡◌, IfOk, IsSome, length};
 ghost use Rattle.std.specs.BTreeMap.{is_at};
 ghost use Rattle.std.specs.Map.{set_value};
@@ -54,8 +54,8 @@ fn count_under<V>(table: &PathTable<V>, base: &PathBuf) -> usize
     table.walk_under(base).count()
 }
 
-// Returns true if the path `a/b` has the value inserted at `a//b/`, then the value written, and no
-// value once it is removed.
+// Returns true if `path`, which is `a/b`, first has the value inserted at `a//b/`, then the value
+// written at `path`, and no value once it is removed.
 fn is_found(alloc: Global, table: &mut PathTable<u8>, path: &PathBuf) -> Result<bool, AllocError> {
     let found = insert_then_get(table, PathBuf::from_text(alloc, "a//b/")?, path, 7)?;
     write(table, path, 8);

@@ -1,4 +1,5 @@
-//! Random calls of a table, compared with a list of the same paths and values.
+//! Random calls of a table and of a list with the same paths and values. Their results are
+//! compared.
 use path_table::PathTable;
 use std::alloc::{AllocError, Global};
 use std::test::Fail;
@@ -54,7 +55,8 @@ impl ListTable {
         }
     }
 
-    // Returns true if these are the rests of the paths that start with the base, in path order.
+    // Returns true if `found` are the rests after `base`, in path order, of all paths that start
+    // with `base`, with their values.
     fn has_under(&self, base: Path<'_>, found: &[(Path<'_>, &u32)]) -> bool {
         let mut count = 0usize;
         for (path, value) in &self.entries {
@@ -72,7 +74,8 @@ impl ListTable {
     }
 }
 
-// Makes one call of the table and one of the list, and returns true if the results are the same.
+// Makes the same random call of the table and of the list, and returns true if the results are the
+// same.
 fn calls_match(
     alloc: Global,
     random: &mut Random,
@@ -95,8 +98,8 @@ fn calls_match(
     })
 }
 
-// Calls a table and a list in the same way. Returns the number of such pairs of calls before the
-// first pair whose results differ, or that leaves different numbers of files.
+// Makes the same calls of a table and of a list. Returns the number of calls before the first one
+// whose results differ, or after which the two have different numbers of entries.
 fn count_matching_calls(alloc: Global, seed: u64) -> Result<u32, AllocError> {
     let mut random = Random::new(seed);
     let mut table = PathTable::new(alloc);

@@ -1,4 +1,4 @@
--- The lines of the input, and what is written for them.
+-- The lines of the input, and the bytes that are written for them.
 pub mod SplitLemmas
 pub mod CallLemmas
 pub mod WriteLemmas

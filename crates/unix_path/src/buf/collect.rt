@@ -10,9 +10,9 @@ use crate::path::Path;
 use std::alloc::{AllocError, Global};
 
 impl PathBuf {
-    /// Returns the empty path joined with each of these paths, one after the other.
+    /// Returns the empty path with each of `items` pushed onto it, one after the other.
     ///
-    /// The caller has to show that `items` may be asked for a next item, and that it ends.
+    /// The caller has to prove that `next` may be called on `items`, and that `items` is finite.
     /// Allocates as the path grows, and fails if an allocation fails. If there are no items, or if
     /// all are empty, it does not allocate, and succeeds.
     ///
@@ -33,14 +33,14 @@ impl PathBuf {
         Ok(path)
     }
 
-    /// Pushes each of these paths, one after the other.
+    /// Pushes each of `items`, one after the other.
     ///
-    /// The caller has to show that `items` may be asked for a next item, and that it ends.
+    /// The caller has to prove that `next` may be called on `items`, and that `items` is finite.
     /// Allocates as the path grows. If an allocation fails, the paths pushed before stay joined.
     ///
-    /// It does not allocate, and succeeds, if no join on the way is longer than the capacity. That
-    /// holds if there are no items, or if the items, with one byte more for each, fit the spare
-    /// capacity.
+    /// It does not allocate, and succeeds, if the path is never longer than the capacity, not even
+    /// between two pushes. This holds if there are no items, or if the lengths of the items, plus
+    /// one byte for each item, add up to at most the spare capacity.
     ///
     /// `a`, extended by `b`, `/c` and `d`, is `/c/d`.
     #[tactic(auto, using(crate::proofs::lemmas::edits::SeparatorLemmas::join_all_of_snoc))]

@@ -78,9 +78,9 @@ impl From<UnixString> for PathBuf {
     }
 }
 
-/// Converts the text into the path with its bytes, in the same memory.
+/// Converts the string into the path with the same bytes, in the same memory.
 ///
-/// For the text `/tmp/` it is the path `/tmp/`.
+/// For the string `/tmp/` it is the path `/tmp/`.
 impl From<String> for PathBuf {
     ghost from_gives = { λ text p. path_bytes p ≡ string_bytes text };
 

@@ -16,7 +16,7 @@ use crate::path_end::needs_no_separator;
 use std::alloc::{AllocError, Global};
 use unix_bytes::bytes::{UnixStr, UnixString};
 
-// Returns the byte that a join puts between its base and a path without a root, or `None` if it
+// Returns the byte that a join puts between `base` and `path`, which has no root, or `None` if it
 // puts none there.
 #[inline]
 #[tactic(auto, using(crate::proofs::lemmas::edits::JoinLemmas::rootless_joins))]
@@ -31,8 +31,8 @@ fn join_separator(base: &[u8], path: Path<'_>) -> Option<u8>
     Some(b'/')
 }
 
-// Returns how many bytes of its base a join keeps, and the byte that it puts between them and the
-// path, if any.
+// Returns how many bytes of `base` a join keeps, and the byte that the join puts between them and
+// `path`, if any.
 #[inline]
 #[tactic(auto, using(crate::proofs::lemmas::edits::SeparatorLemmas::join_cases))]
 fn join_cut(base: &[u8], path: Path<'_>) -> (usize, Option<u8>)
@@ -46,7 +46,7 @@ fn join_cut(base: &[u8], path: Path<'_>) -> (usize, Option<u8>)
     (base.len(), join_separator(base, path))
 }
 
-// Returns the sum of `keep`, the separator's length (0 or 1) and the slice's length.
+// Returns the sum of `keep`, the length of `separator` (0 or 1) and the length of `more`.
 #[inline]
 pub(super) fn total_len(keep: usize, separator: Option<u8>, more: &[u8]) -> usize
     requires { keep < 2 ^ 63 }
@@ -58,7 +58,7 @@ pub(super) fn total_len(keep: usize, separator: Option<u8>, more: &[u8]) -> usiz
     }
 }
 
-// Appends the separator's byte, if there is one, and then the slice.
+// Appends the byte `separator`, if there is one, and then `more`.
 #[inline]
 fn push_with_separator(
     text: &mut UnixString,
@@ -78,7 +78,7 @@ fn push_with_separator(
     text.push(UnixStr::from_bytes(more))
 }
 
-// Returns the path that consists of the base, the separator's byte if there is one, and the slice.
+// Returns the path that consists of `base`, the byte `separator` if there is one, and `more`.
 // Allocates once, or not at all if the result is empty.
 pub(super) fn concat_with_separator(
     alloc: Global,
@@ -97,10 +97,10 @@ pub(super) fn concat_with_separator(
 }
 
 impl PathBuf {
-    /// Joins `path` to the end.
+    /// Joins `path` to this path, in place.
     ///
-    /// If `path` begins with `/`, it replaces all bytes. Otherwise a `/` is put before it, unless
-    /// the bytes are empty or end in `/`.
+    /// If `path` begins with `/`, it replaces all bytes of this path. Otherwise it is appended,
+    /// after a `/` unless this path is empty or ends in `/`.
     ///
     /// Allocates only if the join is longer than the capacity, and then once. If the allocation
     /// fails, the bytes are unchanged.
@@ -130,7 +130,8 @@ impl PathBuf {
         self.inner.push(path.as_unix_str())
     }
 
-    // Replaces all bytes. Not inlined, so that `push`, which always is, stays small.
+    // Replaces all bytes by those of `path`. Not inlined, so that `push`, which is always inlined,
+    // stays small.
     #[inline(never)]
     fn replace(&mut self, path: Path<'_>) -> Result<(), AllocError>
         ensures ok { OnOk result (path_bytes self.new ≡ path.entry.bytes.now) }
@@ -162,11 +163,12 @@ impl PathBuf {
 
     /// Removes the file name if there is one, as `pop` does, and then pushes the new name.
     ///
-    /// The name isn't checked: a name that begins with `/` replaces all bytes, and `..` is kept.
-    /// Allocates only if the result is longer than the capacity, and then once. If the allocation
-    /// fails, the bytes are unchanged.
+    /// The name isn't checked: a name that begins with `/` replaces all bytes, and the name `..` is
+    /// pushed like any other. Allocates only if the result is longer than the capacity, and then
+    /// once. If the allocation fails, the bytes are unchanged.
     ///
-    /// `foo/.` with the file name `bar` is `bar`, and `foo/..` is `foo/../bar`.
+    /// `foo/.` with the file name `bar` is `bar`, and `foo/..` with the file name `bar` is
+    /// `foo/../bar`.
     #[tactic(auto, using(crate::proofs::lemmas::edits::SeparatorLemmas::beginnings))]
     pub fn set_file_name(&mut self, name: UnixStr<'_>) -> Result<(), AllocError>
         ensures ok { OnOk result
@@ -180,10 +182,10 @@ impl PathBuf {
         self.replace_end(keep, separator, name.bytes)
     }
 
-    /// Replaces everything after the first `keep` bytes by the separator's byte, if there is one,
-    /// and the slice.
+    /// Replaces everything after the first `keep` bytes by the byte `separator`, if there is one,
+    /// and `more`.
     ///
-    /// The bytes aren't checked. `stem_end` and `name_end` return how many bytes an edit of the
+    /// The new bytes aren't checked. `stem_end` and `name_end` return how many bytes an edit of the
     /// extension keeps. Allocates only if the result is longer than the capacity, and then once. If
     /// the allocation fails, the bytes are unchanged.
     ///

@@ -20,8 +20,8 @@ use unix_bytes::bytes::UnixStr;
 
 /// The error of setting or adding an extension.
 ///
-/// Each variant is printed as the text in its comment, padded by width, precision, fill and
-/// alignment. Rust has no such error: it panics if the extension contains a separator.
+/// Each variant is printed as the text in its comment, formatted like a `str` (width, precision,
+/// fill and alignment). Rust has no such error: it panics if the extension contains a separator.
 ///
 /// Setting the extension `x/y` on `a` fails with `Separator`.
 #[derive(Debug, Drop)]
@@ -32,7 +32,7 @@ pub enum ExtensionError {
     Memory(AllocError),
 }
 
-/// Writes the variant's text, padded by width, precision, fill and alignment.
+/// Writes the variant's text, formatted like a `str` (width, precision, fill and alignment).
 ///
 /// `ExtensionError::Separator` is printed as `extension contains a separator`.
 impl fmt::Display for ExtensionError {
@@ -73,7 +73,7 @@ impl PathBuf {
     /// The error is `Separator` if and only if the extension contains a `/`, whether or not there
     /// is a file name. It is returned before anything is allocated. The error is `Memory` if the
     /// allocation fails. Both errors leave the bytes unchanged. Allocates only if the result is
-    /// longer than the capacity, and then once. Rust panics for a separator.
+    /// longer than the capacity, and then once. Rust panics if the extension contains a separator.
     ///
     /// `foo.rs/.` with the extension `txt` is `foo.txt`.
     #[tactic(auto, using(crate::proofs::lemmas::edits::EditLemmas::extension_cases))]
@@ -112,7 +112,7 @@ impl PathBuf {
     /// The error is `Separator` if and only if the extension contains a `/`, whether or not there
     /// is a file name. It is returned before anything is allocated. The error is `Memory` if the
     /// allocation fails. Both errors leave the bytes unchanged. Allocates only if the result is
-    /// longer than the capacity, and then once. Rust panics for a separator.
+    /// longer than the capacity, and then once. Rust panics if the extension contains a separator.
     ///
     /// `foo.tar/.` with the extension `gz` added is `foo.tar.gz`.
     #[tactic(auto, using(crate::proofs::lemmas::names::NameEndLemmas::added_cases))]
@@ -147,7 +147,8 @@ impl PathBuf {
         Ok(true)
     }
 
-    // Does the same as `replace_end`, but grows by no more bytes than it needs.
+    // Does the same as `replace_end`, but if the capacity has to grow, it grows to exactly the new
+    // length.
     #[inline]
     fn replace_end_exact(
         &mut self,
@@ -177,8 +178,8 @@ impl<'a> Path<'a> {
     ///
     /// The error is `Separator` if and only if the extension contains a `/`. It is returned before
     /// anything is allocated. The error is `Memory` if the allocation fails. Allocates once. If the
-    /// result is empty, it does not allocate, and succeeds. Rust panics for a separator, and
-    /// returns `..` for `..a` whatever the extension.
+    /// result is empty, it does not allocate, and succeeds. Rust panics if the extension contains a
+    /// separator, and returns `..` for the path `..a` whatever the extension.
     ///
     /// `foo.rs` with the extension `txt` is `foo.txt`, and `..` stays `..`.
     #[tactic(auto, using(crate::proofs::lemmas::edits::EditLemmas::extension_cases))]
@@ -214,7 +215,8 @@ impl<'a> Path<'a> {
     ///
     /// The error is `Separator` if and only if the extension contains a `/`. It is returned before
     /// anything is allocated. The error is `Memory` if the allocation fails. Allocates once. If the
-    /// result is empty, it does not allocate, and succeeds. Rust panics for a separator.
+    /// result is empty, it does not allocate, and succeeds. Rust panics if the extension contains a
+    /// separator.
     ///
     /// `foo.tar` with the extension `gz` added is `foo.tar.gz`, and `..` stays `..`.
     #[tactic(auto, using(crate::proofs::lemmas::names::NameEndLemmas::added_cases))]

@@ -1,4 +1,4 @@
-//! The spare capacity of an owned path: how it is reserved and released.
+//! Reserving and releasing the spare capacity of an owned path.
 ghost use Rattle.std.specs.Prelude.{◌≡◌, ◌≤◌, length, max, min, OnOk, IsOk};
 ghost use Rattle.unix_path.specs.Buffers.{path_bytes, spare_capacity, capacity};
 
@@ -40,8 +40,8 @@ impl PathBuf {
 
     /// Releases the spare capacity, so that the capacity equals the length.
     ///
-    /// If there is no spare capacity, it does not allocate. Otherwise moving the bytes can fail.
-    /// The bytes are then unchanged, and the capacity is no greater than before.
+    /// If there is no spare capacity, it does not allocate. Otherwise it moves the bytes, which can
+    /// fail. After a failure the bytes are unchanged, and the capacity is no greater than before.
     ///
     /// For `foo` with the capacity 10, the capacity is then 3.
     pub fn shrink_to_fit(&mut self) -> Result<(), AllocError>
@@ -55,9 +55,9 @@ impl PathBuf {
 
     /// Lowers the capacity to `min_capacity` bytes, or to the path's length if that is greater.
     ///
-    /// If the capacity is already no greater, it is kept and nothing is allocated. Otherwise moving
-    /// the bytes can fail. The bytes are then unchanged, and the capacity is no greater than
-    /// before.
+    /// If the capacity is already no greater than that, it is kept and nothing is allocated.
+    /// Otherwise the call moves the bytes, which can fail. After a failure the bytes are unchanged,
+    /// and the capacity is no greater than before.
     ///
     /// For `foo` with the capacity 10, `shrink_to(5)` makes it 5, `shrink_to(0)` makes it 3, and
     /// `shrink_to(20)` leaves it.

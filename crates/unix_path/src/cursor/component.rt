@@ -8,8 +8,8 @@ use unix_bytes::bytes::UnixStr;
 
 /// One component of a path.
 ///
-/// Two components are equal if and only if they are of one kind and, if they are names, have the
-/// same bytes. `RootDir` sorts first, then `CurDir`, then `ParentDir`, then the names by their
+/// Two components are equal if and only if they are of the same kind and, if they are names, have
+/// the same bytes. `RootDir` sorts first, then `CurDir`, then `ParentDir`, then the names by their
 /// bytes. A hasher is fed the component's bytes, a slash, and zeros up to a multiple of eight
 /// bytes. Rust's `Component` also has `Prefix`.
 ///
@@ -54,7 +54,7 @@ impl<'a> Component<'a> {
         Path::new(self.as_unix_str())
     }
 
-    // Returns true if and only if the two components have the same value.
+    // Compares two components like `==`, with a contract about their values.
     #[inline]
     pub(crate) fn has_same_value(self, other: Component<'_>) -> bool
         ensures { IsTrue result ↔ (value_of self.entry ≡ value_of other.entry) }

@@ -8,7 +8,7 @@ ghost use Rattle.unix_path.specs.Views.{value_of};
 use crate::cursor::Component;
 use std::hash::{Hash, Hasher};
 
-// Returns `rest`, a slash, and zeros, as a little-endian number of eight bytes.
+// Returns the number whose eight bytes, in little-endian order, are `rest`, a slash, and zeros.
 #[inline]
 fn padded_tail(rest: &[u8]) -> u64
     requires { length rest.now < 8 }

@@ -10,8 +10,8 @@ use unix_bytes::bytes::UnixStr;
 
 /// A walk that yields each component of a path as a byte string, from both ends.
 ///
-/// A copy goes on independently and copies no bytes. A walk that has ended yields nothing more at
-/// either end.
+/// Copying a walk copies no bytes, and the copy advances independently. A walk that has ended
+/// yields nothing more at either end.
 ///
 /// For `///foo///bar` it yields `/`, `foo` and `bar`.
 #[must_use]
@@ -77,7 +77,7 @@ impl<'a> DoubleEndedIterator for Iter<'a> {
 
 impl FusedIterator for Iter<'_> {}
 
-// The bytes of each component that remains, as a list.
+// Its debug form lists the bytes of each remaining component.
 #[derive(Clone, Copy)]
 struct BytesList<'a>(Iter<'a>);
 

@@ -44,8 +44,8 @@ impl PartialOrd for Components<'_> {
     }
 }
 
-/// Walks are ordered by the first of their remaining components that differ, as `Component` orders
-/// them. If none differ, the walk with fewer remaining components comes first.
+/// Walks are ordered by their first remaining components that differ, in the order of `Component`.
+/// If none differ, the walk with fewer remaining components comes first.
 ///
 /// The walk over `a/b` comes before the walk over `a.b`, since the name `a` comes before `a.b`.
 impl Ord for Components<'_> {

@@ -6,7 +6,8 @@ use std::iter::FusedIterator;
 
 /// A walk over a path, its parent, the parent's parent, and so on.
 ///
-/// A copy goes on independently and copies no bytes. A walk that has ended yields nothing more.
+/// Copying a walk copies no bytes, and the copy advances independently. A walk that has ended
+/// yields nothing more.
 ///
 /// For `/foo` it yields `/foo` and `/`.
 #[must_use]

@@ -52,7 +52,7 @@ fn split_lead(path: &[u8]) -> (usize, Component<'_>)
 }
 
 // Splits off the first component, and the filler after it. Returns the length of both together, and
-// the component.
+// the component. `has_lead` must be the result of the function `has_lead` for `path`.
 #[inline(always)]
 pub(crate) fn split_first_component(path: &[u8], has_lead: bool) -> (usize, Component<'_>)
     requires some { 0 < length path.now }
@@ -88,8 +88,8 @@ fn is_trailing_simd16(path: &[u8], at: usize) -> bool
     other.to_bitmask() == 0
 }
 
-// Drops blocks of 16 bytes that are all filler from the end of the first `len` bytes, while more
-// than 16 bytes remain. Returns how many bytes remain.
+// Drops blocks of 16 bytes from the end of the first `len` bytes, as long as the block is all
+// filler and more than 16 bytes remain before the drop. Returns how many bytes remain.
 #[inline(never)]
 fn trimmed_blocks_len(path: &[u8], len: usize) -> usize
     requires { len ≤ length path.now }
@@ -104,7 +104,8 @@ fn trimmed_blocks_len(path: &[u8], len: usize) -> usize
 }
 
 // Returns the index where the last component among the first `len` bytes ends, or 0 if there is
-// none. If at least eight bytes of filler follow it, which is rare, reads blocks of 16 bytes.
+// none. If at least eight bytes of filler follow that component, which is rare, reads blocks of 16
+// bytes.
 #[inline]
 pub(crate) fn trimmed_len(path: &[u8], len: usize) -> usize
     requires { len ≤ length path.now }
@@ -122,8 +123,8 @@ pub(crate) fn trimmed_len(path: &[u8], len: usize) -> usize
     end
 }
 
-// Splits off the last component, which is the root or a name, and the filler before it. Returns how
-// many bytes remain, and the component.
+// Splits off the last component, which must be the root or a name, and the filler before it.
+// Returns how many bytes remain, and the component.
 #[inline(always)]
 pub(crate) fn split_last_root_or_name(path: &[u8]) -> (usize, Component<'_>)
     requires some { 0 < length path.now }

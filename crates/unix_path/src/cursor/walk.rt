@@ -15,14 +15,14 @@ use std::iter::FusedIterator;
 /// A walk over the components of a path, from both ends.
 ///
 /// It represents the bytes that remain, from the beginning of the first component not yet yielded
-/// to the end of the last component not yet yielded. A copy goes on independently and copies no
-/// bytes. A walk that has ended yields nothing more at either end.
+/// to the end of the last component not yet yielded. Copying a walk copies no bytes, and the copy
+/// advances independently. A walk that has ended yields nothing more at either end.
 ///
 /// For `///foo///bar` it yields the root, `foo` and `bar`.
-// Only this file uses the fields, and it may change them. `cursor_rest` and `cursor_source` in
-// specs/Cursor define what they represent, and contracts and proofs elsewhere describe a walk only
-// with these definitions. Only `OffsetLemmas` and the proofs of this file's functions unfold
-// `cursor_rest`.
+// Only this file uses the fields, so that they can be replaced. `cursor_rest` and `cursor_source`
+// in specs/Cursor define what the fields represent, and contracts and proofs elsewhere describe a
+// walk only with these definitions. Only `OffsetLemmas`, `CursorLemmas` and the proofs of this
+// file's functions unfold `cursor_rest`.
 #[must_use]
 #[derive(Clone, Copy)]
 pub struct Components<'a> {
@@ -30,7 +30,8 @@ pub struct Components<'a> {
     // The bytes that remain lie between these indices of the source.
     start: usize,
     end: usize,
-    // Whether the source begins with the root or a leading `.`, and whether this component remains.
+    // `has_lead` is true if the source begins with the root or a leading `.`, and `lead_pending` if
+    // this component remains.
     has_lead: bool,
     lead_pending: bool,
     ghost fields: { IsWalk source.now start end has_lead
@@ -50,8 +51,8 @@ impl<'a> Components<'a> {
     ghost use Rattle.unix_path.specs.Cursor.{cursor_rest, cursor_source, cursor_start};
     ghost use Rattle.unix_path.specs.Cursor.{cursor_values, GivesFirstPart, GivesLastPart};
 
-    // Returns the walk over the components of a path. Drops trailing filler at once: for `foo/` the
-    // walk represents `foo`.
+    // Returns the walk over the components of a path. Trailing filler is dropped before the first
+    // step: for `foo/` the walk represents `foo`.
     #[inline]
     pub(crate) fn new(path: &'a [u8]) -> Components<'a>
         ensures rest { cursor_rest result ≡ rest path.now 0 0 }
@@ -82,8 +83,8 @@ impl<'a> Components<'a> {
 
     /// Returns the bytes that remain, as a slice of the path.
     ///
-    /// If none remain, the slice is empty. It then lies at the end of the last yielded component if
-    /// `next` yielded it, and at its beginning if `next_back` did.
+    /// If no bytes remain, the slice is empty. It lies at the end of the component that was yielded
+    /// last if `next` yielded this component, and at its beginning if `next_back` did.
     ///
     /// For `/tmp//foo/` after one `next` it is `tmp//foo`.
     #[must_use]
@@ -117,8 +118,8 @@ impl<'a> Components<'a> {
         Some(last)
     }
 
-    // Returns the last component of a path with its indices. Always inlined, so that a caller pays
-    // only for the fields that it reads.
+    // Returns the last component of a path with the indices that `LastPart` explains. Always
+    // inlined, so that a caller pays only for the fields that it reads.
     #[inline(always)]
     pub(crate) fn last_part(path: &'a [u8]) -> Option<LastPart<'a>>
         ensures none { result ≡ None → values path.now ≡ [] }
@@ -177,7 +178,7 @@ impl<'a> DoubleEndedIterator for Components<'a> {
 
 impl FusedIterator for Components<'_> {}
 
-// The components that remain, as a list.
+// Its debug form lists the remaining components.
 #[derive(Clone, Copy)]
 struct ComponentList<'a>(Components<'a>);
 

@@ -12,9 +12,9 @@ ghost use Rattle.unix_path.specs.declared.path.Path.{Path};
 
 /// The items that remain in a walk are yielded in order by `next`, and in reverse by `next_back`.
 ///
-/// This holds for `Components` (`parts`, `parts_back`), for `Iter` (`items`, `items_back`), and for
-/// `Ancestors` (`ancestors`), which has only `next`. With this law the prover can show what a chain
-/// of iterators over a walk yields.
+/// This holds for `Components` (clauses `parts` and `parts_back`), for `Iter` (`items` and
+/// `items_back`), and for `Ancestors` (`ancestors`), which has only `next`. With this law the
+/// prover can show what a chain of iterators over a walk yields.
 ///
 /// If `a` and `b` remain in a walk, `next` yields `a`, then `b`, and `next_back` yields `b`, then
 /// `a`.
@@ -35,10 +35,10 @@ pub fn walks_in_order()
 /// However calls of `next` and `next_back` are mixed, the items that remained before are those that
 /// `next` yielded, then those that remain, then those that `next_back` yielded, in reverse.
 ///
-/// This holds for every list of calls on every walk of `Components` (`parts`) and of `Iter`
-/// (`items`). The bytes that remain, which `as_path` returns, are the rest of the bytes before. The
-/// rest lacks one leading component for each item that `next` yielded, and one trailing component
-/// for each item that `next_back` yielded (`rest`, `items_rest`).
+/// This holds for every sequence of calls on a `Components` (clause `parts`) or on an `Iter`
+/// (`items`). The bytes that remain, which `as_path` returns, are those that remained before the
+/// calls, without one leading component for each item that `next` yielded, and without one trailing
+/// component for each item that `next_back` yielded (clauses `rest` and `items_rest`).
 ///
 /// On `/a/b/c`, `next`, `next_back` and `next` yield the root and `a` from the front and `c` from
 /// the back, and `b` remains.

@@ -9,9 +9,9 @@ impl<'a> Path<'a> {
     /// Returns the index just after the last `/` of the longest common prefix of both paths, or 0
     /// if that prefix contains no `/`.
     ///
-    /// The prefix is compared byte by byte, not by components. If the index isn't 0, the two paths
-    /// compare as their bytes after it do. A `/` or a `.` piece at the start of these bytes is
-    /// filler, not a component.
+    /// The prefix is compared byte by byte, not by components. If the index isn't 0, the components
+    /// after it determine the order of the two paths. A `/` or a `.` piece directly after the index
+    /// is filler, not a component.
     ///
     /// For `a/./b` and `a/b` it is 2, and for `a/b` and `ab` it is 0.
     #[must_use]

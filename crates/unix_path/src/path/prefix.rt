@@ -16,13 +16,14 @@ use std::fmt;
 
 /// The error of `Path::strip_prefix`: the path does not start with the base.
 ///
-/// It is printed as `prefix not found`, padded by width, precision, fill and alignment.
+/// It is printed as `prefix not found`, formatted like a `str` (width, precision, fill and
+/// alignment).
 ///
 /// `strip_prefix` of `foo/bar` with the base `foo/baz` returns it.
 #[derive(Clone, Copy, Debug, PartialEq, Eq)]
 pub struct StripPrefixError(());
 
-/// Writes `prefix not found`, padded by width, precision, fill and alignment.
+/// Writes `prefix not found`, formatted like a `str` (width, precision, fill and alignment).
 impl fmt::Display for StripPrefixError {
     ghost output = { λ _. Some (codes "prefix not found") };
 
@@ -40,8 +41,8 @@ impl<'a> Path<'a> {
     /// memory. Fails if and only if `starts_with` is false.
     ///
     /// Only whole components count: `foo/bar` has no prefix `foo/ba`. The slice ends where this
-    /// path's last component ends, even if it is empty because all components match. Rust's empty
-    /// slice may lie after that end.
+    /// path's last component ends, even if it is empty because all components match. In Rust an
+    /// empty result may lie after that end.
     ///
     /// The result may escape: for `/dest/../etc` and the base `/dest` it is `../etc`. To keep a
     /// path below a directory, use `Request::beneath` and `Root::join` of the crate `path_within`

@@ -22,7 +22,7 @@ use std::fmt;
 use std::hash::{Hash, Hasher};
 use unix_bytes::bytes::UnixString;
 
-/// An owned path that is no longer edited: its bytes, without spare capacity.
+/// An owned path that can't be edited: its bytes, without spare capacity.
 ///
 /// It keeps its allocator. Comparison and hashing use the components, as for `Path`. Like Rust's
 /// `Box<Path>`.
@@ -49,10 +49,10 @@ impl BoxedPath {
         Ok(BoxedPath { bytes })
     }
 
-    /// Converts the buffer into a boxed path with its bytes, and releases its spare capacity.
+    /// Converts the buffer into a boxed path with the same bytes, and releases the spare capacity.
     ///
-    /// If the buffer has no spare capacity, it does not allocate. Otherwise moving the bytes can
-    /// fail, and the buffer is then dropped. Like Rust's `From<PathBuf>` of `Box<Path>`.
+    /// If the buffer has no spare capacity, it does not allocate. Otherwise the bytes are moved; if
+    /// this fails, the buffer is dropped. Like Rust's `From<PathBuf>` of `Box<Path>`.
     ///
     /// For `foo/` with the capacity 10 it is `foo/` in 4 bytes.
     pub fn from_path_buf(path: PathBuf) -> Result<BoxedPath, AllocError>
@@ -126,8 +126,8 @@ impl BoxedPath {
 impl PathBuf {
     /// Converts the path into a boxed path, and releases its spare capacity.
     ///
-    /// If there is no spare capacity, it does not allocate. Otherwise moving the bytes can fail,
-    /// and the path is then dropped.
+    /// If there is no spare capacity, it does not allocate. Otherwise the bytes are moved; if this
+    /// fails, the path is dropped.
     ///
     /// For `foo/` with the capacity 10 it is `foo/` in 4 bytes.
     #[must_use]
@@ -188,8 +188,8 @@ impl Ord for BoxedPath {
     }
 }
 
-/// Hashes the path like `as_path`: `a//b` and `a/b` have the same hash. A key of several paths
-/// should feed something between them, as explained for `Path`.
+/// Hashes the path like `as_path`: `a//b` and `a/b` have the same hash. A type that hashes several
+/// paths should feed the hasher something between them, as explained for `Path`.
 impl Hash for BoxedPath {
     ghost hash_input = { λ path. hash_input_of (values (boxed_bytes path)) };
 

@@ -171,8 +171,8 @@ impl Ord for CowPath<'_> {
     }
 }
 
-/// Hashes the path like `as_path`: `a//b` and `a/b` have the same hash. A key of several paths
-/// should feed something between them, as explained for `Path`.
+/// Hashes the path like `as_path`: `a//b` and `a/b` have the same hash. A type that hashes several
+/// paths should feed the hasher something between them, as explained for `Path`.
 impl Hash for CowPath<'_> {
     ghost hash_input = { λ path. hash_input_of (values (cow_bytes path)) };
 

@@ -70,7 +70,7 @@ impl RcPath {
 
     /// Returns the same path, with one more owner.
     ///
-    /// Does not allocate. Fails if the count of owners is at its limit, where Rust ends the
+    /// Does not allocate. Fails if the count of owners is at its limit. In this case Rust ends the
     /// process.
     ///
     /// A clone of `foo/` is `foo/`.
@@ -132,8 +132,8 @@ impl Ord for RcPath {
     }
 }
 
-/// Hashes the path like `as_path`: `a//b` and `a/b` have the same hash. A key of several paths
-/// should feed something between them, as explained for `Path`.
+/// Hashes the path like `as_path`: `a//b` and `a/b` have the same hash. A type that hashes several
+/// paths should feed the hasher something between them, as explained for `Path`.
 impl Hash for RcPath {
     ghost hash_input = { λ path. hash_input_of (values (rc_bytes path)) };
 

@@ -22,7 +22,7 @@ use Rattle.path_runs.proofs.lemmas.names.ExtensionCutLemmas.{values-with_extensi
 use Rattle.path_runs.proofs.lemmas.names.ExtensionCutLemmas.{values-added_extension_of}
 use Rattle.path_runs.proofs.lemmas.joins.LeadLemmas.{joins_same, roots_same}
 
--- equal paths have the same depth
+-- equal paths have the same depth, which is the number of their components except the root
 pub depths_same : (s t : List ℕ) → SameValues s t → depth_of s ≡ depth_of t
 depths_same s t e = ap₂ (λ n rooted. n - cond rooted 1 0) (ap length e) (roots_same s t e)
 
@@ -43,26 +43,27 @@ pop_same s t e =
     (λ root. rw (depths, root) (e, refl))
     (λ deep. rw (depths, deep) (rests_same s t 0 1 e, refl))
 
--- equal paths, each up to its file name, are equal
+-- if equal paths are cut before their file names, they are still equal; a path without a file name
+-- isn't cut
 before_same : (s t : List ℕ) → SameValues s t → SameValues (before_name_of s) (before_name_of t)
 unfolding before_name_of
 before_same s t e = by_test (is_some (file_name_of (values t)))
     (λ named. rw (e, named) (rests_same s t 0 1 e))
     (λ nameless. rw (e, nameless) e)
 
--- equal paths with the same new file name are equal
+-- if equal paths get the same file name, they are still equal
 pub with_name_same : (s t n : List ℕ) → SameValues s t
     → SameValues (with_name_of s n) (with_name_of t n)
 with_name_same s t n e =
     joins_same (before_name_of s) (before_name_of t) n n (before_same s t e) refl
 
--- equal paths with the same extension set are equal
+-- if the same extension is set, equal paths are still equal
 pub with_extension_same : (s t x : List ℕ) → SameValues s t
     → SameValues (with_extension_of s x) (with_extension_of t x)
 with_extension_same s t x e =
     values-with_extension_of s x ∙ ap (renamed (name_with x)) e ∙ sym (values-with_extension_of t x)
 
--- equal paths with the same extension added are equal
+-- if the same extension is added, equal paths are still equal
 pub added_extension_same : (s t x : List ℕ) → SameValues s t
     → SameValues (added_extension_of s x) (added_extension_of t x)
 added_extension_same s t x e = by_test (eqb (length x) 0)
@@ -71,12 +72,13 @@ added_extension_same s t x e = by_test (eqb (length x) 0)
     (λ some. values-added_extension_of s x some ∙ ap (renamed (λ name. name ++ 46 ∷ x)) e
     ∙ sym (values-added_extension_of t x some))
 
--- the result and the answer of setting or adding the extension x to s: the result is u, or s itself
--- if x has a slash
+-- the path after x is set or added as the extension of s, and the answer; the path is u, or s if x
+-- has a slash
 abbrev pub unless_slash : List ℕ → List ℕ → List ℕ → List ℕ × Answer
 unless_slash s x u = cond (has_slash x) (s, Separator) (u, Flag (is_some (file_name_of (values s))))
 
--- for equal paths s and t, and equal results u and v, setting or adding x has the same outcome
+-- if s and t are equal, and so are the paths u and v after x is set or added, both calls return the
+-- same answer and leave equal paths
 unless_slash_same : (s t x u v : List ℕ) → SameValues s t → SameValues u v
     → SameOutcome (unless_slash s x u) (unless_slash t x v)
 unless_slash_same s t x u v e f = by_test (has_slash x)
@@ -96,7 +98,8 @@ one_same s t (AddExtension x) k =
     (added_extension_same s t x k)
 one_same s t Clear k = (refl, refl)
 
--- the same edit, or a push of equal paths, leaves equal paths and returns the same answer
+-- the same edit of equal paths, or a push of equal paths to them, leaves equal paths and returns
+-- the same answer
 edit_same : (s t : List ℕ) (d e : EditValue) → SameValues s t → SameEdit d e
     → SameOutcome (edit_of s d) (edit_of t e)
 edit_same s t (Push b) (Push c) k h = (joins_same s t b c k h, refl)

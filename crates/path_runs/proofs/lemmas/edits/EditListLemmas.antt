@@ -7,11 +7,11 @@ use Rattle.path_runs.specs.declared.edits.Edit.{Edit}
 use Rattle.path_runs.specs.EditLists.{EditValue, edit_of, edits_of}
 use Rattle.path_runs.specs.EditViews.{edit_value}
 
--- the path's bytes after these edits
+-- the path s after the edits
 abbrev result_of : List ℕ → List EditValue → List ℕ
 result_of s es = (edits_of s es).0
 
--- one more edit is applied to the result of the edits before it
+-- after the edits es and e, the path is the result of applying e to the path after es
 result_of-append : (s : List ℕ) (es : List EditValue) (e : EditValue)
     → result_of s (es ++ e ∷ []) ≡ (edit_of (result_of s es) e).0
 result_of-append s [] e = refl
@@ -30,8 +30,8 @@ pub record HasApplied (s : List ℕ) (edits : List Edit) (i : ℕ) (bytes : List
   pub bytes_are : bytes ≡ (edits_of s (map edit_value (take i edits))).0
   pub answers_are : answers ≡ (edits_of s (map edit_value (take i edits))).1
 
--- applying edit i to the result of the first i edits has the result of the first i + 1 edits, and
--- adds one answer
+-- if t is the result of the first i edits, and u is the result of applying edit i to t, then u is
+-- the result of the first i + 1 edits, and the answer of edit i is added
 pub HasApplied-more : (s : List ℕ) (es : List Edit) (i : ℕ) (d : Edit) (t u : List ℕ)
     (answers : List Answer) (a : Answer) → HasApplied s es i t answers → i < length es
     → u ≡ (edit_of t (edit_value (get_or es i d))).0

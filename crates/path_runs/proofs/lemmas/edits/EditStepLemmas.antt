@@ -1,4 +1,4 @@
--- Which of a path's leading bytes edits keep, and which edits change nothing.
+-- The leading bytes of a path that an edit keeps. Paths without a parent or without a file name.
 use Rattle.std.proofs.Common.{◌≡◌, ℕ, zero, suc, ◌+◌, ◌-◌, ◌≤◌, false, eqb, List, [], ◌∷◌}
 use Rattle.std.proofs.Common.{◌++◌, ◌<◌, length, get_or, take, map, None, is_some, refl, sym}
 use Rattle.std.proofs.Common.{ap, ◌∙◌, arith, length-append, length-take-le}
@@ -30,7 +30,7 @@ pub record Keeps (s t : List ℕ) (n : ℕ) : Type 0 where
   pub in_range : n ≤ length t
   pub same : take n s ≡ take n t
 
--- a string that consists of the first n bytes of s and more bytes keeps these n bytes
+-- if y is the first n bytes of s and then x, y keeps the first n bytes of s
 pub keeps-front : (s x y : List ℕ) (n : ℕ) → n ≤ length s → y ≡ take n s ++ x → Keeps s y n
 keeps-front s x y n l is =
     let size = length-take-le n s l in record {
@@ -46,7 +46,7 @@ keeps-fewer s t k n h l = record {
   same = sym (take-take k n s l) ∙ ap (take k) h.same ∙ take-take k n t l;
 }
 
--- a cache of a string is also a cache of each string that keeps all its bytes
+-- a cache that is valid for s is also valid for t if t keeps all bytes of s
 IsCacheOf-keeps : (s t : List ℕ) (k : ScanCache) → IsCacheOf s k → Keeps s t (length s)
     → IsCacheOf t k
 IsCacheOf-keeps s t k h keeps = record {
@@ -66,12 +66,13 @@ keeps-join s b r = by_test (needs_no_separator s)
     (join_of_separator s b r o ∙ append_assoc s (47 ∷ []) b
     ∙ ap (λ s. s ++ (47 ∷ [] ++ b)) (sym (take-length s))))
 
--- a cache of a path is also a cache of its join with a rootless path
+-- a cache that is valid for a path is also valid for the path's join with a rootless path
 pub IsCacheOf_join : (s b : List ℕ) (k : ScanCache) → IsCacheOf s k → is_rooted b ≡ false
     → IsCacheOf (join_of s b) k
 IsCacheOf_join s b k h r = IsCacheOf-keeps s (join_of s b) k h (keeps-join s b r)
 
--- a path of at least n bytes whose bytes after the first n are replaced keeps the first n
+-- if a path has at least n bytes, and only the bytes after the first n are replaced, it keeps the
+-- first n
 pub keeps-replaced : (s t v y x : List ℕ) (n : ℕ) → v ≡ s → n ≤ length v
     → t ≡ (take n s ++ y) ++ x → Keeps v t n
 keeps-replaced s t v y x n view few made = keeps-front v (y ++ x) t n few
@@ -88,14 +89,14 @@ keeps-rest s m = record {
   same = take-rest s m ∙ sym (take-length (rest s 0 m));
 }
 
--- a pop keeps all bytes that it doesn't remove
+-- if a pop leaves n bytes, they are the first n bytes of the path
 pub keeps-pop : (s t : List ℕ) (n : ℕ) → t ≡ popped_of s → n ≡ length t → Keeps s t n
 unfolding popped_of parent_of
 keeps-pop s t n e size = by_test (eqb (depth_of s) 0)
     (λ root. rw (size, e, root) (keeps-self s))
     (λ deep. rw (size, e, deep) (keeps-rest s 1))
 
--- a path whose only component is the root has no parent
+-- if a path begins with a slash, and its components end at index 0 or 1, it has no parent
 pub parent_of-root_only : (s : List ℕ) (end : ℕ) → 0 < length s → get_or s 0 0 ≡ 47
     → parts (take end s) ≡ parts s → end ≤ 1 → None ≡ parent_of s
 unfolding values
@@ -120,7 +121,8 @@ keeps-before s = by_test (is_some (file_name_of (values s)))
     (λ named. rw named (keeps-rest s 1))
     (λ nameless. rw nameless (keeps-self s))
 
--- setting a file name keeps all bytes of the result except the name and one byte before it
+-- if t is s with a new file name, t keeps the bytes of s, except for the new name at its end and
+-- one byte before the name
 pub keeps-name : (s t name : List ℕ) (n : ℕ) → t ≡ with_name_of s name
     → n ≡ length t - (length name + 1) → Keeps s t n
 keeps-name s t name n made size =

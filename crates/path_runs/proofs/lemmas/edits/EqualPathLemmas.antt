@@ -9,13 +9,13 @@ use Rattle.unix_path.specs.Parents.{parent_of, depth_of, ancestors_of}
 use Rattle.unix_path.specs.Prefixes.{stripped_of}
 use Rattle.path_runs.proofs.lemmas.edits.CongruenceLemmas.{depths_same, rests_same}
 
--- a relation of components holds of two paths if and only if it holds of two paths that are equal
--- to them
+-- if each of two paths is replaced by an equal path, a relation of their components holds if and
+-- only if it held before
 pub holds_same : (Holds : List Value → List Value → Type 0) (s t u w : List ℕ) → SameValues s t
     → SameValues u w → Holds (values s) (values u) ↔ Holds (values t) (values w)
 holds_same Holds s t u w e f = rw (e, f) (λ h. h, λ h. h)
 
--- equal paths have equal parents, or none
+-- equal paths have equal parents, or both have none
 pub parents_same : (s t : List ℕ) → SameValues s t
     → option_map values (parent_of s) ≡ option_map values (parent_of t)
 unfolding parent_of
@@ -40,7 +40,7 @@ ancestors_same s t e = ap₂ (λ v vs. v ∷ vs) e
     (all_rests_same s t (range_with_len 1 (depth_of s)) e
     ∙ ap (λ n. map values (map (λ m. rest t 0 m) (range_with_len 1 n))) (depths_same s t e))
 
--- equal paths, each stripped of one of two equal bases, are equal
+-- if equal paths are stripped of equal bases, the results are equal
 pub stripped_of-same : (s t base other : List ℕ) → SameValues s t → SameValues base other
     → SameValues (stripped_of s base) (stripped_of t other)
 stripped_of-same s t base other e f =

@@ -1,4 +1,4 @@
--- A path with a simple extension set.
+-- Setting a simple extension: one that isn't empty and has neither a dot nor a slash.
 use Rattle.std.proofs.Common.{◌≡◌, ◌≢◌, ℕ, ◌<◌, true, List, [], ◌∷◌, ◌++◌, length, Option, Some}
 use Rattle.std.proofs.Common.{None, is_some, option_map, refl, sym, ap, subst, ◌∙◌, arith}
 use Rattle.std.proofs.Common.{append_assoc, length-append}
@@ -34,14 +34,15 @@ some_stem name l = by (split_case name)
     by (Whole e) = subst (λ c. 0 < length c.0) (sym e) l
     by (Cut b f x w e) = subst (λ c. 0 < length c.0) (sym e) (omega arith)
 
--- t has a new file name, with this stem and the extension x, and the parent of s
+-- t has a file name with the stem `stem` and the extension x, and the same parent as s
 record NewExtension (s t stem x : List ℕ) : Type 0 where
   pub name : List ℕ
   pub file_name : file_name_of (values t) ≡ Some name
   pub split : split_name name ≡ (stem, Some x)
   pub parent : parent_of t ≡ parent_of s
 
--- a stem with a dot and an extension without a slash is a name
+-- the stem of a name, followed by a dot and an extension that isn't empty and has no slash, is a
+-- name
 new_name : (name : List ℕ) (b : ℕ) (x : List ℕ) → IsName name → HasNoByte 47 (b ∷ x)
     → IsName ((split_name name).0 ++ 46 ∷ b ∷ x)
 new_name name b x h k =
@@ -53,8 +54,8 @@ new_name name b x h k =
     (All-append (λ c. c ≢ 47) stem (46 ∷ b ∷ x) stem_bytes
     (All-cons (λ c. c ≢ 47) 46 (b ∷ x) (λ e. absurd (omega arith)) k))
 
--- if a path is the string u, which is empty or ends in a slash, and then one name, its parent is u
--- without trailing filler
+-- if u is empty or ends in a slash, the parent of u followed by one name is u without trailing
+-- filler
 parent_of-open : (s u b name : List ℕ) → s ≡ u ++ b → needs_no_separator u ≡ true
     → values s ≡ values u ++ Normal name ∷ [] → parent_of s ≡ Some (rest u 0 0)
 parent_of-open s u b name is o e =
@@ -62,7 +63,8 @@ parent_of-open s u b name is o e =
     ∙ ap Some (ap (λ s. rest s 0 1) is
     ∙ rest-appended u b (Normal name) o (ap values (sym is) ∙ e))
 
--- a path, cut at its file name, has the new extension once it is set
+-- if s has the file name `name`, and b ∷ x has neither a dot nor a slash, setting b ∷ x as the
+-- extension of s keeps the stem and the parent, and the path then has this extension
 new_extension-cut : (s name : List ℕ) (b : ℕ) (x : List ℕ) → file_name_of (values s) ≡ Some name
     → NameCut s name → HasNoByte 46 (b ∷ x) → HasNoByte 47 (b ∷ x)
     → NewExtension s (with_extension_of s (b ∷ x)) (split_name name).0 (b ∷ x)
@@ -85,7 +87,8 @@ new_extension-cut s name b x e c dot slash =
           (c.whole ∙ append_assoc c.prefix name c.back) c.ends c.before);
     }
 
--- a path with a file name has the new extension once it is set
+-- if s has the file name `name`, setting the simple extension x keeps the stem and the parent, and
+-- the path then has the extension x
 set_extension : (s name x : List ℕ) → file_name_of (values s) ≡ Some name
     → IsSimpleExtension x
     → NewExtension s (with_extension_of s x) (split_name name).0 x
@@ -93,8 +96,8 @@ set_extension s name [] e h = absurd (h.some refl)
 set_extension s name (b ∷ x) e h =
     new_extension-cut s name b x e (name_cut s name e) h.no_dot h.no_slash
 
--- a path that accepts an extension has a file name, and setting it gives the path a new file name
--- with that extension
+-- if setting the simple extension x of s returns true and leaves t, s has a file name, and t has
+-- its stem, the extension x and the parent of s
 new_extension : (s x t : List ℕ) → SetsExtension s x t
     → (name : List ℕ) × (file_name_of (values s) ≡ Some name)
     × NewExtension s t (split_name name).0 x
@@ -114,7 +117,7 @@ new_extension s x t h = by_test (has_slash x)
       subst (λ t. NewExtension s t (split_name name).0 x) e (set_extension s name x is h.0),
     )
 
--- a path that accepts an extension keeps its stem
+-- if setting a simple extension of s returns true and leaves t, t has the stem of s
 pub stem_of-new_extension : (s x t : List ℕ) → SetsExtension s x t
     → stem_of (values t) ≡ stem_of (values s)
 stem_of-new_extension s x t h =
@@ -122,13 +125,13 @@ stem_of-new_extension s x t h =
     ap (option_map (λ name. (split_name name).0)) new.2.file_name ∙ ap (λ c. Some c.0) new.2.split
     ∙ sym (ap (option_map (λ name. (split_name name).0)) new.1)
 
--- a path that accepts an extension has it afterwards
+-- if setting the simple extension x of s returns true and leaves t, t has the extension x
 pub extension_of-new_extension : (s x t : List ℕ) → SetsExtension s x t
     → extension_of (values t) ≡ Some x
 extension_of-new_extension s x t h =
     let new = new_extension s x t h in
     ap (option_and_then (λ name. (split_name name).1)) new.2.file_name ∙ ap (λ c. c.1) new.2.split
 
--- a path that accepts an extension keeps its parent
+-- if setting a simple extension of s returns true and leaves t, t has the parent of s
 pub parent_of-new_extension : (s x t : List ℕ) → SetsExtension s x t → parent_of t ≡ parent_of s
 parent_of-new_extension s x t h = (new_extension s x t h).2.parent

@@ -1,4 +1,4 @@
--- What is recorded of a path's leading bytes is true as long as these bytes don't change.
+-- The cache's records about a path's leading bytes stay valid as long as these bytes don't change.
 use Rattle.std.proofs.Common.{◌≡◌, ℕ, ◌≤◌, List, length, take, sym, ap, ◌∙◌, arith, subst}
 use Rattle.std.proofs.lemmas.List.{take-take}
 use Rattle.unix_path.specs.Parts.{parts}
@@ -6,11 +6,12 @@ use Rattle.unix_path.specs.Edits.{stem_end_of}
 use Rattle.unix_path.specs.Scan.{EndsInPart}
 use Rattle.path_runs.specs.ScanCache.{CachesEnd, CachesStem}
 
--- a prefix of the bytes that two strings share is the same in both
+-- if s and t have the same first n bytes, they have the same first k bytes for each k up to n
 shared : (s t : List ℕ) (k n : ℕ) → k ≤ n → take n s ≡ take n t → take k s ≡ take k t
 shared s t k n l e = sym (take-take k n s l) ∙ ap (take k) e ∙ take-take k n t l
 
--- a recorded end of the last component is valid for each string that begins with the same bytes
+-- an end of the last component that is recorded for s is valid for t too, if s and t have the same
+-- first n bytes, and the record is only about these bytes
 pub CachesEnd-unchanged : (s t : List ℕ) (n end len : ℕ) → CachesEnd s end len → n ≤ length t
     → take n s ≡ take n t → len ≤ n → CachesEnd t end len
 CachesEnd-unchanged s t n end len h l e few =
@@ -22,7 +23,8 @@ CachesEnd-unchanged s t n end len h l e few =
       ends = subst EndsInPart (shared s t end n (omega arith) e) h.ends;
     }
 
--- a recorded end of a stem is valid for each string that begins with the same bytes
+-- an end of a stem that is recorded for s is valid for t too, if s and t have the same first n
+-- bytes, and the stem ends within these bytes
 pub CachesStem-unchanged : (s t : List ℕ) (n stem : ℕ) → CachesStem s stem → n ≤ length t
     → take n s ≡ take n t → stem ≤ n → CachesStem t stem
 CachesStem-unchanged s t n stem h l e few = record {

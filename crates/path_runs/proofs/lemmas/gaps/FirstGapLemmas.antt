@@ -1,4 +1,5 @@
--- Up to its first gap, a string is its first piece and the components after it, each after a slash.
+-- The first gap of a string. The bytes before it are the first piece and then components, each
+-- after a slash. An inner component is a `..` or a name.
 use Rattle.std.proofs.Common.{◌≡◌, ℕ, zero, suc, ◌+◌, ◌-◌, ◌<◌, ◌≤◌, true, false, eqb, ◌&&◌, ◌||◌}
 use Rattle.std.proofs.Common.{List, [], ◌∷◌, ◌++◌, length, take, drop, map, get_or, refl, sym, ap}
 use Rattle.std.proofs.Common.{ap₂, ◌∙◌, eqb-true, arith, append-nil, drop-cons, length-drop}
@@ -19,7 +20,8 @@ use Rattle.unix_path.proofs.lemmas.parts.PlaceLemmas.{values-inner_parts}
 use Rattle.unix_path.proofs.lemmas.parts.ValueLemmas.{value_bytes-piece}
 use Rattle.path_runs.specs.Gaps.{is_gap, slashed_parts, FirstGap, IsPartStart}
 
--- leaving out a byte of filler changes no inner component
+-- if byte i of s is filler, removing it from the bytes from i on changes none of their inner
+-- components
 pub slashed_parts-filler : (s : List ℕ) (i : ℕ) → i < length s → is_filler s i ≡ true
     → slashed_parts (drop i s) ≡ slashed_parts (drop (i + 1) s)
 unfolding slashed_parts
@@ -28,7 +30,8 @@ slashed_parts-filler s i l e = ap (flat_map (λ v. slash ∷ value_bytes v))
     ∙ ap (map (λ (p : Part). p.value)) (inner_parts_filler_at 0 s i l e)
     ∙ values-inner_parts (0 + (i + 1)) (drop (i + 1) s))
 
--- the first component of a string that begins with a component is its first piece
+-- if s begins with a component, this component is the first piece of s, and the other components
+-- come after that piece
 slashed_parts-not_filler : (s : List ℕ) → 0 < length s → is_filler s 0 ≡ false
     → slashed_parts s ≡ slash ∷ (first_piece s ++ slashed_parts
     (drop (position_or_len is_slash s) s))
@@ -40,7 +43,7 @@ slashed_parts-not_filler s l e =
     ∙ ap₂ (λ p vs. slash ∷ (p ++ flat_map (λ v. slash ∷ value_bytes v) vs))
     (value_bytes-piece (first_piece s)) (values-inner_parts (0 + n) (drop n s))
 
--- without a string's first byte, each gap begins one byte earlier
+-- if the first byte x is removed, the index of each later gap becomes one less
 pub is_gap-after_start : (x : ℕ) (s : List ℕ) (i : ℕ) → is_gap (x ∷ s) (suc i) ≡ is_gap s i
 is_gap-after_start x s i =
     let next : get_or (x ∷ s) (suc i + 1) 47 ≡ get_or s (i + 1) 47 =
@@ -49,7 +52,8 @@ is_gap-after_start x s i =
     ap (λ k. get_or (x ∷ s) k 47) {x = suc i + 2} {y = suc (i + 2)} (omega arith) in
     ap₂ (λ b c. eqb (get_or s i 0) 47 && (eqb b 47 || (eqb b 46 && eqb c 47))) next after
 
--- without a first byte at which no gap begins, the first gap begins one byte earlier
+-- if no gap begins at the first byte x, and x is removed, the index of the first gap becomes one
+-- less
 FirstGap-after_start : (x : ℕ) (s : List ℕ) (n : ℕ) → FirstGap (x ∷ s) (suc n) → FirstGap s n
 FirstGap-after_start x s n h = record {
   in_range = omega (arith, h.in_range);
@@ -63,19 +67,21 @@ component_after_slash : (x : ℕ) (s : List ℕ) → eqb x 47 ≡ true → is_ga
 component_after_slash x [] e g = absurd (let d : true ≡ false = rw e at g in cc)
 component_after_slash x (y ∷ s) e g = (omega arith, rw e at g)
 
--- a string that begins with a slash has an empty first piece
+-- if a string begins with a slash, its first piece is empty, and its components come after that
+-- piece
 pub first_slash : (x : ℕ) (s : List ℕ) → eqb x 47 ≡ true
     → first_piece (x ∷ s) ++ slashed_parts (drop (position_or_len is_slash (x ∷ s)) (x ∷ s))
     ≡ slashed_parts (x ∷ s)
 first_slash x s e = ap₂ (λ p k. p ++ slashed_parts (drop k (x ∷ s))) (first_piece-slash x s e)
     (position_or_len-slash x s e)
 
--- leaving out a leading slash changes no inner component
+-- removing a leading slash changes no inner component
 pub slashed_parts-slash : (x : ℕ) (s : List ℕ) → eqb x 47 ≡ true
     → slashed_parts (x ∷ s) ≡ slashed_parts s
 slashed_parts-slash x s e = slashed_parts-filler (x ∷ s) 0 (omega arith) (rw e refl)
 
--- up to its first gap a string is its first piece, followed by its components, each after a slash
+-- if n is the index of the first gap of s, the first n bytes of s and the components after them are
+-- the first piece of s and the components after it, with a slash before each component
 pub before_first_gap : (s : List ℕ) (n : ℕ) → FirstGap s n
     → first_piece s ++ slashed_parts (drop (position_or_len is_slash s) s)
     ≡ take n s ++ slashed_parts (drop n s)
@@ -97,21 +103,23 @@ before_first_gap (x ∷ s) (suc n) h = by_test (eqb x 47)
     ∙ ap (λ u. x ∷ (first_piece s ++ slashed_parts u)) (drop-suc_cons m x s)
     ∙ ap (λ u. x ∷ u) (before_first_gap s n (FirstGap-after_start x s n h)))
 
--- a string that begins with a component consists, up to its first gap, of its components, each
--- after a slash
+-- if s begins with a component, and n is the index of its first gap, the components of s, each
+-- after a slash, are a slash, the first n bytes of s, and the components after them, each after a
+-- slash
 pub component_before_gap : (s : List ℕ) (n : ℕ) → 0 < length s → is_filler s 0 ≡ false
     → FirstGap s n
     → slashed_parts s ≡ (slash ∷ take n s) ++ slashed_parts (drop n s)
 component_before_gap s n l e h = slashed_parts-not_filler s l e
     ∙ ap (λ u. slash ∷ u) (before_first_gap s n h)
 
--- no component follows the end
+-- if i is at least the length of s, no component follows index i of s, so nothing is appended to a
 pub no_parts_after_end : (a s : List ℕ) (i : ℕ) → length s ≤ i → a ++ slashed_parts (drop i s) ≡ a
 unfolding slashed_parts inner_parts
 no_parts_after_end a s i l =
     ap (λ u. a ++ slashed_parts u) (drop_all i s l) ∙ append-nil a
 
--- the slice that starts at the slash before a component is this slash and the next n bytes
+-- if a component begins at `start`, the slice from the slash before it to index `start + n`,
+-- exclusive, is this slash and the n bytes after it
 pub slice_from_slash : (s : List ℕ) (start n : ℕ) → start < length s → IsPartStart s start
     → slice_range s (start - 1) (start + n) ≡ slash ∷ take n (drop start s)
 slice_from_slash s start n l part =

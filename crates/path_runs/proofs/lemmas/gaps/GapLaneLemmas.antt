@@ -13,13 +13,13 @@ use Rattle.path_runs.specs.Gaps.{is_gap}
 abbrev gap : ℕ → ℕ → ℕ → Bool
 gap x y z = eqb x 47 && (eqb y 47 || (eqb y 46 && eqb z 47))
 
--- the lanes that show at which of 16 bytes a gap begins, from these bytes and the two bytes after
--- each
+-- the lanes that show at which of the 16 bytes `here` a gap begins; `next` and `after` are the 16
+-- bytes that begin one and two bytes later
 abbrev gap_lanes : List ℕ → List ℕ → List ℕ → List ℕ
 gap_lanes here next after =
     both (hits 16 here 47) (either (hits 16 next 47) (both (hits 16 next 46) (hits 16 after 47)))
 
--- a lane shows whether a gap begins at its byte
+-- lane i shows whether a gap begins at byte i of `here`
 Tells-gap : (here next after : List ℕ) (i : ℕ) → length here ≡ 16 → length next ≡ 16
     → length after ≡ 16 → i < 16
     → Tells 16 (gap_lanes here next after) i
@@ -33,7 +33,8 @@ Tells-gap here next after i l m n few =
 abbrev lanes : List ℕ → ℕ → List ℕ
 lanes s at = gap_lanes (chunk at 16 s) (chunk (at + 1) 16 s) (chunk (at + 2) 16 s)
 
--- these lanes show where gaps begin
+-- if s has at least 18 bytes from index `at` on, the lanes show at which of the first 16 of them a
+-- gap begins
 pub lanes_show_gaps : (s : List ℕ) (at : ℕ) → at + 18 ≤ length s
     → TellFrom 16 (lanes s at) (is_gap s) at
 lanes_show_gaps s at l = record {
@@ -49,7 +50,7 @@ lanes_show_gaps s at l = record {
       (length-chunk (at + 2) 16 s (omega arith)) few);
 }
 
--- if no gap begins before `at`, nor from there up to `end`, none begins before `end`
+-- if no gap begins before `at`, and none from `at` up to `end`, exclusive, none begins before `end`
 pub none_to : (s : List ℕ) (at end : ℕ) → ((i : ℕ) → i < at → is_gap s i ≡ false)
     → ((i : ℕ) → at ≤ i → i < end → is_gap s i ≡ false) → (i : ℕ) → i < end
     → is_gap s i ≡ false

@@ -22,15 +22,15 @@ use Rattle.path_runs.proofs.lemmas.gaps.FirstGapLemmas.{slashed_parts-slash}
 use Rattle.path_runs.proofs.lemmas.spelling.SpellLemmas.{spelling_of-cons, spelling_of-nil}
 use Rattle.path_runs.proofs.lemmas.spelling.SpellLemmas.{spelling_of-root, spelling_of-rooted}
 
--- components with slashes between them are the first component, followed by the other components,
--- each after a slash
+-- v and vs with slashes between them are the bytes of v, followed by the components vs, each after
+-- a slash
 pub slashed_bytes-cons : (v : Value) (vs : List Value)
     → slashed_bytes (v ∷ vs) ≡ value_bytes v ++ slash_each vs
 slashed_bytes-cons v [] = sym (append-nil (value_bytes v))
 slashed_bytes-cons v (w ∷ vs) = ap (λ u. value_bytes v ++ slash ∷ u) (slashed_bytes-cons w vs)
 
--- the canonical form of a rootless path is its first piece, followed by its other components, each
--- after a slash
+-- if a path isn't empty and has no root, its canonical form is its first piece, followed by the
+-- components after that piece, each after a slash
 pub spelling_of-name : (s : List ℕ) → 0 < length s → eqb (get_or s 0 0) 47 ≡ false
     → spelling_of (values s)
     ≡ first_piece s ++ slashed_parts (drop (position_or_len is_slash s) s)
@@ -44,7 +44,7 @@ spelling_of-name s l e =
     ∙ slashed_bytes-cons (first_value p) vs
     ∙ ap₂ (λ b ws. b ++ slash_each ws) (value_bytes-first p) (values-inner_parts n (drop n s))
 
--- the canonical form of a rooted path of two bytes or more that ends in a component is its
+-- if a rooted path has at least two bytes and ends in a component, its canonical form is its
 -- components after the root, each after a slash
 spelling_of-after_root : (x : ℕ) (s : List ℕ) → eqb x 47 ≡ true → 1 < length (x ∷ s)
     → EndsInPart (x ∷ s) → spelling_of (values (x ∷ s)) ≡ slashed_parts s
@@ -62,8 +62,8 @@ spelling_of-after_root x s e l ends =
     by [] end = absurd (omega (arith, l))
     by (p ∷ ps) end = ap (λ u. slash ∷ u) (slashed_bytes-cons p.value (map (λ q. q.value) ps))
 
--- the canonical form of a path of two bytes or more that ends in a component is its bytes up to the
--- first gap, followed by the components after that gap, each after a slash
+-- if a path has at least two bytes and ends in a component, its canonical form is its bytes before
+-- the first gap, followed by the components after that gap, each after a slash
 pub spelling_of-run : (s : List ℕ) (n : ℕ) → 1 < length s → EndsInPart s → FirstGap s n
     → spelling_of (values s) ≡ take n s ++ slashed_parts (drop n s)
 spelling_of-run [] n l ends h = absurd (omega arith)
@@ -85,7 +85,8 @@ spelling_of-short (x ∷ []) l = by_test (eqb x 47)
     root = spelling_of-rooted []
 spelling_of-short (x ∷ y ∷ s) l = absurd (omega arith)
 
--- a path that ends in a component is its own canonical form if it has no gap, or at most one byte
+-- if a path is empty or ends in a component, and has no gap or at most one byte, it is its own
+-- canonical form
 pub spelling_of-whole : (s : List ℕ) (n : ℕ) → EndsInPart s → FirstGap s n
     → (length s < 2) ⊎ ((2 ≤ length s) × (n ≡ length s)) → spelling_of (values s) ≡ s
 spelling_of-whole s n ends h (inl short) = spelling_of-short s short
@@ -93,7 +94,7 @@ spelling_of-whole s n ends h (inr whole) =
     let all : length s ≤ n = omega (arith, whole.1) in
     spelling_of-run s n whole.0 ends h ∙ no_parts_after_end (take n s) s n all ∙ take_all n s all
 
--- the rest of a fresh walk is empty or ends in a component
+-- a path without its trailing filler is empty or ends in a component
 pub rest-ends : (s t : List ℕ) → t ≡ rest s 0 0 → EndsInPart t
 rest-ends s t e =
     let trim = trims_end s in

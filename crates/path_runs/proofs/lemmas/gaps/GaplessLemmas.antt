@@ -18,8 +18,7 @@ use Rattle.path_runs.proofs.lemmas.gaps.FirstGapLemmas.{slashed_parts-filler, sl
 use Rattle.path_runs.proofs.lemmas.spelling.LeanLemmas.{slashed_parts-length, spelling_of-shortest}
 use Rattle.path_runs.proofs.lemmas.gaps.GapSpellingLemmas.{spelling_of-run, spelling_of-whole}
 
--- the components of a string that begins with a gap, each after a slash, have fewer bytes than the
--- string
+-- if s begins with a gap, its components, each after a slash, have fewer bytes than s
 first_gap-longer : (s : List ℕ) → 0 < length s → is_gap s 0 ≡ true
     → length (slashed_parts s) < length s
 first_gap-longer [] l g = absurd (omega arith)
@@ -39,7 +38,8 @@ first_gap-longer (x ∷ y ∷ s) l g =
       slashed_parts-length s,
     )
 
--- the components after a gap, each after a slash, have fewer bytes than the string from the gap on
+-- if a gap begins at index n of s, the components after it, each after a slash, have fewer bytes
+-- than s has from n on
 gap-longer : (s : List ℕ) (n : ℕ) → n < length s → is_gap s n ≡ true
     → length (slashed_parts (drop n s)) + n < length s
 gap-longer [] n l g = absurd (omega arith)
@@ -47,8 +47,8 @@ gap-longer (x ∷ s) zero l g = omega (arith, first_gap-longer (x ∷ s) l g)
 gap-longer (x ∷ s) (suc n) l g =
     omega (arith, gap-longer s n (omega arith) (sym (is_gap-after_start x s n) ∙ g))
 
--- the components after a gap or the end, each after a slash, have at most as many bytes as the
--- string from there on
+-- if n is the index of a gap of s, or the length of s, the components after it, each after a slash,
+-- have at most as many bytes as s has from n on
 pub gap_or_end-length : (s : List ℕ) (n : ℕ) → n ≤ length s → (n < length s → is_gap s n ≡ true)
     → n + length (slashed_parts (drop n s)) ≤ length s
 gap_or_end-length s n l g = by_test (ltb n (length s))
@@ -59,7 +59,7 @@ gap_or_end-length s n l g = by_test (ltb n (length s))
     let all : length s ≤ n = ltb-false n (length s) e in
     omega (arith, ap length (no_parts_after_end [] s n all)))
 
--- a path that has a gap isn't its own canonical form
+-- if a path has a gap and ends in a component, it isn't its own canonical form
 gap_respelled : (s : List ℕ) (n : ℕ) → 1 < length s → EndsInPart s → FirstGap s n
     → n < length s → s ≡ spelling_of (values s) → ⊥
 gap_respelled s n l ends h some own =
@@ -72,7 +72,7 @@ gap_respelled s n l ends h some own =
       gap-longer s n some (h.gap some),
     )
 
--- a path with filler after its last component isn't its own canonical form
+-- if a path has trailing filler, it isn't its own canonical form
 pub tail_respelled : (s t : List ℕ) → t ≡ rest s 0 0 → values t ≡ values s → length t < length s
     → s ≡ spelling_of (values s) → ⊥
 tail_respelled s t e same l own = by (spelling_of-shortest s t same)
@@ -81,15 +81,15 @@ tail_respelled s t e same l own = by (spelling_of-shortest s t same)
     by (inl f) = omega (arith, ap length f, ap length own)
     by (inr h) = omega (arith, ap length own)
 
--- if the rest of a fresh walk is as long as the path, it is the path
+-- if t is s without its trailing filler, and as long as s, then t is s
 pub rest-all : (s t : List ℕ) → t ≡ rest s 0 0 → length s ≤ length t → t ≡ s
 rest-all s t e l =
     let trim = trims_end s in
     let is = e ∙ rest-trimmed s trim.len trim.in_range trim.same trim.ends in
     is ∙ take_all trim.len s (omega (arith, ap length is, length-take-le trim.len s trim.in_range))
 
--- a path of two bytes or more that ends in a component is its own canonical form if and only if it
--- has no gap
+-- if a path has at least two bytes and ends in a component, it is its own canonical form if and
+-- only if it has no gap
 pub own_if_gapless : (s : List ℕ) (n : ℕ) → 1 < length s → EndsInPart s → FirstGap s n
     → (IsTrue (nat_eq n (length s)) → s ≡ spelling_of (values s))
     × (s ≡ spelling_of (values s) → IsTrue (nat_eq n (length s)))

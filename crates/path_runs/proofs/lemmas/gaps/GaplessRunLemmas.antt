@@ -1,5 +1,5 @@
--- What the canonical form copies from a path: the bytes before the first gap, and gapless runs. A
--- gapless run is a slash and the components after it, up to the next gap or the end.
+-- The canonical form consists of bytes of the path: the bytes before the first gap, and gapless
+-- runs. A gapless run is a slash and the components after it, up to the next gap or the end.
 use Rattle.std.proofs.Common.{◌≡◌, ℕ, zero, suc, ◌+◌, ◌-◌, ◌<◌, ◌≤◌, true, false, eqb, List, ◌++◌}
 use Rattle.std.proofs.Common.{length, take, drop, get_or, sym, ap, ap₂, ◌∙◌, eqb-true, arith}
 use Rattle.std.proofs.Common.{drop-drop, length-drop, length-take-le, take_all}
@@ -15,8 +15,8 @@ use Rattle.path_runs.proofs.lemmas.gaps.FirstGapLemmas.{no_parts_after_end, comp
 use Rattle.path_runs.proofs.lemmas.gaps.FirstGapLemmas.{slice_from_slash}
 use Rattle.path_runs.proofs.lemmas.gaps.GapSpellingLemmas.{spelling_of-short}
 
--- the canonical form of a path of at most one byte is its n bytes and the components after them, of
--- which there are none
+-- if s has n bytes, at most one, its canonical form is its first n bytes and the components after
+-- them, of which there are none
 pub spelling_of-single : (s : List ℕ) (n : ℕ) → length s < 2 → n ≡ length s
     → spelling_of (values s) ≡ take n s ++ slashed_parts (drop n s)
 spelling_of-single s n l e =
@@ -31,7 +31,8 @@ first_gap_positive s zero l e h =
     absurd (let d : true ≡ false = rw slash at e in cc)
 first_gap_positive s (suc n) l e h = omega arith
 
--- the bytes from the slash before a component to the first gap after it are a gapless run
+-- if a component begins at `start`, and the first gap from there on is n bytes later, the bytes
+-- from the slash before `start` up to that gap are a gapless run
 pub is_gapless_run : (s : List ℕ) (start n : ℕ) → start < length s → IsPartStart s start
     → FirstGap (drop start s) n → IsGaplessRun s start (slice_range s (start - 1) (start + n))
 is_gapless_run s start n l part h =

@@ -1,5 +1,5 @@
--- A last component after an open path, removed again. A string is open if it is empty or ends in a
--- slash.
+-- A component that is appended to an open path and removed again. A string is open if it is empty
+-- or ends in a slash.
 use Rattle.std.proofs.Common.{◌≡◌, ℕ, ◌≤◌, true, List, [], ◌∷◌, ◌++◌, length, take, map, refl, sym}
 use Rattle.std.proofs.Common.{ap, subst, ◌∙◌, arith, append-nil}
 use Rattle.std.proofs.lemmas.List.{map-append, take-append-le, append_cancel_left}
@@ -21,7 +21,8 @@ use Rattle.path_runs.proofs.lemmas.joins.ValueLemmas.{ends_open, not_open}
 abbrev value_of_part : Part → Value
 value_of_part p = p.value
 
--- the parts of an open path followed by bytes are the parts of that path, and then more parts
+-- if u is empty or ends in a slash, the parts of u followed by b are the parts of u, and then more
+-- parts
 parts-open : (u b : List ℕ) → needs_no_separator u ≡ true
     → (more : List Part) × (parts (u ++ b) ≡ parts u ++ more)
 parts-open [] b o = (parts b, sym (ap (λ ps. ps ++ parts b) parts-nil))
@@ -32,7 +33,7 @@ parts-open (x ∷ u) b o =
           (parts-past_slash cut.0 b),
     )
 
--- a list of parts that has one component has one part
+-- if a list of parts has only one component, it has only one part
 single_part : (ps : List Part) (v : Value) → map value_of_part ps ≡ v ∷ []
     → (p : Part) × (ps ≡ p ∷ [])
 single_part [] v e = absurd (let no : [] ≡ v ∷ [] = e in cc)
@@ -40,7 +41,7 @@ single_part (p ∷ []) v e = (p, refl)
 single_part (p ∷ q ∷ ps) v e =
     absurd (let no : p.value ∷ q.value ∷ map value_of_part ps ≡ v ∷ [] = e in cc)
 
--- if b adds one component after an open path, it adds one part
+-- if u is empty or ends in a slash, and b after it adds one component, b adds one part
 last_appended : (u b : List ℕ) (v : Value) → needs_no_separator u ≡ true
     → values (u ++ b) ≡ values u ++ v ∷ []
     → (p : Part) × (parts (u ++ b) ≡ parts u ++ p ∷ [])
@@ -57,14 +58,13 @@ last_appended u b v o e =
 parts_end-le : (s : List ℕ) → parts_end (parts s) ≤ length s
 parts_end-le s = omega (arith, length-rest_whole s, length-rest_whole-le s)
 
--- the bytes of u followed by b, cut where the last part of u ends, are the rest of a fresh walk
--- over u
+-- u followed by b, cut where the last part of u ends, is u without trailing filler
 take-parts_end : (u b : List ℕ) → take (parts_end (parts u)) (u ++ b) ≡ rest u 0 0
 take-parts_end u b =
     take-append-le (parts_end (parts u)) u b (parts_end-le u) ∙ sym (rest-whole u)
 
--- if b adds one component to the open path u, the rest without that component is u without trailing
--- filler
+-- if u is empty or ends in a slash, and b after it adds one component, removing this component
+-- leaves u without trailing filler
 pub rest-appended : (u b : List ℕ) (v : Value) → needs_no_separator u ≡ true
     → values (u ++ b) ≡ values u ++ v ∷ [] → rest (u ++ b) 0 1 ≡ rest u 0 0
 rest-appended u b v o e =

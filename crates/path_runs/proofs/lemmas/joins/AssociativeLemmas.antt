@@ -7,7 +7,8 @@ use Rattle.unix_bytes.proofs.lemmas.lists.ListLemmas.{by_test}
 use Rattle.unix_path.proofs.lemmas.edits.JoinLemmas.{join_of_rooted, join_of_no_separator}
 use Rattle.unix_path.proofs.lemmas.edits.JoinLemmas.{join_of_separator}
 
--- what a join of a with a rootless path inserts after a: a slash, or nothing if a is open
+-- the bytes that a join of a with a rootless path inserts after a: a slash, or nothing if a is
+-- empty or ends in a slash
 abbrev pub separator : List ℕ → List ℕ
 separator a = cond (needs_no_separator a) [] (47 ∷ [])
 
@@ -16,7 +17,7 @@ join_of-separator a b r = by_test (needs_no_separator a)
     (λ o. join_of_no_separator a b r o ∙ rw o (ap (λ x. x ++ b) (sym (append-nil a))))
     (λ o. join_of_separator a b r o ∙ rw o refl)
 
--- a path with a trailing slash is open
+-- if a path ends in a slash, it is open
 needs_no_separator-slash : (a : List ℕ) → needs_no_separator (a ++ 47 ∷ []) ≡ true
 needs_no_separator-slash [] = refl
 needs_no_separator-slash (x ∷ []) = refl
@@ -27,7 +28,7 @@ needs_no_separator-separator a = by_test (needs_no_separator a)
     (λ o. rw o (ap needs_no_separator (append-nil a) ∙ o))
     (λ o. rw o (needs_no_separator-slash a))
 
--- an open path followed by a second path is open if and only if the second path is open
+-- if u is open, then u followed by b is open if and only if b is open
 pub needs_no_separator-append : (u b : List ℕ) → needs_no_separator u ≡ true
     → needs_no_separator (u ++ b) ≡ needs_no_separator b
 needs_no_separator-append [] b o = refl
@@ -50,7 +51,7 @@ is_rooted-join_of (x ∷ b) c r = ap is_rooted (join_of-separator (x ∷ b) c r)
 regroup : (a p b q c : List ℕ) → (((a ++ p) ++ b) ++ q) ++ c ≡ (a ++ p) ++ ((b ++ q) ++ c)
 regroup a p b q c = simp append_assoc
 
--- joins of rootless paths to a path are associative
+-- if b and c have no root, joining a, b and c is associative
 join_of-rootless : (a b c : List ℕ) → is_rooted b ≡ false → is_rooted c ≡ false
     → join_of (join_of a b) c ≡ join_of a (join_of b c)
 join_of-rootless a b c m n =

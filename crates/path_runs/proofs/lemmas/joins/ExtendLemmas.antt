@@ -1,4 +1,4 @@
--- Joins of a path with rootless paths: with all of them, or only with those up to some path.
+-- Joins of a path with a list of rootless paths, or with a prefix of the list.
 use Rattle.std.proofs.Common.{◌≡◌, ℕ, suc, ◌≤◌, ◌<◌, false, List, [], ◌∷◌, ◌++◌, length, take, drop}
 use Rattle.std.proofs.Common.{map, Option, slice_get, Some, refl, sym, ap, subst, ◌∙◌, arith}
 use Rattle.std.proofs.Common.{map-id}
@@ -35,19 +35,21 @@ length-join_all_of a [] h = omega arith
 length-join_all_of a (b ∷ bs) h =
     omega (arith, length-join_of a b h.0, length-join_all_of (join_of a b) bs h.1)
 
--- a join with two lists of paths is a join with the first list, and then with the second
+-- joining two lists of paths, one after the other, to a is the same as joining the first list to a,
+-- and then the second to the result
 pub join_all_of-append : (a : List ℕ) (bs cs : List (List ℕ))
     → join_all_of a (bs ++ cs) ≡ join_all_of (join_all_of a bs) cs
 join_all_of-append a [] cs = refl
 join_all_of-append a (b ∷ bs) cs = join_all_of-append (join_of a b) bs cs
 
--- a list is the items before item n, that item, and the items after it
+-- a list is the items before index n, the item at n, and the items after it
 slice_get-split : {X : Type 0} (xs : List X) (n : ℕ) (y : X) → slice_get xs n ≡ Some y
     → xs ≡ take n xs ++ y ∷ drop (suc n) xs
 slice_get-split xs n y e = split_at xs n y (slice_get_within xs n y e)
     ∙ ap (λ z. take n xs ++ z ∷ drop (suc n) xs) (get_or_from_slice_get xs n y y e)
 
--- the join with the paths up to some path is no longer than the join with all paths
+-- if no path in `all` has a root, and x is the path after the prefix xs, joining xs and x is no
+-- longer than joining all paths
 length-join_of_next : (old : List ℕ) (all xs : List Path) (x : Path)
     → map (λ x. x) xs ≡ take (length xs) all → Some x ≡ slice_get all (length xs)
     → AllRootless (bytes_of_each all)
@@ -68,7 +70,7 @@ length-join_of_next old all xs x prefix at h =
     ap (join_all_of old) parts ∙ join_all_of-append old before onward in
     omega (arith, ap length all_is, length-join_all_of made (bytes_of_each rest) rootless.1)
 
--- if the join with the rootless paths up to some path is longer than `max_len`, so is the join with
+-- if no path has a root, and joining a prefix of the paths exceeds `max_len` bytes, so does joining
 -- all of them
 pub JoinsBeginning-exceeds : {S : Type 0} {steps : S → Option Path → S → Type 0} {items : S}
     {all : List Path} (old new : List ℕ) (max_len : ℕ) → YieldsList steps (λ x. x) items all
@@ -86,12 +88,12 @@ JoinsBeginning-exceeds {all = all} old new max_len yields h e =
       ap (λ s. length (join_of s e.next.bytes.now)) e.bytes,
     )
 
--- an iterator over no paths has returned no items
+-- if an iterator has no items, it has returned none
 no_items : {A B : Type 0} (v : A → B) (xs : List A) → map v xs ≡ take (length xs) [] → xs ≡ []
 no_items v [] e = refl
 no_items v (x ∷ xs) e = absurd (omega (arith, ap length e))
 
--- the join of no paths to the empty path is empty
+-- if an iterator has no items, joining its items to the empty path has at most 0 bytes
 pub JoinsFit-none : {S B : Type 0} {steps : S → Option Path → S → Type 0} {items : S}
     (v : Path → B) (ys : List B) → ys ≡ [] → YieldsList steps v items ys
     → JoinsFit steps items [] 0

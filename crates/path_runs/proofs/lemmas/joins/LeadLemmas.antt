@@ -63,11 +63,13 @@ abbrev pub dot_first : List (List ℕ) → Bool
 dot_first [] = false
 dot_first (p ∷ ps) = bytes_eq p cur_dir
 
--- the leading component: the root, or else a `.`, or else none
+-- the leading component: the root if the first flag is true, or else a `.` if the second is true,
+-- or else none
 abbrev pub lead_by : Bool → Bool → List Value
 lead_by rooted dotted = cond rooted (RootDir ∷ []) (cond dotted (CurDir ∷ []) [])
 
--- the leading part, without its position, is the root, or else a leading `.`, or else nothing
+-- the leading part, without its position, is the root if there is one, or else a leading `.` if
+-- there is one
 leading_values : (s : List ℕ)
     → map (λ (p : Part). p.value) (leading_part s) ≡ lead_by (is_rooted s)
     (dot_first (slice_split is_slash s))
@@ -76,12 +78,12 @@ leading_values s = by_test (is_rooted s) (λ e. rw e refl)
     (λ e. rw (e, slice_split-first s) (by_test (bytes_eq (first_piece s) cur_dir)
     (λ d. rw d refl) (λ d. rw d refl)))
 
--- a path's components are its leading root or `.`, followed by its inner components
+-- a path's components are its leading root or `.`, if it has one, followed by its inner components
 pub values-lead : (s : List ℕ)
     → values s ≡ lead_by (is_rooted s) (dot_first (slice_split is_slash s)) ++ inner_values s
 values-lead s = values-leading s ∙ ap (λ vs. vs ++ inner_values s) (leading_values s)
 
--- without the leading root or `.`, only the components after it remain
+-- if vs doesn't begin with the root or a `.`, removing the leading component before vs leaves vs
 drop_leading-lead_by : (c d : Bool) (vs : List Value) → HasNoLead vs
     → drop_leading (lead_by c d ++ vs) ≡ vs
 drop_leading-lead_by true d vs h = refl
@@ -97,8 +99,8 @@ drop_leading-values s =
 same_tail : {x y : Value} {xs ys : List Value} → x ∷ xs ≡ y ∷ ys → xs ≡ ys
 same_tail e = cc
 
--- after the first component, which is a leading root or `.` or an inner component, come only inner
--- components
+-- if a list consists of an optional root or `.` and then inner components, all its components after
+-- the first are inner components
 inner_lead : (c d : Bool) (vs : List Value) (x : Value) (xs : List Value)
     → AllByRecursion IsInner vs → lead_by c d ++ vs ≡ x ∷ xs → AllByRecursion IsInner xs
 inner_lead true d vs x xs h e = subst (AllByRecursion IsInner) (same_tail e) h
@@ -113,7 +115,7 @@ inner-behind s x xs e =
     inner_lead (is_rooted s) _ (inner_values s) x xs (inner_values-inner s)
     (sym (values-lead s) ∙ e)
 
--- if the first component is no root, only a leading `.` can be dropped
+-- if the first component isn't the root, dropping a leading root or `.` drops only a leading `.`
 drop_dot-rootless : (vs : List Value) → root_first vs ≡ false → drop_dot vs ≡ drop_leading vs
 drop_dot-rootless [] h = refl
 drop_dot-rootless (RootDir ∷ vs) h = absurd (let d : true ≡ false = h in cc)
@@ -129,36 +131,37 @@ abbrev pub append_values : List Value → List Value → List Value
 append_values [] ws = ws
 append_values (v ∷ vs) ws = (v ∷ vs) ++ drop_leading ws
 
--- inner components are all appended
+-- if ws are inner components, all of them are appended to vs
 pub append_values-inner : (vs ws : List Value) → AllByRecursion IsInner ws
     → append_values vs ws ≡ vs ++ ws
 append_values-inner [] ws h = refl
 append_values-inner (v ∷ vs) ws h = ap (λ us. v ∷ vs ++ us) (inner-no_lead ws h).no_lead
 
--- appending the components of b to those of a path of a byte or more adds only b's inner components
+-- if s isn't empty, appending the components of b to the components of s adds only the inner
+-- components of b
 append_values-some : (s b : List ℕ) → 0 < length s
     → values s ++ inner_values b ≡ append_values (values s) (values b)
 append_values-some s b l =
     let some = some_values s l in
     rw (some.2, drop_leading-values b) refl
 
--- after an open path, bytes add their components as in a join
+-- if u is empty or ends in a slash, the bytes b after it add their components, without a leading
+-- root or `.` unless u is empty
 pub values-append_open : (u b : List ℕ) → needs_no_separator u ≡ true
     → values (u ++ b) ≡ append_values (values u) (values b)
 values-append_open [] b o = rw values-nil refl
 values-append_open (x ∷ u) b o =
     values-open (x ∷ u) b o (omega arith) ∙ append_values-some (x ∷ u) b (omega arith)
 
--- a join with a rootless path has the components of the first path, with those of the second
--- appended
+-- a join with a rootless path b has the components of a, and then those of b, without a leading `.`
+-- unless a is empty
 pub values-join_of_rootless : (a b : List ℕ) → is_rooted b ≡ false
     → values (join_of a b) ≡ append_values (values a) (values b)
 values-join_of_rootless [] b r = rw (join_of-nil b, values-nil) refl
 values-join_of_rootless (x ∷ a) b r =
     values-join_of (x ∷ a) b (omega arith) r ∙ append_values-some (x ∷ a) b (omega arith)
 
--- a join with a rootless path has the components of the first path, followed by the components
--- added
+-- a join with a rootless path b has the components of a, followed by `values_added a b`
 pub values-join_of_values_added : (a b : List ℕ) → is_rooted b ≡ false
     → values (join_of a b) ≡ values a ++ values_added a b
 values-join_of_values_added [] b r =

@@ -1,4 +1,4 @@
--- One name after a path: pushed and popped, or set instead of the file name.
+-- A path of one name, which is pushed to a path and popped again, or replaces the path's file name.
 use Rattle.std.proofs.Common.{◌≡◌, ℕ, true, false, List, [], ◌∷◌, ◌++◌, Some, is_some, unwrap_or}
 use Rattle.std.proofs.Common.{sym, ap, ◌∙◌, refl}
 use Rattle.unix_path.specs.Parts.{Value, Normal, is_rooted, values, SameValues}
@@ -20,18 +20,18 @@ use Rattle.path_runs.proofs.lemmas.joins.AppendedLemmas.{values-separator}
 use Rattle.path_runs.proofs.lemmas.joins.LeadLemmas.{append_values, append_values-inner}
 use Rattle.path_runs.proofs.lemmas.joins.LeadLemmas.{values-join_of_rootless}
 
--- a path whose last component is a name has a parent
+-- if the last component of a path is a name, the path has a parent: the path without that component
 pub parent_of-name : (s name : List ℕ) (vs : List Value) → values s ≡ vs ++ Normal name ∷ []
     → parent_of s ≡ Some (rest s 0 1)
 parent_of-name s name vs e =
     sym (parent_of-push s vs (Normal name) e refl (λ h. cc))
 
--- a path whose last component is a name has that file name
+-- if the last component of a path is a name, it is the path's file name
 pub file_name_of-name : (s name : List ℕ) (vs : List Value) → values s ≡ vs ++ Normal name ∷ []
     → file_name_of (values s) ≡ Some name
 file_name_of-name s name vs e = ap file_name_of e ∙ file_name_of-last vs (Normal name)
 
--- a path without its last component has the components before it
+-- if the components of s are vs and then v, s without its last component has the components vs
 pub values-rest_push : (s : List ℕ) (vs : List Value) (v : Value) → values s ≡ vs ++ v ∷ []
     → values (rest s 0 1) ≡ vs
 values-rest_push s vs v e = values-rest s 0 1 ∙ ap (middle 0 1) e ∙ middle-push vs v
@@ -67,8 +67,8 @@ values-popped_of s n name e =
 
 -- ---- one name instead of the file name
 
--- a join with one name, without its last component, is the first path up to the end of its last
--- component
+-- if one name is joined to r and the last component is removed again, the result is r without
+-- trailing filler
 pub rest-join_of_one : (r n name : List ℕ) → IsOneName n name
     → rest (join_of r n) 0 1 ≡ rest r 0 0
 rest-join_of_one r n name e =
@@ -80,18 +80,20 @@ rest-join_of_one r n name e =
     ap (λ t. rest t 0 1) is ∙ rest-appended u n (Normal name) (needs_no_separator-separator r) all
     ∙ rest-separator r
 
--- a new file name is joined to the path without the old file name
+-- if a path has a file name, a new one is joined to the path without its last component
 with_name_of-join : (s old n : List ℕ) → file_name_of (values s) ≡ Some old
     → with_name_of s n ≡ join_of (rest s 0 1) n
 with_name_of-join s old n f = ap (λ r. join_of r n) (sym (before_name_of-some s old (sym f)))
 
--- a new file name follows the components before the old file name
+-- if a file name is replaced by one name, the components are those before the old file name, and
+-- then the new name
 pub values-with_name_of : (s old n name : List ℕ) → file_name_of (values s) ≡ Some old
     → IsOneName n name → values (with_name_of s n) ≡ values (rest s 0 1) ++ Normal name ∷ []
 values-with_name_of s old n name f e =
     ap values (with_name_of-join s old n f) ∙ values-join_of_one (rest s 0 1) n name e
 
--- a new file name leaves the rest before it unchanged
+-- if a file name is replaced by one name, the path without its last component has the same bytes as
+-- before
 pub rest-with_name_of : (s old n name : List ℕ) → file_name_of (values s) ≡ Some old
     → IsOneName n name → rest (with_name_of s n) 0 1 ≡ rest s 0 1
 rest-with_name_of s old n name f e =

@@ -1,4 +1,4 @@
--- A path stripped of its base, joined to that base.
+-- A base joined with the rest of a path after that base.
 use Rattle.std.proofs.Common.{◌≡◌, ℕ, ◌+◌, ◌-◌, false, List, [], ◌∷◌, ◌++◌, length, take, refl, sym}
 use Rattle.std.proofs.Common.{ap, ap₂, ◌∙◌, arith, take_all, length-append}
 use Rattle.std.proofs.lemmas.List.{drop_at}
@@ -15,22 +15,23 @@ use Rattle.path_runs.proofs.lemmas.joins.LeadLemmas.{IsInner, inner-no_lead, inn
 use Rattle.path_runs.proofs.lemmas.joins.LeadLemmas.{append_values, append_values-inner}
 use Rattle.path_runs.proofs.lemmas.joins.LeadLemmas.{values-join_of_rootless}
 
--- if the components vs are dropped from vs followed by ws, ws remains
+-- dropping the first `length vs` components from vs followed by ws leaves ws
 middle-append : (vs ws : List Value) → middle (length vs) 0 (vs ++ ws) ≡ ws
 middle-append vs ws =
     let n = length vs in
     let size : length (vs ++ ws) - (n + 0) ≡ length ws = omega (arith, length-append vs ws) in
     ap₂ take size (drop_at vs ws n refl) ∙ take_all (length ws) ws (omega arith)
 
--- a path without its base has the components that follow the base's
+-- if the components of s are those of base and then `more`, the rest of s after base has the
+-- components `more`
 pub values-stripped_of : (s base : List ℕ) (more : List Value) → values base ++ more ≡ values s
     → values (stripped_of s base) ≡ more
 values-stripped_of s base more e =
     values-rest s (length (values base)) 0 ∙ ap (middle (length (values base)) 0) (sym e)
     ∙ middle-append (values base) more
 
--- if r has the components of the path that follow those of base, base joined with r has the
--- components of the path
+-- if the components of s are those of base, which isn't empty, and then those of r, base joined
+-- with r has the components of s
 join_remaining : (s base r : List ℕ) (v : Value) (vs more : List Value)
     → values base ≡ v ∷ vs → values r ≡ more → v ∷ vs ++ more ≡ values s
     → values (join_of base r) ≡ values s
@@ -41,8 +42,8 @@ join_remaining s base r v vs more is rest_is all =
     values-join_of_rootless base r rootless ∙ ap₂ append_values is rest_is
     ∙ append_values-inner (v ∷ vs) more inner ∙ all
 
--- a path without its base, joined to that base, has the components of base and then those that
--- follow them in the path
+-- if the components of s are those of base and then `more`, base joined with the rest of s after it
+-- has the components of s
 strip_join : (s base : List ℕ) (more : List Value) → values base ++ more ≡ values s
     → values (join_of base (stripped_of s base)) ≡ values s
 strip_join s [] more e =
@@ -53,12 +54,13 @@ strip_join s (b ∷ base) more e =
     join_remaining s (b ∷ base) (stripped_of s (b ∷ base)) some.0 some.1 more some.2
     (values-stripped_of s (b ∷ base) more e) (ap (λ vs. vs ++ more) (sym some.2) ∙ e)
 
--- a path without its base, joined to that base, has the components of the path
+-- if s starts with base, joining base with the rest of s after it leads to the components of s
 pub values-join_of_stripped : (s base : List ℕ) → IsPrefixOf (values base) (values s)
     → values (join_of base (stripped_of s base)) ≡ values s
 values-join_of_stripped s base h = strip_join s base h.0 h.1
 
--- if `joined` is a path without its base, joined to that base, it is equal to the path
+-- if s starts with base, and `joined` is base joined with the rest of s after it, `joined` is equal
+-- to s
 pub strip_then_join : (s base joined : List ℕ) → IsPrefixOf (values base) (values s)
     → joined ≡ join_of base (stripped_of s base) → values joined ≡ values s
 strip_then_join s base joined h e = ap values e ∙ values-join_of_stripped s base h

@@ -1,8 +1,8 @@
--- What holds of all items of a list.
+-- Predicates that hold of all items of a list.
 use Rattle.std.proofs.Common.{List, [], ◌∷◌, ◌++◌}
 use Rattle.std.specs.List.{AllByRecursion}
 
--- what holds of all items of a list holds of all items of each suffix
+-- if P holds of all items of a list, it holds of all items of each suffix of the list
 pub AllByRecursion-end : {X : Type 0} (P : X → Type 0) (xs ys : List X)
     → AllByRecursion P (xs ++ ys) → AllByRecursion P ys
 AllByRecursion-end P [] ys h = h

@@ -6,11 +6,11 @@ use Rattle.std.proofs.lemmas.List.{take_at, drop_at, drop-drop}
 use Rattle.path_runs.specs.Overlay.{overlay}
 use Rattle.path_runs.specs.Buffer.{buffer_after}
 
--- these bytes, written over the beginning of the old contents
+-- `old`, with its first bytes replaced by `bytes`
 abbrev pub bytes_over : List ℕ → List ℕ → List ℕ
 bytes_over bytes old = bytes ++ drop (length bytes) old
 
--- bytes written to the beginning of a buffer leave the bytes after them unchanged
+-- writing `first` to the beginning of a buffer leaves the bytes after it unchanged
 drop-bytes_over : (first old : List ℕ) (n : ℕ)
     → drop (length first + n) (bytes_over first old) ≡ drop (length first + n) old
 drop-bytes_over first old n =
@@ -18,8 +18,7 @@ drop-bytes_over first old n =
     ∙ ap (drop n) (drop_at first (drop (length first) old) (length first) refl)
     ∙ drop-drop n (length first) old
 
--- writing bytes to the beginning, and then more after them, is the same as writing all of them at
--- once
+-- writing `first` to the beginning and then `second` after it is the same as writing both at once
 pub overlay-bytes_over : (first second old : List ℕ)
     → overlay (length first) second (bytes_over first old) ≡ bytes_over (first ++ second) old
 overlay-bytes_over first second old =
@@ -28,11 +27,12 @@ overlay-bytes_over first second old =
     (drop-bytes_over first old (length second)
     ∙ ap (λ n. drop n old) (sym (length-append first second)))
 
--- bytes written at index 0 are written to the beginning
+-- writing at index 0 is writing to the beginning
 pub overlay-first : (bytes old : List ℕ) → overlay 0 bytes old ≡ bytes_over bytes old
 overlay-first bytes old = overlay-bytes_over [] bytes old
 
--- a buffer that is long enough for the bytes has them at its beginning after the call
+-- if `bytes` isn't longer than the buffer, the buffer begins with `bytes` after the call, and the
+-- contents after them are the old ones
 pub buffer_after-fits : (bytes old : List ℕ) → length bytes ≤ length old
     → buffer_after bytes old ≡ bytes_over bytes old
 buffer_after-fits bytes old h = cond-true _ _ _ (le-leb (length bytes) (length old) h)

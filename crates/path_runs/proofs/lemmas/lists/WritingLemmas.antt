@@ -6,19 +6,21 @@ use Rattle.path_runs.specs.Buffer.{buffer_after}
 use Rattle.path_runs.proofs.lemmas.lists.OverlayLemmas.{bytes_over, overlay-bytes_over}
 use Rattle.path_runs.proofs.lemmas.lists.OverlayLemmas.{buffer_after-fits}
 
--- `out` is `old` with the first `at` bytes of `whole` written to the beginning; `left` is the rest
+-- `out` is `old` with the first `at` bytes of `whole` written to its beginning; `left` is the rest
+-- of `whole`
 pub record WritesOn (whole old : List ℕ) (at : ℕ) (out left : List ℕ) : Type 0 where
   pub start : List ℕ
   pub at_is : at ≡ length start
   pub out_is : out ≡ bytes_over start old
   pub whole_is : start ++ left ≡ whole
 
--- before anything is written, the rest is all of `whole`
+-- before anything is written, the rest `left` is all of `whole`
 pub writes_first : {left : List ℕ} (whole old : List ℕ) → left ≡ whole
     → WritesOn whole old 0 old left
 writes_first whole old e = record { start = []; at_is = refl; out_is = refl; whole_is = e }
 
--- writing the next run of the rest, `stretch`, writes that many more bytes of `whole`
+-- if the rest `left` begins with `stretch`, writing `stretch` at index `at` writes `length stretch`
+-- more bytes of `whole`
 pub writes_stretch : {whole old out left new : List ℕ} {at end : ℕ} (stretch more : List ℕ)
     → WritesOn whole old at out left → left ≡ stretch ++ more → new ≡ overlay at stretch out
     → end ≡ at + length stretch → WritesOn whole old end new more
@@ -32,7 +34,8 @@ writes_stretch {whole} {old} {out} {left} {new} {at} {end} stretch more h e plac
           ∙ h.whole_is;
     }
 
--- if `whole` fits, so does the next run of the rest
+-- if `whole` fits into the buffer, and the rest begins with `stretch`, then `stretch` fits at index
+-- `at`
 pub writes_room : {whole old out left : List ℕ} {at : ℕ} (stretch more : List ℕ)
     → WritesOn whole old at out left → left ≡ stretch ++ more → length whole ≤ length old
     → at + length stretch ≤ length old
@@ -47,7 +50,7 @@ writes_room {whole} {old} {out} {left} {at} stretch more h e fits =
       fits,
     )
 
--- if the rest is empty, `whole` is written
+-- if the rest is empty and `whole` fits into the buffer, all of `whole` is written
 pub writes_last : {whole old out left : List ℕ} {at : ℕ} → WritesOn whole old at out left
     → left ≡ [] → length whole ≤ length old → out ≡ buffer_after whole old
 writes_last {whole} {old} {out} {left} {at} h e fits =

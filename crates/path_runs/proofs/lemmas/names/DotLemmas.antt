@@ -19,7 +19,7 @@ none_at : (s : List ℕ) (b k : ℕ) → HasNoByte b s → k < length s → eqb 
 none_at s b k h l =
     by_test (eqb (get_or s k 0) b) (λ e. absurd (h k 0 l (eqb-true _ _ e))) (λ e. e)
 
--- if no byte is b, the index of the first b is the length
+-- if no byte of s is b, the index of the first b is the length of s
 pub none_found : (s : List ℕ) (b : ℕ) → HasNoByte b s → position_or_len (λ c. eqb c b) s ≡ length s
 none_found s b h = position_or_len_is (λ c. eqb c b) s (length s) 0 (omega arith)
     (λ k l. none_at s b k h l) (λ l. absurd (omega arith))
@@ -32,7 +32,7 @@ drop-past_dot : (f x : List ℕ) → drop (length f + 1) (f ++ 46 ∷ x) ≡ x
 drop-past_dot f x = ap (drop (length f + 1)) (sym (append_assoc f (46 ∷ []) x))
     ∙ drop_at (f ++ 46 ∷ []) x (length f + 1) (length-append f (46 ∷ []))
 
--- a dot that no dot follows is the last dot
+-- if x has no dot, the dot between f and x is the last dot
 after_last-dot : (f x : List ℕ) → HasNoByte 46 x → length f + 1 ≡ after_last is_dot (f ++ 46 ∷ x)
 after_last-dot f x h =
     let s = f ++ 46 ∷ x in
@@ -41,7 +41,7 @@ after_last-dot f x h =
     ∙ get_or-append_seam f 46 x 0)
     (rw (drop-past_dot f x) (none_found x 46 h))
 
--- a string has no dot, or is split at its last dot into f and x
+-- s has no dot, or it is f, its last dot and x
 data LastDot (s : List ℕ) : Type 0 where
   NoDot : HasNoByte 46 s → LastDot s
   AtDot : (f x : List ℕ) → s ≡ f ++ 46 ∷ x → HasNoByte 46 x → LastDot s
@@ -56,7 +56,7 @@ last_dot : (s : List ℕ) → LastDot s
 last_dot [] = NoDot (All-nil (λ c. c ≢ 46))
 last_dot (b ∷ s) = last_dot-cons b s (last_dot s)
 
--- a name is split at its last dot if a byte comes before the dot
+-- if f isn't empty and x has no dot, f followed by a dot and x has the stem f and the extension x
 pub split_name-dot : (f x : List ℕ) → 0 < length f → HasNoByte 46 x
     → split_name (f ++ 46 ∷ x) ≡ (f, Some x)
 split_name-dot f x l h =
@@ -64,7 +64,7 @@ split_name-dot f x l h =
     split_name-cut (f ++ 46 ∷ x) n (after_last-dot f x h) (omega arith)
     ∙ ap₂ (λ a b. (a, Some b)) (take_at f (46 ∷ x) (n - 1) (omega arith)) (drop-past_dot f x)
 
--- a name is its stem, or its stem followed by a dot and its extension
+-- a name has no extension and is its own stem, or it is its stem, a dot and its extension
 pub data SplitCase (name : List ℕ) : Type 0 where
   Whole : split_name name ≡ (name, None) → SplitCase name
   Cut : (b : ℕ) (f x : List ℕ) → name ≡ b ∷ f ++ 46 ∷ x

@@ -21,8 +21,8 @@ use Rattle.path_runs.proofs.lemmas.joins.LeadLemmas.{append_values, values-appen
 regroup : (f a b c : List ℕ) → ((f ++ a) ++ b) ++ c ≡ f ++ (a ++ (b ++ c))
 regroup f a b c = simp append_assoc
 
--- the bytes up to the end of a prefix of the file name are the bytes before the name and that
--- prefix
+-- if a is a prefix of the file name, the bytes of the path up to the end of a are the bytes before
+-- the file name and then a
 take-name : (s name a r : List ℕ) (c : NameCut s name) → name ≡ a ++ r
     → take (last_start_of (parts s) + length a) s ≡ c.prefix ++ a
 take-name s name a r c e =
@@ -34,8 +34,8 @@ take-name s name a r c e =
     ∙ append_assoc (c.prefix ++ a) r c.back)
     ∙ take_at (c.prefix ++ a) (r ++ c.back) n size
 
--- a path with an extension set is the bytes before the name, the stem, the dot if there is one, and
--- the extension
+-- if s has a file name, setting x as its extension leaves the bytes before the name, the stem, a
+-- dot unless x is empty, and x
 pub with_extension_of-cut : (s name x : List ℕ) → file_name_of (values s) ≡ Some name
     → (c : NameCut s name)
     → with_extension_of s x ≡ c.prefix ++ ((split_name name).0 ++ (dot_before x ++ x))
@@ -46,13 +46,14 @@ with_extension_of-cut s name x e c =
     ∙ ap (λ z. (z ++ dot_before x) ++ x) (take-name s name (split_name name).0 stem.0 c stem.1)
     ∙ regroup c.prefix (split_name name).0 (dot_before x) x
 
--- setting an extension leaves a path without a file name unchanged
+-- if a path has no file name, setting an extension leaves it unchanged
 with_extension_of-none : (s x : List ℕ) → file_name_of (values s) ≡ None
     → with_extension_of s x ≡ s
 unfolding with_extension_of stem_end_of
 with_extension_of-none s x e = ap (λ o. with_extension_at s x (stem_end_by s o)) e
 
--- a path with an extension added is the bytes before the name, the name, a dot and the extension
+-- if s has a file name, adding the extension x, which isn't empty, leaves the bytes before the
+-- name, the name, a dot and x
 added_extension_of-cut : (s name x : List ℕ) → eqb (length x) 0 ≡ false
     → file_name_of (values s) ≡ Some name → (c : NameCut s name)
     → added_extension_of s x ≡ c.prefix ++ (name ++ 46 ∷ x)
@@ -63,14 +64,14 @@ added_extension_of-cut s name x some e c =
     ∙ ap (λ z. (z ++ 46 ∷ []) ++ x) (take-name s name name [] c (sym (append-nil name)))
     ∙ regroup c.prefix name (46 ∷ []) x
 
--- the components, with the file name `name` replaced by what the bytes `n name` add; unchanged
--- without a file name
+-- the components vs, with the file name `name` replaced by the components that the string `n name`
+-- adds; if there is no file name, vs
 abbrev pub renamed : (List ℕ → List ℕ) → List Value → List Value
 renamed n vs =
     option_map_or (λ name. append_values (middle 0 1 vs) (values (n name))) (file_name_of vs) vs
 
--- if f only replaces the file name `name` by `n name`, the components of its result depend only on
--- the path's components
+-- if f only replaces the file name `name` by `n name`, the components of `f s` depend only on the
+-- components of s
 values-renamed : (f n : List ℕ → List ℕ) (s : List ℕ)
     → (file_name_of (values s) ≡ None → f s ≡ s)
     → ((name : List ℕ) → file_name_of (values s) ≡ Some name → (c : NameCut s name)
@@ -89,17 +90,17 @@ values-renamed f n s none some = by (file_name_of (values s)) refl
         ∙ ap (λ vs. append_values vs (values (n name)))
         (sym (ap (middle 0 1) c.before ∙ middle-push (values c.prefix) (Normal name)))
 
--- a name with the extension x set
+-- the name after x is set as its extension
 abbrev pub name_with : List ℕ → List ℕ → List ℕ
 name_with x name = (split_name name).0 ++ (dot_before x ++ x)
 
--- the components of a path with an extension set depend only on the path's components
+-- after an extension is set, the components depend only on the components from before
 pub values-with_extension_of : (s x : List ℕ)
     → values (with_extension_of s x) ≡ renamed (name_with x) (values s)
 values-with_extension_of s x = values-renamed (λ s. with_extension_of s x) (name_with x) s
     (with_extension_of-none s x) (λ name e c. with_extension_of-cut s name x e c)
 
--- the components of a path with an extension added depend only on the path's components
+-- after an extension is added, the components depend only on the components from before
 pub values-added_extension_of : (s x : List ℕ) → eqb (length x) 0 ≡ false
     → values (added_extension_of s x) ≡ renamed (λ name. name ++ 46 ∷ x) (values s)
 values-added_extension_of s x some =

@@ -1,4 +1,4 @@
--- The ancestors of a path, one by one: each is a prefix of its bytes.
+-- Each ancestor of a path is a prefix of the path's bytes.
 use Rattle.std.proofs.Common.{ℕ, zero, suc, ◌+◌, List, [], ◌++◌, length, drop, map}
 use Rattle.std.proofs.Common.{sym, ap, ◌∙◌, append-nil, take-append-drop}
 use Rattle.std.specs.List.{All, AllByRecursion, range_with_len}
@@ -8,7 +8,7 @@ use Rattle.unix_path.specs.Parents.{depth_of, ancestors_of}
 use Rattle.unix_path.specs.Prefixes.{IsPrefixOf}
 use Rattle.unix_path.proofs.lemmas.rests.RestLemmas.{take-rest}
 
--- a path begins with `prefix`
+-- the bytes of a path begin with `prefix`
 abbrev HasPrefix : List ℕ → List ℕ → Type 0
 HasPrefix s prefix = IsPrefixOf prefix s
 
@@ -18,7 +18,8 @@ rest-prefix s m =
     let n = length (rest s 0 m) in
     (drop n s, ap (λ u. u ++ drop n s) (sym (take-rest s m)) ∙ take-append-drop n s)
 
--- a path begins with the bytes of the path without its last m components, for each of n numbers m
+-- for each m from a to a + n, exclusive, a path begins with the bytes of the path without its last
+-- m components
 rests-prefixes : (s : List ℕ) (a n : ℕ)
     → AllByRecursion (HasPrefix s) (map (λ m. rest s 0 m) (range_with_len a n))
 rests-prefixes s a zero = tt

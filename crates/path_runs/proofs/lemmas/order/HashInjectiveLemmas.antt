@@ -15,7 +15,7 @@ use Rattle.path_runs.proofs.lemmas.order.HashInputLemmas.{concat-hash_input_of}
 use Rattle.path_runs.proofs.lemmas.spelling.PieceValueLemmas.{HoldsOfPieces, NoSlash, values-hold}
 use Rattle.unix_path.proofs.lemmas.parts.ValueLemmas.{value_bytes-piece}
 
--- the component that feeds exactly the bytes b before the first slash
+-- the component that feeds a hasher the bytes b before the first slash
 value_fed_by : List ℕ → Value
 value_fed_by b = cond (bytes_eq b []) RootDir (cond (bytes_eq b cur_dir) CurDir (value_of_piece b))
 
@@ -57,12 +57,11 @@ piece_determined p h d e = record {
   determines = rw (d, e) refl;
 }
 
--- each component of a path is determined by the bytes that it feeds before the first slash
+-- the bytes that a component of a path feeds before the first slash determine the component
 values-determined : (s : List ℕ) → AllByRecursion IsDetermined (values s)
 values-determined s = values-hold IsDetermined root_determined dot_determined piece_determined s
 
--- if two pieces, each followed by a slash and more bytes, make the same string, the pieces are the
--- same
+-- if the pieces p and q, each followed by a slash and more bytes, make the same string, p is q
 same_piece : (p q x y : List ℕ) → NoSlash p → NoSlash q → p ++ slash ∷ x ≡ q ++ slash ∷ y → p ≡ q
 same_piece p q x y h k e =
     let split : (r z : List ℕ) → NoSlash r
@@ -72,8 +71,8 @@ same_piece p q x y h k e =
     let both = sym (split p x h) ∙ ap (slice_split is_slash) e ∙ split q y k in
     cc
 
--- if the bytes of two components, each followed by a slash and more bytes, make the same string,
--- the components are the same
+-- if the bytes of the components v and w, each followed by a slash and more bytes, make the same
+-- string, v is w
 same_value : (v w : Value) (x y : List ℕ) → IsDetermined v → IsDetermined w
     → value_bytes v ++ slash ∷ x ≡ value_bytes w ++ slash ∷ y → v ≡ w
 same_value v w x y m n e =
@@ -82,8 +81,8 @@ same_value v w x y m n e =
     (sym (m.fed x) ∙ e ∙ n.fed y) in
     sym m.determines ∙ ap value_fed_by pieces ∙ n.determines
 
--- if what two components feed, each followed by more bytes, makes the same string, the components
--- are the same, and so are the bytes that follow
+-- if the bytes that v feeds, followed by x, are the bytes that w feeds, followed by y, then v is w
+-- and x is y
 same_first : (v w : Value) (x y : List ℕ) → IsDetermined v → IsDetermined w
     → value_bytes v ++ slash ∷ with_zeros v x ≡ value_bytes w ++ slash ∷ with_zeros w y
     → (v ≡ w) × (x ≡ y)
@@ -112,8 +111,8 @@ begins-determined (v ∷ vs) (w ∷ ws) m n x e =
     let others = begins-determined vs ws m.1 n.1 x first.1 in
     (others.0, ap₂ (λ u us. u ∷ us) first.0 others.1)
 
--- if the bytes that one path feeds are a prefix of another's, its components are a prefix of the
--- other's
+-- if the bytes that s feeds are a prefix of the bytes that t feeds, the components of s are a
+-- prefix of the components of t
 pub bytes_fed-IsPrefixOf : (s t x : List ℕ)
     → concat (hash_input_of (values s)) ++ x ≡ concat (hash_input_of (values t))
     → IsPrefixOf (values s) (values t)

@@ -1,4 +1,4 @@
--- The bytes that a component feeds a hasher: its own, a slash, and zeros.
+-- The bytes that a component feeds a hasher: the component's bytes, a slash, and zeros.
 use Rattle.std.proofs.Common.{◌≡◌, ℕ, suc, zero, ◌+◌, ◌-◌, ◌*◌, ◌/◌, List, [], ◌∷◌, ◌++◌, length}
 use Rattle.std.proofs.Common.{take, drop, refl, sym, ap, ◌∙◌, arith, length-append, append_assoc}
 use Rattle.std.proofs.lemmas.List.{append_cancel_left}
@@ -16,11 +16,12 @@ concat-first_chunks (suc k) xs =
     ap (λ ys. take 8 xs ++ ys) (concat-first_chunks k (drop 8 xs)) ∙ sym (take-add 8 (8 * k) xs)
     ∙ ap (λ n. take n xs) {x = 8 + 8 * k} {y = 8 * suc k} (omega arith)
 
--- the zeros that follow n bytes and a slash
+-- the zeros after n bytes and a slash, up to a multiple of 8 bytes
 zeros_after : ℕ → List ℕ
 zeros_after n = take (8 * ((n + 8) / 8) - (n + 1)) (repeat 7 (0 ∷ []))
 
--- bytes with the terminator, split into chunks of 8, are the bytes, a slash and zeros
+-- if the terminator is appended to b, and the result is split into chunks of 8 bytes, the chunks
+-- together are b, a slash and zeros
 concat-in_eights : (b : List ℕ)
     → concat (in_eights (b ++ terminator)) ≡ b ++ slash ∷ zeros_after (length b)
 unfolding in_eights zeros_after
@@ -40,8 +41,7 @@ pub with_zeros-cancel : (v : Value) (x y : List ℕ) → with_zeros v x ≡ with
 unfolding with_zeros
 with_zeros-cancel v x y e = append_cancel_left (zeros_after (length (value_bytes v))) x y e
 
--- components feed the bytes of the first component, a slash, zeros, and then what the other
--- components feed
+-- the components v and vs feed the bytes of v, a slash, zeros, and then the bytes that vs feed
 pub concat-hash_input_of : (v : Value) (vs : List Value) (x : List ℕ)
     → concat (hash_input_of (v ∷ vs)) ++ x
     ≡ value_bytes v ++ slash ∷ with_zeros v (concat (hash_input_of vs) ++ x)

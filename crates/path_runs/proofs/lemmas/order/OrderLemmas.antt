@@ -1,5 +1,5 @@
--- Lists of components are equal if and only if they tie in the order. Lists of components that are
--- prefixes of each other are equal.
+-- Lists of components are equal if and only if they compare as equal, and also if they are prefixes
+-- of each other.
 use Rattle.std.proofs.Common.{◌≡◌, ◌↔◌, ◌⊎◌, inl, inr, refl, List, ◌++◌, length, sym, ap, ◌∙◌}
 use Rattle.std.proofs.Common.{arith}
 use Rattle.std.proofs.Common.{append-nil, Ordering, Less, Equal, Greater}
@@ -12,7 +12,7 @@ use Rattle.unix_path.specs.Order.{values_cmp, IsBefore}
 use Rattle.path_runs.specs.OrderLaws.{OneOrder}
 use Rattle.unix_path.specs.OrderLaws.{values_cmp-total, values_cmp-equal}
 
--- lists of components tie in the order if and only if they are equal
+-- lists of components compare as equal if and only if they are equal
 pub values_cmp-ties : (v w : List Value) → (values_cmp v w ≡ Equal) ↔ (v ≡ w)
 values_cmp-ties v w =
     (values_cmp-equal v w, λ e. ap (values_cmp v) (sym e) ∙ tied_itself values_cmp-total v)
@@ -29,7 +29,7 @@ before-reversed : (v w : List Value) → IsBefore w v → values_cmp v w ≡ Gre
 before-reversed v w before =
     values_cmp-total.antisymm v w ∙ ap ordering_reverse before
 
--- of two lists of components one is less, or they are equal
+-- two lists of components are equal, or one of them is less than the other
 one_of : (v w : List Value) (o : Ordering) → values_cmp v w ≡ o
     → (v ≡ w) ⊎ (IsBefore v w ⊎ IsBefore w v)
 one_of v w Less is = inr (inl is)
@@ -37,7 +37,8 @@ one_of v w Equal is = inl (values_cmp-equal v w is)
 one_of v w Greater is =
     inr (inr (values_cmp-total.antisymm w v ∙ ap ordering_reverse is))
 
--- for two lists one and only one holds: they are equal, the first is less, or the second is less
+-- for two lists of components, one and only one of these holds: they are equal, the first is less,
+-- or the second is less
 pub one_order : OneOrder
 one_order v w = record {
   one_holds = one_of v w (values_cmp v w) refl;

@@ -1,4 +1,5 @@
--- A path's parent sorts before the path, and joined with the path's file name it equals the path.
+-- A path's parent is before the path in the order. Joined with the path's file name, the parent
+-- equals the path.
 use Rattle.std.proofs.Common.{◌≡◌, ℕ, List, [], ◌∷◌, ◌++◌, Some, refl, sym, ap, ap₂, ◌∙◌}
 use Rattle.std.specs.Ordering.{ordering_then}
 use Rattle.std.proofs.lemmas.Cmp.{tied_itself}
@@ -25,7 +26,7 @@ before_push (w ∷ vs) v =
 no_parent : (s parent : List ℕ) → values s ≡ [] → parent_of s ≡ Some parent → ⊥
 no_parent s parent is e = none-some parent (parent_of-none s is ∙ e)
 
--- a path's parent is before the path in the order
+-- if a path has a parent, the parent is before the path in the order
 pub parent-before : (s parent : List ℕ) → parent_of s ≡ Some parent
     → IsBefore (values parent) (values s)
 parent-before s parent e = by (snoc (values s))
@@ -36,7 +37,7 @@ parent-before s parent e = by (snoc (values s))
         ap₂ values_cmp (ap values (parent_of-some s parent e) ∙ values-rest_push s vs v is) is
         ∙ before_push vs v
 
--- a path's parent, joined with its file name, is equal to the path
+-- if a path has a parent and a file name, the parent joined with the file name is equal to the path
 pub parent-join_name : (s parent name : List ℕ) → parent_of s ≡ Some parent
     → file_name_of (values s) ≡ Some name → values (join_of parent name) ≡ values s
 parent-join_name s parent name e f =

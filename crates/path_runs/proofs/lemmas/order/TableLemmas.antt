@@ -1,5 +1,5 @@
--- Lookups, insertions and removals in a table with paths as keys have the results that they have in
--- a table whose keys are the paths' components.
+-- Lookups, insertions and removals have the same results in a table with paths as keys as in a
+-- table whose keys are the paths' components.
 use Rattle.std.proofs.Common.{◌≡◌, ℕ, true, false, cond, List, [], ◌∷◌, Some, refl, ap}
 use Rattle.std.specs.BTreeMap.{insert_entry, is_at}
 use Rattle.std.specs.Map.{remove_entry}
@@ -9,14 +9,14 @@ use Rattle.unix_path.specs.Order.{values_cmp}
 use Rattle.unix_path.specs.Parts.{Value, values}
 use Rattle.path_runs.specs.TableLaws.{rows_of, LookupByValues, InsertByValues, RemoveByValues}
 
--- a lookup by a path finds what the rows have at its components
+-- a lookup by a path finds the value of the row with the path's components
 pub lookup-rows_of : {K V : Type 0} (bytes_of : K → List ℕ) → LookupByValues bytes_of V
 lookup-rows_of bytes_of w [] = refl
 lookup-rows_of bytes_of w (e ∷ entries) =
     ap (λ r. cond (is_at (values_cmp w) (values (bytes_of e.0))) (Some e.1) r)
     (lookup-rows_of bytes_of w entries)
 
--- a removal by a path removes from the rows at its components
+-- removing by a path removes the row with the path's components
 pub remove-rows_of : {K V : Type 0} (bytes_of : K → List ℕ) → RemoveByValues bytes_of V
 remove-rows_of bytes_of w [] = refl
 remove-rows_of {K} {V} bytes_of w (e ∷ entries) =
@@ -30,7 +30,7 @@ remove-rows_of {K} {V} bytes_of w (e ∷ entries) =
       | false ↦ ap (λ rows. row ∷ rows) (remove-rows_of bytes_of w entries)
     ]
 
--- an insertion by a path inserts into the rows at its components
+-- inserting by a path adds a row with the path's components, or replaces the value of that row
 pub insert-rows_of : {K V : Type 0} (bytes_of : K → List ℕ) → InsertByValues bytes_of V
 insert-rows_of bytes_of [] key value = refl
 insert-rows_of {K} {V} bytes_of (e ∷ entries) key value =

@@ -1,4 +1,4 @@
--- `is_under` is true if and only if components start with the components of a base.
+-- `is_under base v` is true if and only if the components v start with the components base.
 use Rattle.std.proofs.Common.{◌≡◌, ◌++◌, ◌∙◌, true, false, List, sym, ap, drop, length}
 use Rattle.std.proofs.Common.{take-append-drop}
 use Rattle.std.proofs.Math.Seq.{take-append_seam}
@@ -11,20 +11,20 @@ use Rattle.unix_path.specs.OrderLaws.{values_cmp-total, is_eq-values_cmp}
 use Rattle.unix_path.specs.Parts.{Value}
 use Rattle.path_runs.specs.Rows.{is_under}
 
--- if the test is true, the components start with base
+-- if `is_under base v` is true, v starts with base
 pub begins_from_under : (base v : List Value) → is_under base v ≡ true → IsPrefixOf base v
 begins_from_under base v is =
     let n = length base in
     (drop n v, ap (λ t. t ++ drop n v) (is_eq-values_cmp base _ is) ∙ take-append-drop n v)
 
--- if the components start with base, the test is true
+-- if v starts with base, `is_under base v` is true
 pub under_from_begins : (base v : List Value) → IsPrefixOf base v → is_under base v ≡ true
 under_from_begins base v begins =
     ap (is_under base) (sym begins.1)
     ∙ ap (λ t. is_eq (values_cmp base t)) (take-append_seam base begins.0)
     ∙ ap is_eq (tied_itself values_cmp-total base)
 
--- if the components don't start with base, the test is false
+-- if v doesn't start with base, `is_under base v` is false
 pub not_under : (base v : List Value) → (IsPrefixOf base v → ⊥) → is_under base v ≡ false
 not_under base v apart =
     false_from_ne_true (is_under base v) (λ is. apart (begins_from_under base v is))

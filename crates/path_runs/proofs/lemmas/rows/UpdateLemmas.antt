@@ -1,4 +1,4 @@
--- What a table has at other paths after an insertion or a removal.
+-- An insertion or a removal doesn't change the values at other components.
 use Rattle.std.proofs.Common.{◌≡◌, ◌∷◌, [], ◌∙◌, List, Bool, true, false, Some, cond, refl, sym, ap}
 use Rattle.std.proofs.Common.{Ordering, Less, Equal, Greater}
 use Rattle.std.proofs.lemmas.Bool.{false_from_ne_true}
@@ -10,21 +10,21 @@ use Rattle.unix_path.specs.OrderLaws.{values_cmp-equal, is_eq-values_cmp}
 use Rattle.unix_path.specs.Parts.{Value}
 use Rattle.path_runs.specs.Rows.{SameElsewhere, value_at}
 
--- component lists that differ are not equal in the order
+-- lists of components that differ don't compare as equal
 is_eq-differ : (v w : List Value) → (v ≡ w → ⊥) → is_eq (values_cmp v w) ≡ false
 is_eq-differ v w differ =
     false_from_ne_true (is_eq (values_cmp v w)) (λ is. differ (is_eq-values_cmp v w is))
 
 module _ {V : Type 0} (v w : List Value) (differ : v ≡ w → ⊥) where
-  -- a first row at w doesn't change the value at v
+  -- a new first row with the components w doesn't change the value at v, which differs from w
   value_at-other : (key : List Value) (x : V) (rows : List (List Value × V)) → w ≡ key
       → value_at v ((key, x) ∷ rows) ≡ value_at v rows
   value_at-other key x rows same =
       ap (λ b. cond b (Some x) (value_at v rows))
       (is_eq-differ v key (λ is. differ (is ∙ sym same)))
 
-  -- an insertion at w doesn't change the value at v, whether it is before the first row, replaces
-  -- it, or is after it
+  -- an insertion at w doesn't change the value at v, whether the new row comes before the first
+  -- row, replaces it, or comes after it
   value_at-match_ordering : (x : V) (row : List Value × V) (rows : List (List Value × V))
       (o : Ordering) → values_cmp w row.0 ≡ o
       → value_at v (insert_entry values_cmp rows w x) ≡ value_at v rows

@@ -8,11 +8,11 @@ use Rattle.unix_path.specs.Parts.{Value, RootDir, value_bytes, values}
 use Rattle.path_runs.specs.Spelling.{slashed_bytes, spelling_of}
 use Rattle.path_runs.proofs.lemmas.spelling.LeanLemmas.{spelling_of-shortest}
 
--- the number of bytes of the components
+-- the total number of bytes of the components
 abbrev pub byte_count : List Value → ℕ
 byte_count vs = sum_by (λ v. length (value_bytes v)) vs
 
--- components have at most as many bytes as they have with slashes between them
+-- components have at most as many bytes without slashes between them as with slashes
 byte_count-slashed_bytes : (vs : List Value) → byte_count vs ≤ length (slashed_bytes vs)
 byte_count-slashed_bytes [] = omega arith
 byte_count-slashed_bytes (v ∷ []) = omega (arith, sum_by-cons (λ v. length (value_bytes v)) v [])

@@ -13,13 +13,14 @@ use Rattle.path_runs.proofs.lemmas.spelling.SpellLemmas.{spelling_of-root}
 use Rattle.path_runs.proofs.lemmas.spelling.UnslashedLemmas.{IsUnslashed, IsUnslashedValue, Shape}
 use Rattle.path_runs.proofs.lemmas.spelling.UnslashedLemmas.{Rooted, Rootless, values-shape}
 
--- x put before the first of some strings comes before the strings joined by slashes
+-- if x is put before the first of some strings, and they are joined by slashes, x comes before the
+-- result
 join_with_byte-onto : (x b : List ℕ) (bs : List (List ℕ))
     → join_with_byte slash ((x ++ b) ∷ bs) ≡ x ++ join_with_byte slash (b ∷ bs)
 join_with_byte-onto x b [] = refl
 join_with_byte-onto x b (c ∷ bs) = append_assoc x b (slash ∷ join_with_byte slash (c ∷ bs))
 
--- a path that ends with the bytes of a path that isn't open isn't open
+-- if b isn't empty and doesn't end in a slash, the same is true of a followed by b
 needs_no_separator-append_closed : (a b : List ℕ) → needs_no_separator b ≡ false
     → needs_no_separator (a ++ b) ≡ false
 needs_no_separator-append_closed [] b e = e
@@ -27,11 +28,12 @@ needs_no_separator-append_closed (x ∷ []) [] e = absurd (let d : true ≡ fals
 needs_no_separator-append_closed (x ∷ []) (y ∷ b) e = e
 needs_no_separator-append_closed (x ∷ y ∷ a) b e = needs_no_separator-append_closed (y ∷ a) b e
 
--- all these strings are unslashed
+-- each of these strings is unslashed: it isn't empty and neither begins nor ends with a slash
 abbrev pub AllUnslashed : List (List ℕ) → Type 0
 AllUnslashed bs = AllByRecursion IsUnslashed bs
 
--- unslashed paths that are joined to a path that isn't open each follow a slash
+-- if a isn't empty and doesn't end in a slash, joining unslashed paths to it puts a slash before
+-- each of them
 join_all_of-closed : (a : List ℕ) (bs : List (List ℕ)) → needs_no_separator a ≡ false
     → AllUnslashed bs
     → join_all_of a bs ≡ join_with_byte slash (a ∷ bs)
@@ -43,7 +45,8 @@ join_all_of-closed a (b ∷ bs) o h =
     ∙ join_with_byte-onto (a ++ slash ∷ []) b bs
     ∙ append_assoc a (slash ∷ []) (join_with_byte slash (b ∷ bs))
 
--- one or more unslashed paths that are joined to any path have slashes between them
+-- joining one or more unslashed paths to any path a puts slashes between them, and one after a if a
+-- needs it
 pub join_all_of-some : (a b : List ℕ) (bs : List (List ℕ)) → AllUnslashed (b ∷ bs)
     → join_all_of a (b ∷ bs) ≡ (a ++ separator a) ++ join_with_byte slash (b ∷ bs)
 join_all_of-some a b bs h =
@@ -57,7 +60,7 @@ join_all_of-unslashed : (bs : List (List ℕ)) → AllUnslashed bs
 join_all_of-unslashed [] h = refl
 join_all_of-unslashed (b ∷ bs) h = join_all_of-some [] b bs h
 
--- unslashed paths that are joined to the root follow it with slashes between them
+-- joining unslashed paths to the root puts them after it, with slashes between them
 join_all_of-root : (bs : List (List ℕ)) → AllUnslashed bs
     → join_all_of [] ((slash ∷ []) ∷ bs) ≡ slash ∷ join_with_byte slash bs
 join_all_of-root [] h = join_of_rooted [] (slash ∷ []) refl
@@ -70,7 +73,7 @@ pub unslashed_bytes : (vs : List Value) → AllByRecursion IsUnslashedValue vs
 unslashed_bytes [] h = tt
 unslashed_bytes (v ∷ vs) h = (h.0.unslashed, unslashed_bytes vs h.1)
 
--- the canonical form of unslashed components is their bytes with slashes between them
+-- if no component is the root, their canonical form is their bytes with slashes between them
 pub spelling_of-unslashed : (vs : List Value) → AllByRecursion IsUnslashedValue vs
     → spelling_of vs ≡ slashed_bytes vs
 unfolding spelling_of

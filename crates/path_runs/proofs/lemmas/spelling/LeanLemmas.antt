@@ -1,4 +1,5 @@
--- No path is shorter than its canonical form. A piece counts if it is neither empty nor `.`.
+-- No path is shorter than its canonical form. A piece counts if it is neither empty nor `.`, and an
+-- inner component is a `..` or a name.
 use Rattle.std.proofs.Common.{◌≡◌, ℕ, ◌+◌, ◌<◌, ◌≤◌, eqb, List, [], ◌∷◌, ◌++◌, length, drop, sym}
 use Rattle.std.proofs.Common.{refl, ap, subst, ◌∙◌, ◌⊎◌, inl, inr, arith, append-nil, length-append}
 use Rattle.std.proofs.Common.{eqb-true}
@@ -37,7 +38,7 @@ SameOrShorter-longer u s t (inr h) l = inr (omega arith)
 abbrev each_piece : List (List ℕ) → List ℕ
 each_piece ps = flat_map (λ p. slash ∷ p) ps
 
--- pieces, each after a slash, are the same or shorter without the pieces that don't count
+-- with a slash before each, the pieces that count are the same bytes as all pieces, or fewer
 SameOrShorter-names : (ps : List (List ℕ))
     → SameOrShorter (slash_each (names_of ps)) (each_piece ps)
 SameOrShorter-names [] = inl refl
@@ -49,13 +50,13 @@ SameOrShorter-names (p ∷ ps) = by_test (counts p)
     (each_piece (p ∷ ps))
     (SameOrShorter-names ps) (omega (arith, length-append p (each_piece ps)))))
 
--- pieces, each after a slash, are a slash and the joined pieces
+-- one or more pieces, each after a slash, are a slash and then the pieces joined by slashes
 each_piece-join : (p : List ℕ) (ps : List (List ℕ))
     → each_piece (p ∷ ps) ≡ slash ∷ join_with_byte slash (p ∷ ps)
 each_piece-join p [] = ap (λ u. slash ∷ u) (append-nil p)
 each_piece-join p (q ∷ ps) = ap (λ u. slash ∷ (p ++ u)) (each_piece-join q ps)
 
--- a string is its pieces, joined
+-- a string is its pieces, joined by slashes
 pub join_with_byte-pieces : (s : List ℕ) → join_with_byte slash (slice_split is_slash s) ≡ s
 join_with_byte-pieces s = join_with_byte-slice_split 47 s
 
@@ -66,7 +67,7 @@ each_piece-whole s =
     ∙ ap (λ ps. slash ∷ join_with_byte slash ps) (sym first)
     ∙ ap (λ u. slash ∷ u) (join_with_byte-pieces s)
 
--- the components of a string, each after a slash, are the string after a slash, or shorter
+-- the inner components of s, each after a slash, are a slash and s, or shorter
 slashed_parts-lean : (s : List ℕ) → SameOrShorter (slashed_parts s) (slash ∷ s)
 unfolding slashed_parts
 slashed_parts-lean s =
@@ -78,12 +79,12 @@ SameOrShorter-length : (u s : List ℕ) → SameOrShorter u s → length u ≤ l
 SameOrShorter-length u s (inl e) = omega (arith, ap length e)
 SameOrShorter-length u s (inr h) = omega arith
 
--- the components of a string, each after a slash, have at most one byte more than the string
+-- the inner components of s, each after a slash, have at most one byte more than s
 pub slashed_parts-length : (s : List ℕ) → length (slashed_parts s) ≤ length s + 1
 slashed_parts-length s =
     omega (arith, SameOrShorter-length (slashed_parts s) (slash ∷ s) (slashed_parts-lean s))
 
--- a string's components, with slashes between them, have at most as many bytes as the string
+-- the inner components of s, with slashes between them, have at most as many bytes as s
 pub slashed_bytes-lean : (s : List ℕ) → length (slashed_bytes (inner_values s)) ≤ length s
 unfolding slashed_parts
 slashed_bytes-lean s = by (inner_values s) (slashed_parts-length s)
@@ -93,14 +94,15 @@ slashed_bytes-lean s = by (inner_values s) (slashed_parts-length s)
     by [] l = omega arith
     by (v ∷ vs) l = omega (arith, ap length (slashed_bytes-cons v vs))
 
--- after the root, components with slashes between them are the bytes after the root, or shorter
+-- if vs, each after a slash, are a slash and s, or shorter, then a slash and vs with slashes
+-- between them are the same bytes as a slash and s, or shorter
 SameOrShorter-root : (vs : List Value) (s : List ℕ) → SameOrShorter (slash_each vs) (slash ∷ s)
     → SameOrShorter (slash ∷ slashed_bytes vs) (slash ∷ s)
 SameOrShorter-root [] [] h = inl refl
 SameOrShorter-root [] (x ∷ s) h = inr (omega arith)
 SameOrShorter-root (v ∷ vs) s h = rw (slashed_bytes-cons v vs) h
 
--- the first piece, followed by the components, each after a slash, is the string, or shorter
+-- the first piece of s, followed by the components after it, each after a slash, is s, or shorter
 SameOrShorter-first : (s : List ℕ)
     → SameOrShorter (first_piece s ++ slashed_parts (drop (position_or_len is_slash s) s)) s
 SameOrShorter-first [] = inl (no_parts_after_end [] [] 0 (omega arith))
@@ -124,7 +126,7 @@ spelling_of-lean (x ∷ s) = by_test (eqb x 47)
     (SameOrShorter-root (inner_values s) s (slashed_parts-lean s))))
     (λ e. rw (spelling_of-name (x ∷ s) (omega arith) e) (SameOrShorter-first (x ∷ s)))
 
--- a path with the components of s is the canonical form of s, or longer than it
+-- if t has the components of s, t is the canonical form of s or longer than it
 pub spelling_of-shortest : (s t : List ℕ) → values t ≡ values s
     → (t ≡ spelling_of (values s)) ⊎ (length (spelling_of (values s)) < length t)
 spelling_of-shortest s t e =

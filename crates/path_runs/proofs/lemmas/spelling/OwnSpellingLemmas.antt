@@ -10,7 +10,7 @@ use Rattle.path_runs.proofs.lemmas.spelling.PieceValueLemmas.{slice_split-no_sla
 use Rattle.path_runs.proofs.lemmas.spelling.ReadBackLemmas.{values-join_with_byte}
 use Rattle.path_runs.proofs.lemmas.spelling.SpellLemmas.{spelling_of-pieces, spelling_of-rooted}
 
--- if the test of all pieces returns true, all pieces count
+-- if `list_all counts` returns true for some pieces, all of them count
 AllCount-list_all : (ps : List (List ℕ)) → list_all counts ps ≡ true → AllCount ps
 AllCount-list_all [] h = tt
 AllCount-list_all (p ∷ ps) h = (
@@ -18,7 +18,8 @@ AllCount-list_all (p ∷ ps) h = (
   AllCount-list_all ps (second_so (counts p) (list_all counts ps) h),
 )
 
--- a rooted path is its own canonical form if all pieces of t, which follows the root, count
+-- if a rooted path is a slash and then t, and all pieces of t count, the path is its own canonical
+-- form
 pub spelling_of-own_rooted : (s t : List ℕ) → list_all counts (slice_split is_slash t) ≡ true
     → is_rooted s ≡ true → t ≡ drop 1 s → spelling_of (values s) ≡ s
 spelling_of-own_rooted s t h r e =
@@ -30,7 +31,7 @@ spelling_of-own_rooted s t h r e =
     ∙ ap (λ ps. slash ∷ join_with_byte slash ps) (filter-all ps (AllCount-list_all ps h))
     ∙ ap (λ u. slash ∷ u) (join_with_byte-pieces t ∙ same) ∙ sym u.1
 
--- a rootless path is its own canonical form if all its pieces count
+-- if a path has no root, and all its pieces count, it is its own canonical form
 pub spelling_of-own_rootless : (s t : List ℕ) → list_all counts (slice_split is_slash t) ≡ true
     → is_rooted s ≡ false → t ≡ s → spelling_of (values s) ≡ s
 spelling_of-own_rootless s t h r e =

@@ -1,5 +1,5 @@
--- The components of a path from the pieces between its slashes, and what holds of all components. A
--- piece counts if it is neither empty nor `.`.
+-- The components of a path, computed from the pieces between its slashes, and predicates that hold
+-- of all components. A piece counts if it is neither empty nor `.`.
 use Rattle.std.proofs.Common.{◌≡◌, ℕ, ◌+◌, Bool, true, false, cond, eqb, List, [], ◌∷◌, ◌++◌}
 use Rattle.std.proofs.Common.{length, map, filter, refl, sym, ap, subst, ◌∙◌, eqb-true}
 use Rattle.std.specs.List.{AllByRecursion, slice_split, onto_first}
@@ -37,8 +37,8 @@ pub inner_values-pieces : (s : List ℕ) → inner_values s ≡ names_of (slice_
 unfolding inner_parts
 inner_values-pieces s = names_of-parts 0 (slice_split is_slash s)
 
--- a path's components are its leading root or `.`, followed by the components of its pieces that
--- count
+-- a path's components are its leading root or `.`, if it has one, followed by the components of its
+-- pieces that count
 values-pieces : (s : List ℕ)
     → values s ≡ lead_by (is_rooted s) (dot_first (slice_split is_slash s)) ++ names_of
     (slice_split is_slash s)
@@ -46,8 +46,8 @@ values-pieces s = values-lead s
     ∙ ap (λ vs. lead_by (is_rooted s) (dot_first (slice_split is_slash s)) ++ vs)
     (inner_values-pieces s)
 
--- a rooted path's components are the root, followed by the components of the pieces after it that
--- count
+-- the components of a slash and then t are the root, followed by the components of the pieces of t
+-- that count
 pub values-rooted : (t : List ℕ) → values (slash ∷ t) ≡ RootDir ∷ names_of (slice_split is_slash t)
 values-rooted t = values-pieces (slash ∷ t)
 
@@ -60,7 +60,7 @@ values-rootless s ps r e =
     values-pieces s ∙ ap (λ ps. lead_by (is_rooted s) (dot_first ps) ++ names_of ps) e
     ∙ ap (λ c. lead_by c (dot_first ps) ++ names_of ps) r
 
--- a rooted path is a slash and what follows it
+-- a rooted path is a slash and then a string t
 pub is_rooted-slash : (s : List ℕ) → is_rooted s ≡ true → (t : List ℕ) × (s ≡ slash ∷ t)
 is_rooted-slash [] e = absurd (let d : false ≡ true = e in cc)
 is_rooted-slash (x ∷ t) e = (t, ap (λ x. x ∷ t) (eqb-true x 47 e))
@@ -69,7 +69,8 @@ is_rooted-slash (x ∷ t) e = (t, ap (λ x. x ∷ t) (eqb-true x 47 e))
 abbrev pub NoSlash : List ℕ → Type 0
 NoSlash p = AllByRecursion (λ b. is_slash b ≡ false) p
 
--- if a byte that is no slash is put before the first piece, still no piece has a slash
+-- if no piece has a slash, and a byte that is no slash is put before the first piece, still no
+-- piece has a slash
 onto_first-no_slash : (x : ℕ) (ps : List (List ℕ)) → is_slash x ≡ false → AllByRecursion NoSlash ps
     → AllByRecursion NoSlash (onto_first x ps)
 onto_first-no_slash x [] e h = ((e, tt), tt)
@@ -99,13 +100,14 @@ names_of-hold P of_piece (p ∷ ps) h =
     by_test (bytes_eq p []) (λ e. rw e more) (λ e. by_test (bytes_eq p cur_dir)
     (λ f. rw (e, f) more) (λ f. rw (e, f) (of_piece p h.0 e f, more)))
 
--- what holds of `.` and of some components also holds with a leading `.`, if there is one
+-- if P holds of `.` and of the components vs, it holds of vs after an optional leading `.`
 lead-hold : (P : Value → Type 0) → P CurDir → (c : Bool) (vs : List Value)
     → AllByRecursion P vs → AllByRecursion P (cond c (CurDir ∷ []) [] ++ vs)
 lead-hold P of_dot true vs h = (of_dot, h)
 lead-hold P of_dot false vs h = h
 
--- what holds of `.` and of the components of pieces holds of each component of a rootless path
+-- if P holds of `.` and of the component of each piece that counts, it holds of each component of a
+-- rootless path
 pub values-hold_rootless : (P : Value → Type 0) → P CurDir → HoldsOfPieces P → (s : List ℕ)
     → is_rooted s ≡ false → AllByRecursion P (values s)
 values-hold_rootless P of_dot of_piece s r =
@@ -114,7 +116,8 @@ values-hold_rootless P of_dot of_piece s r =
     (lead-hold P of_dot (dot_first ps) (names_of ps)
     (names_of-hold P of_piece ps (slice_split-no_slash s)))
 
--- what holds of the components of pieces holds of each component after the root
+-- if P holds of the component of each piece that counts, it holds of each component after the root
+-- of a rooted path
 pub values-hold_rooted : (P : Value → Type 0) → HoldsOfPieces P → (s : List ℕ)
     → is_rooted s ≡ true
     → (vs : List Value) × (values s ≡ RootDir ∷ vs) × AllByRecursion P vs
@@ -126,7 +129,8 @@ values-hold_rooted P of_piece s r =
       names_of-hold P of_piece ps (slice_split-no_slash t.0),
     )
 
--- what holds of the root, of `.` and of the components of pieces holds of each component of a path
+-- if P holds of the root, of `.`, and of the component of each piece that counts, it holds of each
+-- component of a path
 pub values-hold : (P : Value → Type 0) → P RootDir → P CurDir → HoldsOfPieces P → (s : List ℕ)
     → AllByRecursion P (values s)
 values-hold P of_root of_dot of_piece s = by_test (is_rooted s)

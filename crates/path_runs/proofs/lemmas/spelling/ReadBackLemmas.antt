@@ -1,5 +1,5 @@
--- The canonical form of a path has the path's components. Pieces are joined by slashes, and a piece
--- counts if it is neither empty nor `.`.
+-- The canonical form of a path has the path's components. Here pieces are always joined by slashes,
+-- and a piece counts if it is neither empty nor `.`.
 use Rattle.std.proofs.Common.{◌≡◌, ℕ, Bool, true, false, cond, List, [], ◌∷◌, ◌++◌, map, filter}
 use Rattle.std.proofs.Common.{refl, sym, ap, subst, ◌∙◌}
 use Rattle.std.specs.List.{AllByRecursion, slice_split, join_with_byte}
@@ -18,7 +18,7 @@ use Rattle.path_runs.proofs.lemmas.spelling.PieceValueLemmas.{slice_split-no_sla
 use Rattle.path_runs.proofs.lemmas.spelling.SpellLemmas.{bytes_of_pieces, spelling_of-dot}
 use Rattle.path_runs.proofs.lemmas.spelling.SpellLemmas.{spelling_of-pieces, spelling_of-rooted}
 
--- joined pieces without a slash are split into these pieces again
+-- if no piece has a slash, the joined pieces are split into the same pieces again
 slice_split-join_with_byte : (p : List ℕ) (ps : List (List ℕ)) → AllByRecursion NoSlash (p ∷ ps)
     → slice_split is_slash (join_with_byte slash (p ∷ ps)) ≡ p ∷ ps
 slice_split-join_with_byte p [] h =
@@ -28,7 +28,7 @@ slice_split-join_with_byte p (q ∷ ps) h =
     (All-from_recursion (λ b. is_slash b ≡ false) p h.0) refl
     ∙ ap (λ qs. p ∷ qs) (slice_split-join_with_byte q ps h.1)
 
--- if no piece has a slash, the pieces that count have none either
+-- if no piece has a slash, none of the pieces that count has one
 filter-no_slash : (ps : List (List ℕ)) → AllByRecursion NoSlash ps
     → AllByRecursion NoSlash (filter counts ps)
 filter-no_slash [] h = tt
@@ -44,14 +44,14 @@ filter-counts (p ∷ ps) =
 names_of-counts : (ps : List (List ℕ)) → AllCount ps → names_of ps ≡ map value_of_piece ps
 names_of-counts ps h = ap (map value_of_piece) (filter-all ps h)
 
--- joined pieces that count are split into pieces with the same components
+-- if all pieces count, the joined pieces are split into pieces with the same components
 pub names_of-join_with_byte : (ps : List (List ℕ)) → AllByRecursion NoSlash ps → AllCount ps
     → names_of (slice_split is_slash (join_with_byte slash ps)) ≡ map value_of_piece ps
 names_of-join_with_byte [] h k = refl
 names_of-join_with_byte (p ∷ ps) h k =
     ap names_of (slice_split-join_with_byte p ps h) ∙ names_of-counts (p ∷ ps) k
 
--- joined pieces whose first byte isn't a slash have no root
+-- if the first byte of joined pieces isn't a slash, they have no root
 is_rooted-join_with_byte : (x : ℕ) (p : List ℕ) (ps : List (List ℕ)) → is_slash x ≡ false
     → is_rooted (join_with_byte slash ((x ∷ p) ∷ ps)) ≡ false
 is_rooted-join_with_byte x p [] h = h
@@ -72,7 +72,7 @@ values-spelling_rooted t =
     (names_of-join_with_byte kept (filter-no_slash ps (slice_split-no_slash t)) (filter-counts ps))
     ∙ sym (values-rooted t)
 
--- joined pieces that count have the components of these pieces
+-- if all pieces count, the joined pieces have the components of these pieces
 pub values-join_with_byte : (ps : List (List ℕ)) → AllByRecursion NoSlash ps → AllCount ps
     → values (join_with_byte slash ps) ≡ map value_of_piece ps
 values-join_with_byte [] h k = values-rootless [] ([] ∷ []) refl refl
@@ -84,7 +84,7 @@ values-join_with_byte ((x ∷ p) ∷ ps) h k =
     ∙ ap (λ c. cond c (CurDir ∷ []) [] ++ names_of all) (counts-no_dot x p k.0)
     ∙ names_of-counts all k
 
--- a leading `.`, joined with pieces that count, has that `.` and their components
+-- if all pieces count, a `.` joined with them has a leading `.` and the components of these pieces
 pub values-join_with_byte_dot : (ps : List (List ℕ)) → AllByRecursion NoSlash ps → AllCount ps
     → values (join_with_byte slash (cur_dir ∷ ps)) ≡ CurDir ∷ map value_of_piece ps
 values-join_with_byte_dot ps h k =
@@ -117,7 +117,7 @@ values-spelling_of s = by_test (is_rooted s)
     (values-spelling_rooted t.0))
     (values-spelling_rootless s)
 
--- equal canonical forms belong to equal lists of components
+-- if two paths have the same canonical form, they have the same components
 pub spelling_of-same : (s t : List ℕ) → spelling_of (values s) ≡ spelling_of (values t)
     → values s ≡ values t
 spelling_of-same s t e = sym (values-spelling_of s) ∙ ap values e ∙ values-spelling_of t

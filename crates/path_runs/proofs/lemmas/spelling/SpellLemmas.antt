@@ -1,4 +1,4 @@
--- The canonical form of components: it differs if the first of them is the root. A piece counts if
+-- The canonical form of components, with and without a root as the first of them. A piece counts if
 -- it is neither empty nor `.`.
 use Rattle.std.proofs.Common.{◌≡◌, ℕ, List, [], ◌∷◌, map, filter, refl, ap, ap₂, ◌∙◌}
 use Rattle.std.specs.List.{slice_split, join_with_byte}
@@ -8,7 +8,7 @@ use Rattle.unix_path.proofs.lemmas.parts.ValueLemmas.{value_bytes-piece, no_root
 use Rattle.path_runs.specs.Spelling.{slashed_bytes, spelling_of}
 use Rattle.path_runs.proofs.lemmas.spelling.PieceValueLemmas.{names_of, values-rooted}
 
--- the components of pieces have the bytes of these pieces
+-- the bytes of the components of pieces are these pieces
 pub bytes_of_pieces : (ps : List (List ℕ)) → map value_bytes (map value_of_piece ps) ≡ ps
 bytes_of_pieces [] = refl
 bytes_of_pieces (p ∷ ps) = ap₂ (λ q qs. q ∷ qs) (value_bytes-piece p) (bytes_of_pieces ps)
@@ -27,8 +27,8 @@ pub spelling_of-dot : (vs : List Value) → spelling_of (CurDir ∷ vs) ≡ slas
 unfolding spelling_of
 spelling_of-dot vs = refl
 
--- if the first component isn't the root, the canonical form is the components with slashes between
--- them
+-- if the first component isn't the root, the canonical form is the bytes of the components with
+-- slashes between them
 pub spelling_of-cons : (v : Value) (vs : List Value) → (v ≡ RootDir → ⊥)
     → spelling_of (v ∷ vs) ≡ slashed_bytes (v ∷ vs)
 unfolding spelling_of

@@ -10,7 +10,7 @@ use Rattle.path_runs.proofs.lemmas.spelling.PieceValueLemmas.{HoldsOfPieces, NoS
 use Rattle.path_runs.proofs.lemmas.spelling.PieceValueLemmas.{values-hold_rooted}
 use Rattle.path_runs.proofs.lemmas.spelling.PieceValueLemmas.{values-hold_rootless}
 
--- not empty, and neither beginning nor ending with a slash
+-- b isn't empty, and neither begins nor ends with a slash
 pub record IsUnslashed (b : List ℕ) : Type 0 where
   pub rootless : is_rooted b ≡ false
   pub closed : needs_no_separator b ≡ false
@@ -20,12 +20,12 @@ needs_no_separator-no_slash : (x : ℕ) (p : List ℕ) → NoSlash (x ∷ p) →
 needs_no_separator-no_slash x [] h = h.0
 needs_no_separator-no_slash x (y ∷ p) h = needs_no_separator-no_slash y p h.1
 
--- a piece that isn't empty is unslashed
+-- if a piece isn't empty, it neither begins nor ends with a slash
 unslashed_piece : (p : List ℕ) → NoSlash p → bytes_eq p [] ≡ false → IsUnslashed p
 unslashed_piece [] h e = absurd (let d : true ≡ false = e in cc)
 unslashed_piece (x ∷ p) h e = record { rootless = h.0; closed = needs_no_separator-no_slash x p h }
 
--- the bytes are unslashed, and the component isn't the root
+-- v isn't the root, and its bytes aren't empty and neither begin nor end with a slash
 pub record IsUnslashedValue (v : Value) : Type 0 where
   pub unslashed : IsUnslashed (value_bytes v)
   pub no_root : v ≡ RootDir → ⊥
@@ -39,12 +39,13 @@ unslashed_value p h = by_test (bytes_eq p parent_dir)
 unslashed_names : HoldsOfPieces IsUnslashedValue
 unslashed_names p h e f = unslashed_value p (unslashed_piece p h e)
 
--- the root followed by unslashed components, or only unslashed components
+-- vs is the root followed by components that are not the root, or only such components
 pub data Shape (vs : List Value) : Type 0 where
   Rooted : (ws : List Value) → vs ≡ RootDir ∷ ws → AllByRecursion IsUnslashedValue ws → Shape vs
   Rootless : AllByRecursion IsUnslashedValue vs → Shape vs
 
--- a path's components are the root followed by unslashed components, or only unslashed components
+-- a path's components are the root followed by components that are not the root, or only such
+-- components
 pub values-shape : (s : List ℕ) → Shape (values s)
 values-shape s = by_test (is_rooted s)
     (λ r. let behind = values-hold_rooted IsUnslashedValue unslashed_names s r in

@@ -1,4 +1,4 @@
--- What a walk has taken after some of its turns.
+-- The components that a walk has taken after some of its turns, and the rest.
 use Rattle.std.proofs.Common.{◌≡◌, ℕ, ◌+◌, cond, length, List, [], ◌∷◌, ◌++◌, take, reverse, refl}
 use Rattle.std.proofs.Common.{ap, arith, length-append, Bool, not}
 use Rattle.std.specs.List.{count_by}
@@ -14,8 +14,8 @@ use Rattle.path_runs.specs.declared.walk.Turn.TheVariants.{Front, Back}
 abbrev pub is_back : Turn → Bool
 is_back turn = not (is_front turn)
 
--- what the first i turns have taken from the front of s, what remains, and what they have taken
--- from the back
+-- the first i turns have taken the components `front` from the front of s, and `behind` from the
+-- back, in the order taken; `remaining` is the rest of s
 pub record HasWalked (s : List ℕ) (turns : List Turn) (i : ℕ) (front : List Value)
     (remaining : List ℕ)
     (behind : List Value) : Type 0 where
@@ -29,7 +29,8 @@ one_turn : (t : Turn) → cond (is_front t) 1 0 + cond (is_back t) 1 0 ≡ 1
 one_turn Front = refl
 one_turn Back = refl
 
--- each turn of a list is at the front or at the back, so the two counts add up to its length
+-- each turn of a list is at the front or at the back, so both counts add up to the length of the
+-- list
 turns_total : (ts : List Turn) → count_by is_front ts + count_by is_back ts ≡ length ts
 turns_total [] = refl
 turns_total (t ∷ ts) =
@@ -37,8 +38,8 @@ turns_total (t ∷ ts) =
     let backs = sum_by-cons (λ t. cond (is_back t) 1 0) t ts in
     omega (arith, one_turn t, turns_total ts, fronts, backs)
 
--- the number of remaining components plus the number of those taken is the number of the path's
--- components
+-- the numbers of remaining components and of components taken add up to the number of components of
+-- the path; the first i turns take a component each until none remains
 pub length-remaining : {s : List ℕ} {ts : List Turn} {i : ℕ} {front behind : List Value}
     {remaining : List ℕ}
     → HasWalked s ts i front remaining behind

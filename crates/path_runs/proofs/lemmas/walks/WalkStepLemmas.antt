@@ -17,12 +17,12 @@ use Rattle.path_runs.specs.declared.walk.Turn.{Turn}
 use Rattle.path_runs.specs.declared.walk.Turn.TheVariants.{Front, Back}
 use Rattle.path_runs.proofs.lemmas.walks.WalkLemmas.{is_back, HasWalked, length-remaining}
 
--- if there are at most n turns, the first n turns are all turns
+-- if i is at most n, the first n of the first i turns are the first i turns
 take-take_early : (n i : ℕ) (ts : List Turn) → i ≤ n → take n (take i ts) ≡ take i ts
 take-take_early n i ts l = take_all n (take i ts) (omega (arith, length-take i ts))
 
--- while fewer than n turns have been made, one more turn adds 1 to the count if the turn passes the
--- test
+-- if i is less than n, the number of the first n turns that pass the test grows by one with turn i
+-- if this turn passes it, and stays the same otherwise
 count_by-more : (test : Turn → Bool) (n i : ℕ) (ts : List Turn) (passes : Bool) → i < n
     → i < length ts → test (get_or ts i Front) ≡ passes
     → count_by test (take n (take (i + 1) ts))
@@ -36,7 +36,7 @@ count_by-more test n i ts passes early l e =
     by true e = count_by_more_yes test ts i Front l e
     by false e = count_by_more_no test ts i Front l e ∙ sym (add-zero (count_by test (take i ts)))
 
--- one more turn at either end takes nothing if no component remains
+-- if no component remains, one more turn at either end takes nothing
 HasWalked-none : {s : List ℕ} {ts : List Turn} {i : ℕ} {front behind : List Value}
     {remaining : List ℕ}
     (after : List ℕ) → HasWalked s ts i front remaining behind → values remaining ≡ []
@@ -55,7 +55,7 @@ HasWalked-none {s} {ts} {i} {front} {behind} {remaining} after h none more =
       backs = h.backs ∙ ap (count_by is_back) same;
     }
 
--- while a component remains, fewer turns than components have been made
+-- if a component remains after i turns, i is less than the number of components of the path
 in_time : {s : List ℕ} {ts : List Turn} {i : ℕ} {front behind : List Value} {remaining : List ℕ}
     → HasWalked s ts i front remaining behind → i < length ts → 0 < length (values remaining)
     → i < length (values s)
@@ -66,7 +66,8 @@ in_time {s} {ts} {i} h l some = omega (
   length-take i ts,
 )
 
--- one more turn at the front takes the component that a call of `next` returned, if it returned one
+-- one more turn at the front takes the component that `next` returned, or nothing if `next`
+-- returned `None`
 pub HasWalked-front : {A : Type 0} (shows : A → Value) (s : List ℕ) (ts : List Turn) (i : ℕ)
     (front : List Value) (remaining : List ℕ) (behind : List Value) (item : Option A)
     (after : List ℕ)
@@ -92,8 +93,8 @@ HasWalked-front shows s ts i front remaining behind (Some x) after h l turn give
       backs = omega (arith, h.backs, count_by-more is_back n i ts false early l (ap is_back turn));
     }
 
--- one more turn at the back takes the component that a call of `next_back` returned, if it returned
--- one
+-- one more turn at the back takes the component that `next_back` returned, or nothing if
+-- `next_back` returned `None`
 pub HasWalked-back : {A : Type 0} (shows : A → Value) (s : List ℕ) (ts : List Turn) (i : ℕ)
     (front : List Value) (remaining : List ℕ) (behind : List Value) (item : Option A)
     (after : List ℕ)

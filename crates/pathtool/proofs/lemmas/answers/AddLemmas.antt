@@ -1,4 +1,4 @@
--- What a call appended to the answer.
+-- The bytes that a call appended to the answer.
 use Rattle.std.proofs.Common.{◌≡◌, ℕ, List, ◌++◌, Result, Ok, Err, OnOk, ap, subst, append_assoc}
 use Rattle.std.proofs.Common.{◌∙◌}
 
@@ -7,7 +7,7 @@ pub adds : {T E : Type 0} (r : Result T E) (new old : List ℕ) {said bytes : Li
     → OnOk r (new ≡ old ++ said) → OnOk r (new ≡ old ++ bytes)
 adds r new old e h = subst (λ bs. OnOk r (new ≡ old ++ bs)) e h
 
--- if bytes were appended, and more bytes after them, all of these bytes were appended
+-- if `front` was appended, and then `said`, both were appended
 pub adds_after : {T E : Type 0} (r : Result T E) (new mid old front said : List ℕ)
     {bytes : List ℕ} → mid ≡ old ++ front → front ++ said ≡ bytes → OnOk r (new ≡ mid ++ said)
     → OnOk r (new ≡ old ++ bytes)

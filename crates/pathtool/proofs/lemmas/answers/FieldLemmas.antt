@@ -14,7 +14,7 @@ use Rattle.pathtool.proofs.lemmas.lines.LoopLemmas.{IsStep}
 use Rattle.pathtool.specs.EditFields.{edit_of_field, edit_answer}
 use Rattle.pathtool.specs.Steps.{prepend_edit, edits_of_fields, edited_answer}
 
--- some edits, followed by the edits that these fields name
+-- the given edits, followed by the edits that the fields name, or `None` if a field names no edit
 abbrev pub edits_then : List EditValue → List (List ℕ) → Option (List EditValue)
 edits_then done fields = option_map (λ edits. done ++ edits) (edits_of_fields fields)
 
@@ -24,8 +24,8 @@ map_before : (done : List EditValue) (edit : EditValue) (o : Option (List EditVa
 map_before done edit None = refl
 map_before done edit (Some edits) = ap Some (sym (append_assoc done (edit ∷ []) edits))
 
--- one more field: the edit that it names, if any, comes before the edits that the fields after it
--- name
+-- if field n names an edit, this edit comes before the edits that the fields after it name;
+-- otherwise the fields name no edits
 edits_then-next : (done : List EditValue) (fields : List (List ℕ)) (n : ℕ) (field : List ℕ)
     (said : Option EditValue) → (n < length fields) × (field ≡ get_or fields n field)
     → said ≡ edit_of_field field → edits_then done (drop n fields)
@@ -37,12 +37,12 @@ edits_then-next done fields n field said h e =
     (prepend_edit said (edits_of_fields (drop (n + 1) fields))))
     (ap edit_of_field (sym h.1) ∙ sym e)
 
--- the edits so far, followed by the edits that the remaining fields name, are the edits of all
--- fields
+-- `so_far`: the edits so far, followed by the edits that the remaining fields name, are the edits
+-- of all fields
 module _ {A : Type 0} (shown : A → List ℕ) (fields : List (List ℕ)) (taken : List A)
     (edits : List Edit) (so_far : edits_then (map edit_value edits) (drop (length taken) fields)
     ≡ edits_of_fields fields) where
-  -- if the next field names an edit, the same holds with this edit added
+  -- if the next field names an edit, `so_far` holds with this edit added, for the fields after it
   pub edits_then-more : (field : A) (edit : Edit) (found : Option Edit) (more : List Edit)
       → IsStep shown fields taken (Some field) → found ≡ Some edit
       → option_map edit_value found ≡ edit_of_field (shown field) → more ≡ edits ++ edit ∷ []
@@ -75,11 +75,12 @@ module _ {A : Type 0} (shown : A → List ℕ) (fields : List (List ℕ)) (taken
       sym (at_drop_all (edits_then done) fields (length taken) (omega (arith, h))
       ∙ ap Some (append-nil done)) ∙ so_far
 
--- each of these fields names an edit
+-- each of the fields names an edit
 abbrev are_edits : List (List ℕ) → Bool
 are_edits fields = list_all (λ field. is_some (edit_of_field field)) fields
 
--- this edit, followed by these edits, or `None` unless there is an edit and `known` is true
+-- if there is an edit and `known` is true, the result is this edit and then `edits`; otherwise it
+-- is `None`
 prepend_edit-known : (edit : Option EditValue) (known : Bool) (edits : List EditValue)
     → prepend_edit edit (if known then Some edits else None)
     ≡ (if is_some edit && known then Some (cons_option edit edits) else None)
@@ -94,7 +95,7 @@ edits_of_fields-known (field ∷ fields) =
     ap (prepend_edit (edit_of_field field)) (edits_of_fields-known fields)
     ∙ prepend_edit-known (edit_of_field field) (are_edits fields) (filter_map edit_of_field fields)
 
--- the answer to the edits that these fields name is the answer of the command `edit`
+-- the answer to the edits that the fields name is the answer of the command `edit`
 pub edited_answer-fields : (path : List ℕ) (fields : List (List ℕ))
     → edited_answer path (edits_of_fields fields) ≡ edit_answer path fields
 edited_answer-fields path fields =

@@ -10,14 +10,14 @@ use Rattle.unix_path.specs.Order.{same_value}
 use Rattle.unix_path.proofs.lemmas.callers.CallerLemmas.{same_value-Decides}
 use Rattle.pathtool.specs.Answers.{optional, strip_answer}
 
--- the test of two lists of components decides whether the first starts with the second
+-- the test `starts_with` decides whether the list w of components starts with v
 pub starts_with-Decides : (w v : List Value) → Decides (starts_with same_value w v) (IsPrefixOf v w)
 starts_with-Decides w v = let (to, from) = starts_is same_value-Decides w v _ refl in (
   λ e. (drop (length v) w, sym (to e)),
   λ (more, e). from more (sym e),
 )
 
--- the test of two lists of components decides whether the first ends with the second
+-- the test `ends_with` decides whether the list w of components ends with v
 pub ends_with-Decides : (w v : List Value) → Decides (ends_with same_value w v) (IsSuffixOf v w)
 ends_with-Decides w v = let (to, from) = ends_is same_value-Decides w v _ refl in (
   λ e. (take (length w - length v) w, sym (to e)),

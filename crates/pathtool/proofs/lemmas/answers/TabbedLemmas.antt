@@ -18,7 +18,8 @@ abbrev pub has_none : List (List ℕ) → Bool
 has_none [] = true
 has_none (item ∷ items) = false
 
--- a list with one more item at its end: a tab comes before the item unless it is the only one
+-- if an item is added at the end of a list, its bytes are added at the end of the joined list,
+-- after a tab unless the item is the first
 tabs-push : (items : List (List ℕ)) (item : List ℕ)
     → tabs (items ++ item ∷ []) ≡ tabs items ++ (if has_none items then item else tab ∷ item)
 tabs-push [] item = refl
@@ -26,13 +27,13 @@ tabs-push (x ∷ []) item = refl
 tabs-push (x ∷ y ∷ items) item = ap (λ more. x ++ tab ∷ more) (tabs-push (y ∷ items) item)
     ∙ sym (append_assoc x (tab ∷ tabs (y ∷ items)) (tab ∷ item))
 
--- a list with an item at its end isn't empty
+-- if an item is added at the end of a list, the list isn't empty
 is_not_first : (items : List (List ℕ)) (item : List ℕ) → false ≡ has_none (items ++ item ∷ [])
 is_not_first [] item = refl
 is_not_first (x ∷ items) item = refl
 
--- if a list was appended, and then an item, the list with that item was appended, and it isn't
--- empty
+-- if a list was appended, and then an item, after a tab unless it is the first, then the list with
+-- this item was appended, and this list isn't empty
 pub adds_item : (items : List (List ℕ)) (item : List ℕ) {more : List (List ℕ)} (is_first : Bool)
     (old said new : List ℕ) → more ≡ items ++ item ∷ [] → is_first ≡ has_none items
     → said ≡ old ++ tabs items → new ≡ said ++ (if is_first then item else tab ∷ item)
@@ -44,8 +45,8 @@ adds_item items item is_first old said new all first so_far is = (
       ∙ ap (λ said. old ++ said) (sym (tabs-push items item) ∙ ap tabs (sym all)),
 )
 
--- if the names that an iterator returned up to its end were appended, the list that it yields was
--- appended
+-- if all names that an iterator returned were appended as a list, the list that the iterator yields
+-- was appended
 pub adds_list : {T E S : Type 0} (r : Result T E) (new old : List ℕ) {all : List (List ℕ)} {s : S}
     {steps : S → Option UnixStr → S → Type 0} → YieldsList steps (λ name. name.bytes.now) s all
     → OnOk r ((names : List UnixStr) × Drains steps s names

@@ -1,4 +1,4 @@
--- The entries of a table of some paths, and what it finds under a base.
+-- The entries of a table of paths, and the paths that it finds under a base.
 use Rattle.std.proofs.Common.{◌≡◌, ℕ, ◌+◌, List, [], ◌∷◌, ◌++◌, map, drop, length, Some, None}
 use Rattle.std.proofs.Common.{sym, ap, ap₂, ◌∙◌, arith}
 use Rattle.std.specs.BTreeMap.{insert_entry}
@@ -15,11 +15,11 @@ use Rattle.pathtool.specs.Tables.{entries_with, under_answer}
 use Rattle.pathtool.specs.Steps.{row_spelling}
 use Rattle.pathtool.proofs.lemmas.lines.LoopLemmas.{IsStep}
 
--- these entries, with the remaining paths inserted, are all entries
+-- `so_far`: if the paths after those in `yielded` are inserted into `entries`, the result is `all`
 module _ {A : Type 0} (shown : A → List ℕ) (paths : List (List ℕ)) (yielded : List A)
     (entries all : List (List Value × Unit {0}))
     (so_far : entries_with entries (drop (length yielded) paths) ≡ all) where
-  -- if the next path is inserted, the same holds for the paths after it
+  -- if the next path is inserted, `so_far` holds for the new entries and the paths after it
   pub entries_with-more : (path : A) (more : List (List Value × Unit {0}))
       → IsStep shown paths yielded (Some path)
       → more ≡ insert_entry values_cmp entries (values (shown path)) tt
@@ -32,13 +32,13 @@ module _ {A : Type 0} (shown : A → List ℕ) (paths : List (List ℕ)) (yielde
       (drop (n + 1) paths)) (sym h.1))
       ∙ so_far
 
-  -- if no path remains, the entries are all entries
+  -- if no path remains, `entries` is `all`
   pub entries_with-all : IsStep shown paths yielded None → entries ≡ all
   entries_with-all h =
       sym (at_drop_all (entries_with entries) paths (length yielded) (omega (arith, h))) ∙ so_far
 
--- what a table of the paths finds under a base, in canonical form, is the answer of the command
--- `under`
+-- if `found` is what a table of the paths has under the base, the canonical forms of `found` are
+-- the answer of the command `under`
 pub under_answer-found : (base : List ℕ) (paths : List (List ℕ))
     (found : List (Path × Bor (Unit {0}))) (key : List ℕ) (table : List (List Value × Unit {0}))
     → key ≡ base → table ≡ entries_with [] paths

@@ -1,4 +1,4 @@
--- What a walk took, as an answer.
+-- The results of a walk, as an answer.
 use Rattle.std.proofs.Common.{◌≡◌, ℕ, false, true, ◌≤◌, List, [], ◌∷◌, ◌++◌, map, length}
 use Rattle.std.proofs.Common.{refl, sym, ap, ap₂, ◌∙◌, append_assoc, take, reverse}
 use Rattle.std.proofs.Common.{arith, is_some}
@@ -42,7 +42,7 @@ tabs-counted k m front rest behind =
     ∙ append_assoc (k ++ tab ∷ []) m (tab ∷ more) ∙ append_assoc k (tab ∷ []) (m ++ tab ∷ more)
     ∙ ap (λ more. k ++ tab ∷ more) (sym (tabs-cons m front rest behind))
 
--- no more components are taken than there are
+-- at most n of the first n turns are at the front
 pub front_turns-le : (n : ℕ) (turns : List Turn) → front_turns n turns ≤ n
 front_turns-le n turns =
     omega (arith, count_by-le-length is_front (take n turns), length-take n turns)
@@ -68,7 +68,8 @@ length-taken : (parts : List Component) (k : ℕ) (vs : List Value) → k ≤ le
 length-taken parts k vs l e =
     sym (length-map parts value_of) ∙ ap length e ∙ length-take-le k vs l
 
--- what a walk took is the answer to its turns
+-- if a walk took the components that its turns take, and left the rest that they leave, its results
+-- are the answer to the turns
 pub walked_items-walk_items : (path : List ℕ) (turns : List Turn) (walked : Walked)
     → let n = length (values path) in
     map value_of walked.front.items ≡ take (front_turns n turns) (values path)

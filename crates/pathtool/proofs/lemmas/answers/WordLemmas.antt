@@ -7,14 +7,16 @@ use Rattle.pathtool.specs.Fields.{tabs}
 use Rattle.pathtool.specs.EditFields.{answer_word}
 use Rattle.pathtool.specs.Steps.{tab, words_of}
 
--- a list of some bytes and the words for answers is the bytes, followed by each word after a tab
+-- a list of `bytes` and the words for answers, joined by tabs, is `bytes` and then each word after
+-- a tab
 pub tabs-words : (bytes : List ℕ) (answers : List Answer)
     → tabs (bytes ∷ map answer_word answers) ≡ bytes ++ words_of answers
 tabs-words bytes [] = sym (append-nil bytes)
 tabs-words bytes (answer ∷ answers) =
     ap (λ more. bytes ++ tab ∷ more) (tabs-words (answer_word answer) answers)
 
--- bytes, a tab, the next word, and then the words that follow are the bytes and all remaining words
+-- `bytes`, a tab, the word for answer n, and the words for the answers after it are `bytes` and the
+-- words for the answers from n on
 pub words-push : (bytes : List ℕ) (answers : List Answer) (n : ℕ) (d : Answer) → n < length answers
     → ((bytes ++ tab ∷ []) ++ answer_word (get_or answers n d)) ++ words_of (drop (n + 1) answers)
     ≡ bytes ++ words_of (drop n answers)

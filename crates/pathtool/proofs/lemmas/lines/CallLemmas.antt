@@ -4,12 +4,12 @@ use Rattle.std.specs.declared.io.Error.{Error}
 use Rattle.pathtool.specs.Calls.{Calls, Many, WritesSome, WritesUntilNone}
 use Rattle.pathtool.specs.Calls.Calls.{none, more}
 
--- any number of calls and one more call are again a number of calls
+-- any number of calls, followed by one more call, are again any number of calls
 pub Many-more : {S : Type 0} {call : S → S → Type 0} {s u t : S} → Many call s u → call u t
     → Many call s t
 Many-more (n, before) last = (suc n, more before last)
 
--- no call at all is also a number of calls
+-- no call at all also counts as any number of calls
 pub Many-none : {S : Type 0} {call : S → S → Type 0} (s : S) → Many call s s
 Many-none s = (0, none)
 
@@ -18,12 +18,13 @@ Calls-then : {S : Type 0} {call : S → S → Type 0} {s u t : S} {n : ℕ} → 
 Calls-then before none = before
 Calls-then before (more calls last) = Many-more (Calls-then before calls) last
 
--- any number of calls, followed by any number of calls, are again a number of calls
+-- any number of calls, followed by any number of calls, are again any number of calls
 pub Many-then : {S : Type 0} {call : S → S → Type 0} {s u t : S} → Many call s u → Many call u t
     → Many call s t
 Many-then before (n, calls) = Calls-then before calls
 
--- writes that wrote some bytes, followed by `WritesUntilNone`, are `WritesUntilNone`
+-- any number of writes that wrote at least one byte each, followed by writes that are
+-- `WritesUntilNone`, are `WritesUntilNone` together
 pub WritesUntilNone-then : {S : Type 0} (gives : S → List ℕ → Result ℕ Error → S → Type 0)
     {s u t : S}
     → Many (WritesSome gives) s u → WritesUntilNone gives u t → WritesUntilNone gives s t

@@ -1,5 +1,4 @@
--- Steps of a loop over an iterator that yields a list. After each step, the position in the list is
--- known.
+-- Steps of a loop over an iterator that yields a list. Each step takes the next item of the list.
 use Rattle.std.proofs.Common.{◌≡◌, ◌<◌, List, length, get_or, Option, Some, None, refl}
 use Rattle.std.specs.Iterator.{Yields}
 use Rattle.std.proofs.lemmas.Iterator.{YieldsList}
@@ -10,8 +9,7 @@ abbrev pub IsStep : {A B : Type 0} → (A → B) → List B → List A → Optio
 IsStep v all xs (Some x) = (length xs < length all) × (v x ≡ get_or all (length xs) (v x))
 IsStep v all xs None = length xs ≡ length all
 
--- each step of a loop over such an iterator takes the next item of the list that the iterator
--- yields
+-- if an iterator yields a list, each step of a loop over it takes the next item of the list
 pub step_of : {S A B : Type 0} {steps : S → Option A → S → Type 0} {v : A → B} {s : S}
     {all : List B} (xs : List A) (t : S) → Yields steps s xs t → (r : Option A) (u : S)
     → steps t r u → YieldsList steps v s all → IsStep v all xs r

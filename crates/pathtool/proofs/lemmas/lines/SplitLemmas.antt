@@ -1,4 +1,4 @@
--- A string that is split at bytes of one kind.
+-- A string that is split at each byte that passes a test.
 use Rattle.std.proofs.Common.{◌≡◌, ℕ, ◌<◌, Bool, ◌==◌, List, [], ◌∷◌, length}
 use Rattle.std.proofs.Common.{refl, sym, ap, ◌∙◌, arith}
 use Rattle.std.specs.List.{slice_split, position_or_len, join_with_byte}
@@ -13,7 +13,7 @@ is_tab b = b == tab
 abbrev pub is_newline : ℕ → Bool
 is_newline b = b == newline
 
--- a string of which no byte passes the test is one piece
+-- if no byte of s passes the test, s is split into one piece, which is s
 pub slice_split-whole : (p : ℕ → Bool) (s : List ℕ) → position_or_len p s ≡ length s
     → slice_split p s ≡ s ∷ []
 slice_split-whole p s e =
@@ -24,11 +24,11 @@ has_first : (parts : List (List ℕ)) → 0 < length parts
 has_first [] l = absurd (omega arith)
 has_first (x ∷ xs) l = (x, xs, refl)
 
--- a string that is split has a first piece
+-- a string is split into at least one piece
 pub slice_split-cons : (p : ℕ → Bool) (s : List ℕ)
     → (x : List ℕ) × (xs : List (List ℕ)) × (slice_split p s ≡ x ∷ xs)
 slice_split-cons p s = has_first (slice_split p s) (omega (arith, length-slice_split p s))
 
--- a string of one piece is that piece
+-- if a string is split into one piece, it is that piece
 pub slice_split-one : (c : ℕ) (s t : List ℕ) → slice_split (λ b. b == c) s ≡ t ∷ [] → s ≡ t
 slice_split-one c s t e = sym (join_with_byte-slice_split c s) ∙ ap (join_with_byte c) e

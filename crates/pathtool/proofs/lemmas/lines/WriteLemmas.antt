@@ -1,4 +1,4 @@
--- Writing a prefix of what is to be written.
+-- Prefixes of the bytes that are to be written.
 use Rattle.std.proofs.Common.{◌≡◌, ℕ, List, ◌++◌, length, take, drop, Option, Result, Ok, Err}
 use Rattle.std.proofs.Common.{OnErr}
 use Rattle.std.proofs.Common.{sym, ap, subst, ◌∙◌, append_assoc, take-append-drop}
@@ -16,8 +16,8 @@ AppendsPrefix-of a b done rest all h e = (
       ∙ ap (take (length done)) e) h,
 )
 
--- if `done` was appended, and then a prefix of `next`, which follows `done` in `all`, a prefix of
--- `all` was appended
+-- if `all` starts with `done` and then `next`, and `done` and then a prefix of `next` were
+-- appended, a prefix of `all` was appended
 pub AppendsPrefix-then : (a b c : Option (List ℕ)) (done next rest all : List ℕ)
     → Appends a b done → AppendsPrefix b c next → done ++ (next ++ rest) ≡ all
     → AppendsPrefix a c all

@@ -4,7 +4,7 @@ use Rattle.pathtool.specs.Fields.{fields_of}
 use Rattle.pathtool.specs.Tables.{entries_with}
 use Rattle.pathtool.proofs.tables.insert_paths.Given as goal
 
--- the table's entries, with the remaining fields inserted, are the entries of all fields
+-- once the remaining fields are inserted too, the table has the entries for all fields
 abbrev pub invariant-loop-bytes : goal.invariant-loop-bytes
 invariant-loop-bytes l =
     let fields = fields_of l.fields in

@@ -8,12 +8,12 @@ use Rattle.unix_path.specs.Parents.{parent_of}
 use Rattle.unix_path.specs.Names.{file_name_of, stem_of}
 use Rattle.unix_path.specs.Edits.{popped_of, stem_end_of, dot_before, with_extension_of}
 
--- a pop leaves a path without a parent unchanged
+-- if a path has no parent, a pop leaves the path unchanged
 pub popped_of-none : (s : List ℕ) → None ≡ parent_of s → popped_of s ≡ s
 unfolding popped_of
 popped_of-none s e = ap (λ o. unwrap_or o s) (sym e)
 
--- a pop cuts a path with a parent to its parent
+-- if a path has a parent, a pop cuts the path to this parent
 pub popped_of-some : (s : List ℕ) (len : ℕ) → Some (take len s) ≡ parent_of s
     → popped_of s ≡ take len s
 unfolding popped_of
@@ -33,7 +33,8 @@ pub with_extension_of-none : (s extension : List ℕ) → None ≡ stem_end_of s
 unfolding with_extension_of
 with_extension_of-none s extension e = ap (with_extension_at s extension) (sym e)
 
--- setting an extension appends it after the stem, with a dot before it if it is not empty
+-- if the stem of s ends at index `end`, setting an extension keeps the first `end` bytes, and
+-- appends `separator`, which is a dot or nothing, and then the extension
 pub with_extension_of-some : (s extension separator : List ℕ) (end : ℕ) → Some end ≡ stem_end_of s
     → separator ≡ dot_before extension
     → with_extension_of s extension ≡ (take end s ++ separator) ++ extension

@@ -5,7 +5,7 @@ use Rattle.std.proofs.Common.{append-nil, length-append, ◌+◌}
 use Rattle.unix_path.specs.Parts.{is_rooted}
 use Rattle.unix_path.specs.Joins.{needs_no_separator, join_of}
 
--- the last byte, if there is one, determines whether a join to the string needs no separator
+-- a join to s needs no separator if and only if s is empty or its last byte is a slash
 pub needs_no_separator-at : (s : List ℕ) → needs_no_separator s
     ≡ eqb (get_or s (length s - 1) 47) 47
 needs_no_separator-at [] = refl
@@ -27,7 +27,7 @@ pub join_of_no_separator : (a b : List ℕ) → is_rooted b ≡ false → needs_
 unfolding join_of
 join_of_no_separator a b r o = rw (r, o) refl
 
--- if a path neither is empty nor ends in a slash, a join puts a slash between it and a path that
+-- if a path is not empty and doesn't end in a slash, a join puts a slash between it and a path that
 -- isn't rooted
 pub join_of_separator : (a b : List ℕ) → is_rooted b ≡ false → needs_no_separator a ≡ false
     → join_of a b ≡ (a ++ 47 ∷ []) ++ b

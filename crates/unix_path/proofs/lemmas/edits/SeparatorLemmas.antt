@@ -19,7 +19,7 @@ pub ruleset join_cases = (join_of_rooted, join_of_no_separator, join_of_separato
 
 pub ruleset beginnings = (take-beginning, take-length)
 
--- joining a list of paths and then one more path is joining that path to the join of the list
+-- joining `paths` and then `path` to a is the same as joining `path` to the join of a with `paths`
 pub join_all_of_snoc : (a : List ℕ) (paths : List Path) (path : Path)
     → join_all_of a (bytes_of_each (paths ++ path ∷ []))
     ≡ join_of (join_all_of a (bytes_of_each paths)) path.bytes.now
@@ -34,7 +34,7 @@ length-join_of-max_len a b = by_test (is_rooted b)
     (λ o. omega (arith, length-join_of_no_separator a b r o))
     (λ o. omega (arith, length-join_of_separator a b r o)))
 
--- the lengths of these paths, plus 1 for each, added to a number
+-- a number plus the lengths of these paths, plus 1 for each path
 abbrev pub sum_of_paths : ℕ → List Path → ℕ
 sum_of_paths = fold (λ sum path. sum + (1 + length path.bytes.now))
 
@@ -57,7 +57,8 @@ pub JoinsFit-spare_capacity : {S : Type 0} {steps : S → Option Path → S → 
 JoinsFit-spare_capacity old spare_capacity fits run met from =
     omega (arith, length-join_all_of-max_len old 0 run.items, fits run met from)
 
--- if joins with the items of an iterator fit, so does the join with its next item
+-- if no join of `old` with first items of the iterator is longer than `max_len` bytes, neither is
+-- its join with `paths`, the first items, and then `path`, the next item
 pub JoinsFit-next : {S : Type 0} {steps : S → Option Path → S → Type 0} {items from : S}
     (old : List ℕ) (max_len : ℕ) → JoinsFit steps items old max_len → from ≡ items
     → (paths : List Path) (s t : S) (path : Path) → Yields steps from paths s

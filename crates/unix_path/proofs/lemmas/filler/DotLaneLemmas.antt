@@ -1,14 +1,14 @@
--- 16 bytes at once that are slashes, or dots next to slashes.
+-- Testing at once whether 16 bytes are slashes, or dots next to slashes.
 use Rattle.std.proofs.Common.{◌≡◌, ℕ, ◌<◌, Bool, true, false, not, eqb, ◌&&◌, ◌||◌, List, length}
 use Rattle.std.proofs.Common.{get_or, refl, sym}
 use Rattle.unix_bytes.proofs.lemmas.vectors.TestLaneLemmas.{tested, both, either, Tells}
 use Rattle.unix_bytes.proofs.lemmas.vectors.TestLaneLemmas.{Tells-tested, Tells-both, Tells-either}
 
--- byte x is neither a slash nor a dot next to a slash y
+-- byte x is neither a slash, nor a dot whose neighbour y is a slash
 abbrev pub stops : ℕ → ℕ → Bool
 stops x y = not (eqb x 47) && (not (eqb x 46) || not (eqb y 47))
 
--- a byte that doesn't stop is a slash, or a dot next to a slash
+-- if `stops` is false for byte x and its neighbour y, x is a slash, or a dot next to a slash
 pub goes_on : (x y : ℕ) → stops x y ≡ false → (eqb x 47 || (eqb x 46 && eqb y 47)) ≡ true
 goes_on x y = by (eqb x 47) (eqb x 46) (eqb y 47)
   where
@@ -22,11 +22,12 @@ goes_on x y = by (eqb x 47) (eqb x 46) (eqb y 47)
 abbrev others : List ℕ → ℕ → List ℕ
 others xs y = tested (λ a b. not (eqb a b)) 16 xs y
 
--- the lanes that show which of the 16 bytes of `here` stop; `beside` contains the byte next to each
+-- the lanes that show for which of the 16 bytes of `here` `stops` is true; `beside` contains the
+-- neighbour of each byte
 abbrev pub stop_lanes : List ℕ → List ℕ → List ℕ
 stop_lanes here beside = both (others here 47) (either (others here 46) (others beside 47))
 
--- each of these lanes shows whether its byte stops
+-- lane i shows whether `stops` is true for byte i of `here` and its neighbour
 pub Tells-stop : (here beside : List ℕ) (i : ℕ) → length here ≡ 16 → length beside ≡ 16 → i < 16
     → Tells 16 (stop_lanes here beside) i (stops (get_or here i 0) (get_or beside i 0))
 Tells-stop here beside i m n few =

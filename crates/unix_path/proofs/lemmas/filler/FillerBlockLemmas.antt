@@ -1,4 +1,4 @@
--- 16 bytes at once that are slashes, or dots before slashes.
+-- Testing at once whether 16 bytes are slashes, or dots before slashes.
 use Rattle.std.proofs.Common.{◌≡◌, ℕ, zero, suc, ◌+◌, ◌<◌, ◌≤◌, true, List, length, drop, get_or}
 use Rattle.std.proofs.Common.{ap, ap₂, subst, ◌∙◌, arith}
 use Rattle.std.specs.Simd.Lanes.{chunk}
@@ -10,7 +10,8 @@ use Rattle.unix_path.specs.Scan.{is_filler}
 use Rattle.unix_path.proofs.lemmas.filler.FillerLemmas.{inner_parts_filler_at}
 use Rattle.unix_path.proofs.lemmas.filler.DotLaneLemmas.{stops, goes_on, stop_lanes, Tells-stop}
 
--- the lanes of the 16 bytes that start at `at` show which of them stop
+-- the lanes of the 16 bytes that start at `at` show which of these bytes are neither slashes nor
+-- dots before slashes
 ends_shown : (s : List ℕ) (at : ℕ) → at + 16 < length s
     → TellFrom 16 (stop_lanes (chunk at 16 s) (chunk (at + 1) 16 s))
     (λ k. stops (get_or s k 0) (get_or s (k + 1) 47)) at

@@ -34,7 +34,8 @@ inner_parts-dot_cut at (b ∷ s) e = ap (λ b. inner_parts at (46 ∷ b ∷ s)) 
     ∙ inner_parts-dot_slash at s
     ∙ sym (ap (λ b. inner_parts (at + 1) (b ∷ s)) e)
 
--- a first byte that is filler adds no component
+-- if the first byte of s is filler, removing it changes neither the inner components nor their
+-- positions
 inner_parts_filler : (at : ℕ) (s : List ℕ) → 0 < length s → is_filler s 0 ≡ true
     → inner_parts at s ≡ inner_parts (at + 1) (drop 1 s)
 inner_parts_filler at [] l e = absurd (omega arith)
@@ -59,7 +60,8 @@ pub filler_dot : (s : List ℕ) (i : ℕ) → get_or s i 0 ≡ 46 → get_or s (
     → is_filler s i ≡ true
 filler_dot s i e next = rw (e, next) refl
 
--- a byte of filler at index i adds no component
+-- if the byte of s at index i is filler, the inner components of s from i on are those from i + 1
+-- on
 pub inner_parts_filler_at : (at : ℕ) (s : List ℕ) (i : ℕ) → i < length s → is_filler s i ≡ true
     → inner_parts (at + i) (drop i s) ≡ inner_parts (at + (i + 1)) (drop (i + 1) s)
 inner_parts_filler_at at s i l e =
@@ -84,7 +86,8 @@ first_piece_dot (b ∷ s) = by_test (eqb b 47)
     (λ e. ap (λ p. bytes_eq p cur_dir) (first_piece-other b s e)
     ∙ ap (λ t. eqb b 46 && t) (first_piece_empty s))
 
--- a string that doesn't begin with filler doesn't begin with a slash, and its first piece isn't `.`
+-- if s is not empty and doesn't begin with filler, its first byte isn't a slash, and its first
+-- piece isn't `.`
 pub not_filler_parts : (s : List ℕ) → 0 < length s → is_filler s 0 ≡ false
     → (eqb (get_or s 0 0) 47 ≡ false) × (bytes_eq (first_piece s) cur_dir ≡ false)
 not_filler_parts [] l e = absurd (omega arith)
@@ -101,7 +104,8 @@ inner_parts_not_filler at s l e =
     let is = not_filler_parts s l e in
     inner_parts-first at s ∙ rw (nonempty_first_piece s l is.0, is.1) refl
 
--- a string that doesn't begin with filler has no leading part
+-- a string that doesn't begin with filler has neither a root nor a leading `.`, so its components
+-- are its inner components
 pub parts-not_filler : (s : List ℕ) → (0 < length s → is_filler s 0 ≡ false) → parts s
     ≡ inner_parts 0 s
 unfolding parts leading_part
@@ -112,7 +116,8 @@ parts-not_filler (b ∷ s) h =
     ∙ ap (λ t. cond t (record { start = 0; end = 1; value = CurDir } ∷ []) []) is.1 in
     ap (λ ps. ps ++ inner_parts 0 (b ∷ s)) none
 
--- a string that doesn't begin with filler has the same components as after a slash
+-- a string that doesn't begin with filler has the same components at the beginning of a path as
+-- after a slash
 pub values-not_filler : (s : List ℕ) → is_filler s 0 ≡ false → values s ≡ inner_values s
 unfolding values
 values-not_filler s not_filler =

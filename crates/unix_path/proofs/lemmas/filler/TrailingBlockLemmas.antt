@@ -1,4 +1,4 @@
--- 16 bytes at once that are slashes, or dots after slashes.
+-- Testing at once whether 16 bytes are slashes, or dots after slashes.
 use Rattle.std.proofs.Common.{◌≡◌, ℕ, zero, suc, ◌+◌, ◌-◌, ◌<◌, ◌≤◌, true, eqb, ◌&&◌, ◌||◌, List}
 use Rattle.std.proofs.Common.{length, take, get_or, refl, sym, ap, ap₂, subst, ◌∙◌, arith, lt-ltb}
 use Rattle.std.specs.Simd.Lanes.{chunk}
@@ -10,7 +10,8 @@ use Rattle.unix_path.specs.Scan.{is_trailing}
 use Rattle.unix_path.proofs.lemmas.filler.DotLaneLemmas.{stops, goes_on, stop_lanes, Tells-stop}
 use Rattle.unix_path.proofs.lemmas.filler.TrimLemmas.{parts_trailing}
 
--- the lanes of the 16 bytes that start at `at` show which of them stop
+-- the lanes of the 16 bytes that start at `at` show which of these bytes are neither slashes nor
+-- dots after slashes
 ends_shown : (s : List ℕ) (at : ℕ) → 0 < at → at + 16 ≤ length s
     → TellFrom 16 (stop_lanes (chunk at 16 s) (chunk (at - 1) 16 s))
     (λ k. stops (get_or s k 0) (get_or s (k - 1) 0)) at

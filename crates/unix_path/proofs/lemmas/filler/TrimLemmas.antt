@@ -46,7 +46,7 @@ parts-slash_dot x =
     parts-append x (46 ∷ []) ∙ ap (λ ps. parts (x ++ 47 ∷ []) ++ ps) (inner_parts-dot _)
     ∙ append-nil (parts (x ++ 47 ∷ []))
 
--- a trailing byte is not the first, and is a slash, or a `.` after a slash
+-- a byte for which `is_trailing` is true is not the first, and is a slash, or a `.` after a slash
 trailing_from : (s : List ℕ) (i : ℕ) → is_trailing s i ≡ true
     → (0 < i) × ((get_or s i 0 ≡ 47) ⊎ ((get_or s i 0 ≡ 46) × (get_or s (i - 1) 0 ≡ 47)))
 trailing_from s i e =
@@ -60,7 +60,8 @@ trailing_from s i e =
           (eqb (get_or s i 0) 46 && eqb (get_or s (i - 1) 0) 47) both.1),
     )
 
--- a trailing byte at the end is filler
+-- if `is_trailing` is true for the byte at i, removing this byte from the first i + 1 bytes doesn't
+-- change their components
 pub parts_trailing : (s : List ℕ) (i : ℕ) → i < length s → is_trailing s i ≡ true
     → parts (take (i + 1) s) ≡ parts (take i s)
 parts_trailing s i l e =
@@ -89,7 +90,7 @@ parts_shorter s n some l e =
     sym (parts_trailing s (n - 1) (omega arith) e)
     ∙ ap (λ k. parts (take k s)) {x = n - 1 + 1} {y = n} (omega arith)
 
--- each suffix of a string that ends in a component ends in a component
+-- if a string ends in a component, each of its suffixes ends in a component
 pub EndsInPart-drop : (s : List ℕ) (i : ℕ) → i ≤ length s → EndsInPart s → EndsInPart (drop i s)
 EndsInPart-drop s i l ends some =
     let u = drop i s in
@@ -120,7 +121,7 @@ EndsInPart-take s n l ends some =
     rw (here, before, m) refl in
     same ∙ ends (omega arith)
 
--- the first `len` of n bytes have all components of the n bytes, and end in a component
+-- the first `len` bytes of t have all components of the first n bytes, and end in a component
 pub record TrimsTo (t : List ℕ) (n : ℕ) : Type 0 where
   pub len : ℕ
   pub in_range : len ≤ n

@@ -1,4 +1,4 @@
--- Many bytes at once, searched for an end candidate.
+-- Searching many bytes at once for an end candidate. The separator is m, and the dot is p.
 use Rattle.std.proofs.Common.{◌≡◌, ℕ, ◌+◌, ◌<◌, ◌≤◌, eqb, ◌&&◌, ◌||◌, List, length, get_or, ap₂}
 use Rattle.std.proofs.Common.{subst, arith}
 use Rattle.std.specs.Simd.Lanes.{chunk}
@@ -13,7 +13,7 @@ use Rattle.unix_path.specs.NameRunEnds.{is_end_candidate_of}
 abbrev candidate_lanes : ℕ → ℕ → ℕ → List ℕ → List ℕ → List ℕ
 candidate_lanes n m p here next = both (hits n here m) (either (hits n next m) (hits n next p))
 
--- each of these lanes shows whether its byte is an end candidate
+-- lane i of `candidate_lanes` shows whether byte i of `here` is an end candidate
 Tells-break : (n m p : ℕ) (here next : List ℕ) (i : ℕ) → length here ≡ n → length next ≡ n
     → i < n → Tells n (candidate_lanes n m p here next) i
     (eqb (get_or here i 0) m && (eqb (get_or next i 0) m || eqb (get_or next i 0) p))
@@ -21,11 +21,11 @@ Tells-break n m p here next i l k few =
     Tells-both few (Tells-hits n here m i l few)
     (Tells-either few (Tells-hits n next m i k few) (Tells-hits n next p i k few))
 
--- the lanes of the n bytes that start at `at`
+-- the `candidate_lanes` of the n bytes of s that start at `at`
 abbrev lanes : ℕ → ℕ → ℕ → List ℕ → ℕ → List ℕ
 lanes n m p s at = candidate_lanes n m p (chunk at n s) (chunk (at + 1) n s)
 
--- these lanes show where end candidates are
+-- `lanes` show which of the n bytes that start at `at` are end candidates
 pub candidates_shown : (n m p : ℕ) (s : List ℕ) (at : ℕ) → 0 < n → n ≤ 64 → at + n + 1 ≤ length s
     → TellFrom n (lanes n m p s at) (is_end_candidate_of m p s) at
 candidates_shown n m p s at some low l = record {

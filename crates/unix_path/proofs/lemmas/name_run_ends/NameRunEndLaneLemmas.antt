@@ -1,4 +1,4 @@
--- Many bytes at once, searched for the end of a run of names.
+-- Searching many bytes at once for the end of a run of names. The separator is m, and the dot is p.
 use Rattle.std.proofs.Common.{◌≡◌, ℕ, ◌+◌, ◌<◌, ◌≤◌, eqb, ◌&&◌, List, length, get_or, ap₂, subst}
 use Rattle.std.proofs.Common.{arith}
 use Rattle.std.specs.Simd.Lanes.{chunk}
@@ -10,13 +10,13 @@ use Rattle.unix_path.specs.NameRunEnds.{ends_name_run_of}
 use Rattle.unix_path.proofs.lemmas.name_run_ends.NameRunEndLemmas.{no_name, no_name-same}
 
 -- the lanes that show which of the n bytes of `here` end a run of names; `first`, `second` and
--- `third` contain the bytes one, two and three further on
+-- `third` contain the first, the second and the third byte after each byte of `here`
 abbrev end_lanes : ℕ → ℕ → ℕ → List ℕ → List ℕ → List ℕ → List ℕ → List ℕ
 end_lanes n m p here first second third =
     both (hits n here m) (either (hits n first m)
     (both (hits n first p) (either (hits n second m) (both (hits n second p) (hits n third m)))))
 
--- each of these lanes shows whether its byte ends a run of names
+-- lane i of `end_lanes` shows whether byte i of `here` ends a run of names
 Tells-stop : (n m p : ℕ) (here first second third : List ℕ) (i : ℕ) → length here ≡ n
     → length first ≡ n → length second ≡ n → length third ≡ n → i < n
     → Tells n (end_lanes n m p here first second third) i (eqb (get_or here i 0) m
@@ -28,12 +28,12 @@ Tells-stop n m p here first second third i lh lf ls lt few =
     (Tells-either few (Tells-hits n second m i ls few)
     (Tells-both few (Tells-hits n second p i ls few) (Tells-hits n third m i lt few)))))
 
--- the lanes of the n bytes that start at `at`
+-- the `end_lanes` of the n bytes of s that start at `at`
 abbrev lanes : ℕ → ℕ → ℕ → List ℕ → ℕ → List ℕ
 lanes n m p s at = end_lanes n m p (chunk at n s) (chunk (at + 1) n s) (chunk (at + 2) n s)
     (chunk (at + 3) n s)
 
--- these lanes show where runs of names end
+-- `lanes` show which of the n bytes that start at `at` end a run of names
 pub ends_shown : (n m p : ℕ) (s : List ℕ) (at : ℕ) → 0 < n → n ≤ 64 → at + n + 3 ≤ length s
     → TellFrom n (lanes n m p s at) (ends_name_run_of m p s) at
 ends_shown n m p s at some low l = record {

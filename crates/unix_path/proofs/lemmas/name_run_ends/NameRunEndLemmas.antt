@@ -1,4 +1,5 @@
--- Where a run of names ends: separators after which no name starts.
+-- Where a run of names ends: separators after which no name starts. The separator is m, and the dot
+-- is p.
 use Rattle.std.proofs.Common.{◌≡◌, ◌<◌, ◌≤◌, ◌+◌, ℕ, Bool, true, false, eqb, List, refl, ◌++◌}
 use Rattle.std.proofs.Common.{length, take, get_or, sym, ap, ap₂, ◌∙◌, arith, drop, ◌-◌}
 use Rattle.std.proofs.Common.{take-append-drop, eq-eqb, eqb-true, ⊎_elim, ◌&&◌, ◌||◌}
@@ -12,14 +13,14 @@ use Rattle.unix_path.specs.NameRunEnds.{IsNameRunEnd}
 abbrev pub no_name : ℕ → ℕ → ℕ → ℕ → ℕ → Bool
 no_name m p a b c = eqb a m || (eqb a p && (eqb b m || (eqb b p && eqb c m)))
 
--- equal bytes have the same result of `no_name`
+-- `no_name` depends only on the three bytes
 pub no_name-same : (m p : ℕ) {a b c x y z : ℕ} → a ≡ x → b ≡ y → c ≡ z
     → no_name m p a b c ≡ no_name m p x y z
 no_name-same m p e f g =
     ap₂ (λ a r. eqb a m || (eqb a p && r)) e
     (ap₂ (λ b r. eqb b m || (eqb b p && r)) f (ap (λ c. eqb c m) g))
 
--- if the first byte is the separator, the other two bytes don't matter
+-- if the first byte is the separator, `no_name` doesn't depend on the other two bytes
 no_name-first : (m p : ℕ) {a x : ℕ} (b c y z : ℕ) → a ≡ m → x ≡ m
     → no_name m p a b c ≡ no_name m p x y z
 no_name-first m p {a} {x} b c y z e f =
@@ -77,8 +78,8 @@ no_end_in_both m p s from n l front behind i low = ⊎_elim
     ∙ ends_name_run-behind m p s from (i - from) l ∙ behind (i - from) (omega arith))
     (cases_lt i from)
 
--- if the separator or nothing follows the first n bytes, they have the same byte at i as the whole
--- string, for i at most n, where the separator is read past the end
+-- if the first n bytes are all of s, or the separator follows them, they have the same byte at
+-- index i as s, for i at most n; past the end of either string, the separator is read
 front_same : (m : ℕ) (s : List ℕ) (n i : ℕ) → n ≤ length s → get_or s n m ≡ m → i ≤ n
     → get_or (take n s) i m ≡ get_or s i m
 front_same m s n i l e few = ⊎_elim
@@ -88,12 +89,12 @@ front_same m s n i l e few = ⊎_elim
     ∙ sym (ap (λ k. get_or s k m) {x = i} {y = n} (omega arith) ∙ e))
     (cases_lt i n)
 
--- past the end of the first n bytes, the separator is read
+-- reading the first n bytes at index n or later yields the separator
 front_past : (m : ℕ) (s : List ℕ) (n i : ℕ) → n ≤ length s → n ≤ i → get_or (take n s) i m ≡ m
 front_past m s n i l past = get_or_past (take n s) i m (omega (arith, length-take-le n s l))
 
--- if the separator or nothing follows the first n bytes, names start in these bytes where they
--- start in the whole string
+-- if the first n bytes are all of s, or the separator follows them, a name starts at an index up to
+-- n of these bytes if and only if a name starts there in s
 pub no_name_starts_at-take : (m p : ℕ) (s : List ℕ) (n i : ℕ) → n ≤ length s → get_or s n m ≡ m → i
     ≤ n
     → no_name_starts_at m p (take n s) i ≡ no_name_starts_at m p s i
@@ -122,7 +123,7 @@ no_name_starts_at-take m p s n i l e few = ⊎_elim inside at_end (cases_lt i n)
         (mark_at (i + 1) (omega arith)))
         (cases_lt (i + 1) n)
 
--- the byte where the first run of names ends is the separator, unless the string ends there
+-- if the first run of names ends at n, and s doesn't end there, the byte at n is the separator
 pub separator_at_end : (m p : ℕ) (s : List ℕ) (n : ℕ) → IsNameRunEnd m p s n → n < length s
     → get_or s n 0 ≡ m
 separator_at_end m p s n h l =
@@ -134,7 +135,7 @@ separator_or_no_byte m p s n h = ⊎_elim
     (λ past. get_or_past s n m past)
     (cases_lt n (length s))
 
--- in the bytes before the end of the first run of names, taken as a string, no byte ends a run
+-- if the first run of names ends at n, no byte of the first n bytes, taken as a string, ends a run
 pub no_end_before : (m p : ℕ) (s : List ℕ) (n : ℕ) → IsNameRunEnd m p s n
     → (i : ℕ) → i < length (take n s) → ends_name_run_of m p (take n s) i ≡ false
 no_end_before m p s n h i l =

@@ -20,8 +20,8 @@ use Rattle.unix_bytes.proofs.lemmas.lists.ListLemmas.{Snoc, Empty, Push, snoc}
 abbrev pub ancestors_by : Option (List ℕ) → List (List ℕ)
 ancestors_by parent = option_map_or ancestors_of parent []
 
--- removing m + 1 trailing components is removing the last and then m more, for each of the n
--- numbers m starting at a
+-- for each of the n numbers m from a on, removing m + 1 trailing components is the same as removing
+-- the last component and then m more
 shift : (s : List ℕ) (a n : ℕ) → map (λ m. rest s 0 m) (range_with_len (a + 1) n)
     ≡ map (λ m. rest (rest s 0 1) 0 m) (range_with_len a n)
 shift s a zero = refl
@@ -53,7 +53,7 @@ ancestors_of-deep s vs v e differs =
     ∙ ap (λ ps. s ∷ q ∷ ps) (shift s 1 (depth_of q))
     ∙ sym (ap (λ o. s ∷ ancestors_by o) (parent_of-deep s (depth_of q) more))
 
--- the ancestors of a path whose components end in v are the path and its parent's ancestors
+-- the ancestors of a path whose last component is v are the path and its parent's ancestors
 by_last : (s : List ℕ) (vs : List Value) (v : Value) → values s ≡ vs ++ v ∷ []
     → ancestors_of s ≡ s ∷ ancestors_by (parent_of s)
 by_last s vs RootDir e = ancestors_of-no_depth s (depth_of-root s vs e)
@@ -78,7 +78,7 @@ pub ancestors_of-above : (s parent : List ℕ) → parent_of s ≡ Some parent
     → ancestors_of s ≡ s ∷ ancestors_of parent
 ancestors_of-above s parent e = ancestors_of-parent s ∙ ap (λ o. s ∷ ancestors_by o) e
 
--- a path has at most one ancestor more than bytes
+-- a path of n bytes has at most n + 1 ancestors, including itself
 pub length-ancestors_of : (s : List ℕ) → length (ancestors_of s) ≤ length s + 1
 unfolding ancestors_of
 length-ancestors_of s =
@@ -88,7 +88,8 @@ length-ancestors_of s =
 abbrev ancestors_from : Option Path → List (List ℕ)
 ancestors_from next = option_map_or (λ path. ancestors_of path.bytes.now) next []
 
--- the ancestors of a parent that is a `Path` are the ancestors of its bytes
+-- if a parent is given as a `Path`, `ancestors_by` of its bytes are the paths that a walk starting
+-- with it yields
 ancestors_by-bytes : (o : Option Path)
     → ancestors_by (option_map (λ path. path.bytes.now) o) ≡ ancestors_from o
 ancestors_by-bytes None = refl

@@ -1,5 +1,5 @@
--- How many trailing components can be removed: all except the root, which can only be the first
--- component.
+-- The depth of a path, which is the number of trailing components that can be removed: all except
+-- the root, which can only be the first component.
 use Rattle.std.proofs.Common.{◌≡◌, ℕ, suc, ◌-◌, ◌≤◌, List, [], ◌∷◌, ◌++◌, length, refl, ap, ◌∙◌}
 use Rattle.std.proofs.Common.{arith, length-append}
 use Rattle.unix_path.specs.Parts.{Value, RootDir, CurDir, ParentDir, Normal, values}
@@ -38,8 +38,8 @@ pub depth_of-root : (s : List ℕ) (vs : List Value) → values s ≡ vs ++ Root
 depth_of-root s [] e = omega (arith, depth_of-values s, ap length e, ap root_count e)
 depth_of-root s (v ∷ vs) e = absurd (omega (arith, root_last s (v ∷ vs) e))
 
--- the depth of a path whose last component is not the root is one more than the depth of the
--- components before it
+-- if the last component of a path is not the root, the depth of the path is one more than the
+-- number of components before it, without the root
 pub depth_of-push : (s : List ℕ) (vs : List Value) (v : Value) → values s ≡ vs ++ v ∷ []
     → (v ≡ RootDir → ⊥) → depth_of s ≡ suc (length vs - root_count vs)
 depth_of-push s vs v e differs =

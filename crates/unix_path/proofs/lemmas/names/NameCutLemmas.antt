@@ -33,7 +33,8 @@ pub record IsName (name : List ℕ) : Type 0 where
   pub no_dot : bytes_eq name cur_dir ≡ false
   pub no_dots : bytes_eq name parent_dir ≡ false
 
--- s is a prefix that is empty or ends in a slash, then the name, and then the filler after it
+-- s consists of a prefix, which is empty or ends in a slash, the file name, and the filler after
+-- the name
 pub record NameCut (s name : List ℕ) : Type 0 where
   pub prefix : List ℕ
   pub back : List ℕ
@@ -43,7 +44,7 @@ pub record NameCut (s name : List ℕ) : Type 0 where
   pub before : values s ≡ values prefix ++ Normal name ∷ []
   pub is_name : IsName name
 
--- if a path has a file name, it is the last component
+-- the file name of a path is its last component
 name_of_push : (s name : List ℕ) (vs : List Value) (v : Value) → values s ≡ vs ++ v ∷ []
     → file_name_of (values s) ≡ Some name → v ≡ Normal name
 name_of_push s name vs v is e =
@@ -80,8 +81,8 @@ needs_no_separator-take t (suc k) l h =
     ∙ eq-eqb _ 47 (get_or-take (suc k) t (suc k - 1) 47 (omega arith)
     ∙ get_or_default t (suc k - 1) 47 0 (omega arith) ∙ h (omega arith))
 
--- a path with a file name is cut at index `a`, where its last component starts, if `a` is less than
--- the trimmed length
+-- if s has a file name, and the last piece of s without its trailing filler starts at index `a` and
+-- isn't empty, `NameCut` holds, with the bytes before `a` as the prefix
 cut_at : (s name : List ℕ) (trim : TrimsEnd s) (a : ℕ) → file_name_of (values s) ≡ Some name
     → IsLastStart (take trim.len s) a → a < length (take trim.len s) → NameCut s name
 unfolding values
@@ -118,7 +119,7 @@ cut_at s name trim a e h l =
       };
     }
 
--- if a path without its trailing filler has an empty last piece, it has no file name
+-- if the last piece of a path without its trailing filler is empty, the path has no file name
 no_name_at_end : (s name : List ℕ) (trim : TrimsEnd s) (a : ℕ) → file_name_of (values s) ≡ Some name
     → IsLastStart (take trim.len s) a → length (take trim.len s) ≤ a → ⊥
 unfolding values
@@ -147,7 +148,7 @@ name_cut s name e =
     (λ l. cut_at s name trim at.0 e at.1 (ltb-true _ _ l))
     (λ l. absurd (no_name_at_end s name trim at.0 e at.1 (ltb-false _ _ l)))
 
--- a name is a path with only that name as its component
+-- a name, taken as a path, has one component, which is this name
 pub values-name : (s : List ℕ) → IsName s → values s ≡ Normal s ∷ []
 unfolding values
 values-name s h =

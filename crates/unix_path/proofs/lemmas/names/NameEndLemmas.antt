@@ -13,7 +13,7 @@ use Rattle.unix_bytes.proofs.lemmas.lists.ListLemmas.{by_test}
 use Rattle.unix_path.proofs.lemmas.edits.EditLemmas.{is_some-option_map}
 use Rattle.unix_path.proofs.lemmas.names.StemLemmas.{last_start_of-name}
 
--- where `name` ends in s, if it is the file name
+-- the index where `name`, the file name of s, ends in s, or None if there is no name
 abbrev pub name_end_by : List ℕ → Option (List ℕ) → Option ℕ
 name_end_by s name = option_map (λ name. last_start_of (parts s) + length name) name
 

@@ -12,16 +12,16 @@ use Rattle.unix_bytes.proofs.lemmas.lists.ListLemmas.{by_test, take-take_front}
 abbrev pub is_dot : ℕ → Bool
 is_dot b = b == dot
 
--- if no byte at index n or later passes p, and the byte before n does, n is the index just after
--- the last byte that passes
+-- if no byte at index n or later passes p, and n is 0 or the byte before n passes, n is the index
+-- just after the last byte that passes, or 0 if none does
 pub after_last-is : (p : ℕ → Bool) (s : List ℕ) (n : ℕ) → n ≤ length s
     → ((k : ℕ) → n ≤ k → k < length s → not (p (get_or s k 0)) ≡ true)
     → (0 < n → not (p (get_or s (n - 1) 0)) ≡ false) → n ≡ after_last p s
 after_last-is p s n l after here =
     omega (arith, suffix_len_is (λ b. not (p b)) s n 0 l after here)
 
--- an index just after an occurrence of `byte`, with no other after it, is just after the last
--- occurrence
+-- if n is 0 or just after an occurrence of `byte`, and `byte` doesn't occur at n or later, n is the
+-- index just after the last occurrence, or 0 if there is none
 pub after_last-byte : (byte : ℕ) (s : List ℕ) (n : ℕ) → n ≤ length s
     → (0 < n → get_or s (n - 1) 0 ≡ byte)
     → position_or_len (λ b. b == byte) (drop n s) ≡ length (drop n s)

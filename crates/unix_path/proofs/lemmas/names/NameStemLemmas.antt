@@ -43,7 +43,7 @@ own_name s y e =
       );
     }
 
--- a file name, taken as a path, ends in its own file name
+-- if a file name is taken as a path, this path's file name ends where the path ends
 pub name_end_of-name : (s name : List ℕ) → Some name ≡ file_name_of (values s)
     → name_end_of name ≡ Some (length name)
 unfolding name_end_of

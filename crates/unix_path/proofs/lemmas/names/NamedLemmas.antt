@@ -58,7 +58,8 @@ has_name_end s end (Some bytes) is e = record {
 pub name_end : (s : List ℕ) (end : ℕ) → name_end_of s ≡ Some end → HasNameEnd s end
 name_end s end e = has_name_end s end (file_name_of (values s)) refl e
 
--- the last component of s is its last piece
+-- if s ends in a component, and its last piece, which begins at `start`, isn't empty, this piece is
+-- the last component
 last_value : (s : List ℕ) (start : ℕ) → IsLastStart s start → start < length s → EndsInPart s
     → values s ≡ values (take start s) ++ first_value (drop start s) ∷ []
 unfolding values
@@ -79,7 +80,7 @@ name_of_piece s start h l ends is = record {
   end = sym (length-rest_whole s ∙ parts_end-whole s ends);
 }
 
--- the root has no file name
+-- a string that ends in a component and in a slash, which can only be the root, has no file name
 root_nameless : (s : List ℕ) → 0 < length s → EndsInPart s → get_or s (length s - 1) 0 ≡ 47
     → None ≡ file_name_of (values s)
 unfolding values file_name_of
@@ -142,14 +143,14 @@ ends_in_name s e =
 pub name_end_of-named : (s : List ℕ) → EndsInName s → name_end_of s ≡ Some (length s)
 name_end_of-named s h = sym (name_end_of-some s (drop h.start s) (length s) h.name h.end)
 
--- paths with the same components at the same positions have the same index where the file name ends
+-- in two paths with the same components at the same positions, the file name ends at the same index
 pub name_end_of-same : (s t : List ℕ) → parts s ≡ parts t → name_end_of s ≡ name_end_of t
 unfolding name_end_of values
 name_end_of-same s t e =
     ap (λ ps. option_map (λ name. last_start_of ps + length name)
     (file_name_of (map (λ p. p.value) ps))) e
 
--- up to the end of its file name, a path has all its components
+-- the bytes of a path up to the end of its file name have all components of the path
 pub parts-named : (s : List ℕ) (end : ℕ) → name_end_of s ≡ Some end
     → parts (take end s) ≡ parts s
 parts-named s end e =
@@ -174,7 +175,7 @@ piece_slash s start i h from to =
     ∙ fails_before_first is_slash (drop start s) (i - start) 0
     (omega (arith, h.no_slash, length-drop start s))
 
--- the last piece begins at only one index
+-- if the last piece of s begins at i and at j, i is at most j; so it begins at only one index
 pub last_start_same : (s : List ℕ) (i j : ℕ) → IsLastStart s i → IsLastStart s j → i ≤ j
 last_start_same s i j h k = by_test (ltb j i)
     (λ t.
@@ -309,6 +310,6 @@ nameless-after s some dot slash =
     ap (λ i. get_or s i 0) {x = n - 1 - 1} {y = n - 2} (omega arith) ∙ slash in
     nameless-trailing s (omega arith) (rw (lt-ltb 0 (n - 1) (omega arith), dot, after) refl)
 
--- the path up to the end of its file name is the rest if no component is removed
+-- the path up to the end of its file name is the path without trailing filler, `rest s 0 0`
 pub take-name_end : (s : List ℕ) (end : ℕ) → name_end_of s ≡ Some end → take end s ≡ rest s 0 0
 take-name_end s end e = ap (λ n. take n s) (name_end s end e).is ∙ take-rest s 0

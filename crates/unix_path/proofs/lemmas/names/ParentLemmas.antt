@@ -14,13 +14,13 @@ use Rattle.unix_path.proofs.lemmas.rests.RestLemmas.{values-rest, rest-rest}
 use Rattle.unix_bytes.proofs.lemmas.lists.ListLemmas.{last_or-push}
 use Rattle.unix_path.proofs.lemmas.names.DepthLemmas.{depth_of-none, depth_of-root, depth_of-push}
 
--- if no component is removed, the rest has all components of the path
+-- a path without trailing filler, `rest s 0 0`, has all components of the path
 pub values-whole : (s u : List ℕ) → u ≡ rest s 0 0 → values u ≡ values s
 values-whole s u e = ap values e ∙ values-rest s 0 0
     ∙ take_all (length (values s) - (0 + 0)) (values s) (omega arith)
 
--- if u is the rest when no component is removed, the rest of u before the last component is the
--- rest of the path before the last component
+-- if u is s without trailing filler, the rest of u before its last component is the rest of s
+-- before its last component
 pub rest-whole_last : {u w : List ℕ} (s : List ℕ) → u ≡ rest s 0 0 → w ≡ rest u 0 1 → w ≡ rest s 0 1
 rest-whole_last s e r = r ∙ ap (λ u. rest u 0 1) e ∙ rest-rest s 0 0 0 1
 

@@ -44,7 +44,7 @@ no_slash b e = by_test (eqb b 46) (λ t. absurd (true≢false (rw t at e))) (λ 
 Dotless-ordinary : (s : List ℕ) (n m : ℕ) → OrdinaryFrom s n → n ≤ m → DotlessFrom s m
 Dotless-ordinary s n m ordinary l i from to = no_dot (get_or s i 0) (ordinary i (omega arith) to)
 
--- bytes that are ordinary after the first n bytes are ordinary in the whole string
+-- if s without its first n bytes is ordinary from index `past` on, s is ordinary from n + past on
 pub ordinary_behind : (s : List ℕ) (n past : ℕ) → n ≤ length s → OrdinaryFrom (drop n s) past
     → OrdinaryFrom s (n + past)
 ordinary_behind s n past l ordinary i from to =
@@ -54,15 +54,16 @@ ordinary_behind s n past l ordinary i from to =
     ap (λ b. eqb b 46 || eqb b 47) here
     ∙ ordinary (i - n) (omega arith) (omega (arith, length-drop n s))
 
--- bytes that are ordinary in t, which follows the first n bytes, are ordinary in the whole string
+-- if t, which is s without its first n bytes, is ordinary from index `past` on, s is ordinary from
+-- `place`, which is n + past, on
 pub ordinary_from : (s t : List ℕ) (n past place : ℕ) → n ≤ length s → t ≡ drop n s
     → OrdinaryFrom t past
     → place ≡ n + past → OrdinaryFrom s place
 ordinary_from s t n past place l is ordinary e i from to =
     ordinary_behind s n past l (subst (λ t. OrdinaryFrom t past) is ordinary) i (omega arith) to
 
--- t is s without its first n bytes: if the byte of t before index `past` is a dot or a slash, and
--- the same byte of s isn't a slash, then that byte of s is a dot
+-- if t is s without its first n bytes, the byte of t before index `past` is a dot or a slash, and
+-- this byte, which s has at `place`, isn't a slash, then it is a dot
 pub dot_at : (s t : List ℕ) (n past place : ℕ) → t ≡ drop n s → 0 < past → place ≡ n + past - 1
     → (eqb (get_or t (past - 1) 0) 46 || eqb (get_or t (past - 1) 0) 47) ≡ true
     → (get_or s place 0 ≡ 47 → ⊥) → get_or s place 0 ≡ 46
@@ -74,7 +75,7 @@ dot_at s t n past place is some e stops no_slash =
     (λ slash. absurd (no_slash (here ∙ eqb-true _ 47 slash)))
     (or_cases (eqb (get_or t (past - 1) 0) 46) (eqb (get_or t (past - 1) 0) 47) stops)
 
--- the stem ends at the start of the file name plus the length of the stem
+-- the index where the stem ends is the start of the file name plus the length of the stem
 stem_end-named : (s : List ℕ) → (h : EndsInName s)
     → stem_end_of s ≡ Some (h.start + length (split_name (drop h.start s)).0)
 stem_end-named s h =
@@ -84,7 +85,8 @@ stem_end-named s h =
     omega (arith, length-drop h.start s) in
     sym (stem_end_of-some s y (length s) h.name h.end refl) ∙ ap Some (sym to)
 
--- the stem ends before a dot that isn't the name's first byte, if no dot and no slash follows it
+-- if the byte at d is a dot, but not the name's first byte, and no dot and no slash follows it, the
+-- stem ends at d
 pub stem_end-cut : (s : List ℕ) (d : ℕ) → EndsInName s → d < length s → OrdinaryFrom s (d + 1)
     → get_or s d 0 ≡ 46 → 0 < d → eqb (get_or s (d - 1) 0) 47 ≡ false → stem_end_of s ≡ Some d
 stem_end-cut s d h l ordinary dot some before =
@@ -151,7 +153,7 @@ stem_end-whole s h none =
       ap (λ r. length r.0) whole,
     ))
 
--- the index after the last dot among the first m bytes, or 0
+-- the index just after the last dot among the first m bytes, or 0 if they contain no dot
 record LastDot (s : List ℕ) (m : ℕ) : Type 0 where
   past : ℕ
   in_range : past ≤ m
@@ -293,7 +295,7 @@ stem_end-known s n h l known ordinary = by_test (ltb 0 n)
     (λ t. stem_end-longer s n l h (known (ltb-true _ _ t)) ordinary)
     (λ f. stem_end-ordinary s h (λ i from to. ordinary i (omega (arith, ltb-false _ _ f)) to))
 
--- after a slash that no dot and no slash follows, the whole name is stem
+-- if the byte at d is a slash, and no dot and no slash follows it, the whole name is stem
 pub stem_end-slash : (s : List ℕ) (d : ℕ) → EndsInName s → d < length s → OrdinaryFrom s (d + 1)
     → get_or s d 0 ≡ 47 → stem_end_of s ≡ Some (length s)
 stem_end-slash s d h l ordinary slash =
@@ -302,7 +304,8 @@ stem_end-slash s d h l ordinary slash =
     ∙ piece_slash s h.start d h.last (ltb-false _ _ f) l))) in
     stem_end-whole s h (Dotless-ordinary s (d + 1) (h.start + 1) ordinary (omega arith))
 
--- if the last dot is the name's first byte, the whole name is stem
+-- if the name's first byte is at d, and no dot and no slash follows this byte, the whole name is
+-- stem
 pub stem_end-lead : (s : List ℕ) (d : ℕ) → EndsInName s → d < length s → OrdinaryFrom s (d + 1)
     → (0 < d → eqb (get_or s (d - 1) 0) 47 ≡ true) → stem_end_of s ≡ Some (length s)
 stem_end-lead s d h l ordinary before =
@@ -314,7 +317,7 @@ stem_end-lead s d h l ordinary before =
     (λ f. ltb-false _ _ f) in
     stem_end-whole s h (Dotless-ordinary s (d + 1) (h.start + 1) ordinary (omega arith))
 
--- up to the end of its file name, a path has the same stem
+-- removing the filler after the file name doesn't change where the stem ends
 pub stem_end_of-take : (s : List ℕ) (end : ℕ) → name_end_of s ≡ Some end
     → stem_end_of (take end s) ≡ stem_end_of s
 unfolding stem_end_of values

@@ -87,7 +87,7 @@ last_start_of-name s name e = by_last (snoc (parts s))
         let to : parts_end (parts s) ≡ p.end = ap parts_end n ∙ parts_end-append ps p in
         omega (arith, length-rest_whole s)
 
--- a name is no longer than the bytes up to its end
+-- a file name that ends at index `end` has at most `end` bytes
 pub length-name : (s name : List ℕ) (end : ℕ) → Some name ≡ file_name_of (values s)
     → end ≡ length (rest s 0 0) → length name ≤ end
 length-name s name end e at = omega (arith, last_start_of-name s name e, at)
@@ -102,8 +102,8 @@ pub stem_end_of-none : (s : List ℕ) → None ≡ file_name_of (values s) → N
 unfolding stem_end_of
 stem_end_of-none s e = ap (stem_end_by s) e
 
--- the file name ends at index `end`, where the last component ends, and the stem starts where the
--- file name starts
+-- if the last component ends at index `end` and is the file name, the stem ends at `end`, less the
+-- length of the name, plus the length of the stem
 pub stem_end_of-some : {stem : List ℕ} (s name : List ℕ) (end : ℕ)
     → Some name ≡ file_name_of (values s) → end ≡ length (rest s 0 0)
     → stem ≡ (split_name name).0 → Some (end - length name + length stem) ≡ stem_end_of s
@@ -115,7 +115,7 @@ stem_end_of-some {stem} s name end e at is =
     omega (arith, at, ap length is) in
     ap Some to ∙ ap (stem_end_by s) e
 
--- the rest of a path is no longer than the path
+-- a path without trailing filler, `rest s 0 0`, is no longer than the path
 pub length-rest_whole-le : (s : List ℕ) → length (rest s 0 0) ≤ length s
 length-rest_whole-le s =
     omega (arith, ap length (take-rest s 0), length-take (length (rest s 0 0)) s)

@@ -37,14 +37,15 @@ values-first {x = x} h =
     ap values_of h.first ∙ map-append (λ (p : Part). p.value) h.shared (inner_parts h.at x)
     ∙ ap (λ vs. values_of h.shared ++ vs) (values-inner_parts h.at x)
 
--- the rests of two strings after the same components are in the order of the strings
+-- if x and y are the rests of a and b after the same components, x and y are in the same order as a
+-- and b
 pub values_cmp-shared : {a b x y : List ℕ} → SharesPrefix a b x y
     → values_cmp (inner_values x) (inner_values y) ≡ values_cmp (values a) (values b)
 values_cmp-shared {x = x} {y = y} h =
     sym (ap₂ values_cmp (values-first h) h.second
     ∙ values_cmp-common (values_of h.shared) (inner_values x) (inner_values y))
 
--- filler at the beginning of both rests can be skipped
+-- `SharesPrefix` still holds after the filler at the beginning of both rests is skipped
 pub shares-past : {a b x y t u : List ℕ} → SharesPrefix a b x y → AfterFiller x t → AfterFiller y u
     → SharesPrefix a b t u
 shares-past {a} {y = y} {t = t} {u = u} h past_x past_y = record {
@@ -100,7 +101,8 @@ pub begins_past : (v w x : List Value) → IsPrefixOf (v ++ w) (v ++ x) → IsPr
 begins_past [] w x h = h
 begins_past (y ∷ v) w x h = begins_past v w x (begins_tail y y (v ++ w) (v ++ x) h).1
 
--- two strings are apart if their rests after the same components are apart
+-- `AreApart` holds for two strings, with the same order, if it holds for their rests after the same
+-- components, and these rests begin with no filler
 pub apart-shared : {a b t u : List ℕ} {order : Ordering} → SharesPrefix a b t u
     → is_filler t 0 ≡ false → is_filler u 0 ≡ false → AreApart t u order → AreApart a b order
 apart-shared {a} {b} {t} {u} h busy_t busy_u apart = record {
@@ -115,14 +117,14 @@ apart-shared {a} {b} {t} {u} h busy_t busy_u apart = record {
       (subst (λ vs. IsPrefixOf vs (values a)) h.second begins)))));
 }
 
--- if nothing of the second string remains, the shared components are all its components
+-- if the rest of `base` is empty, the shared components are all components of `base`
 shared_is : {s base rest_bytes : List ℕ} (h : SharesPrefix s base rest_bytes [])
     → values base ≡ values_of h.shared
 shared_is h =
     h.second ∙ ap (λ vs. values_of h.shared ++ vs) inner_values-nil
     ∙ append-nil (values_of h.shared)
 
--- if nothing of the second string remains, the first starts with its components
+-- if the rest of `base` is empty, s starts with the components of `base`
 pub begins-rest_bytes : {s base rest_bytes : List ℕ} → SharesPrefix s base rest_bytes []
     → IsPrefixOf (values base) (values s)
 begins-rest_bytes {rest_bytes = rest_bytes} h = (
@@ -131,8 +133,8 @@ begins-rest_bytes {rest_bytes = rest_bytes} h = (
       ∙ sym (values-first h),
 )
 
--- if nothing of the second string remains, and what remains of the first begins with no filler and
--- ends in a component, it is the rest of the first after as many components as the second has
+-- if the rest of `base` is empty, and the rest `rest_bytes` of s begins with no filler and ends in
+-- a component, `rest_bytes` is s without as many leading components as `base` has
 pub rest-rest_bytes : {s base rest_bytes : List ℕ} (h : SharesPrefix s base rest_bytes [])
     → is_filler rest_bytes 0 ≡ false
     → EndsInPart rest_bytes → rest s (length (values base)) 0 ≡ rest_bytes
@@ -157,8 +159,7 @@ rest-rest_bytes {s} {base} {rest_bytes} h not_filler ends =
       ends = ends;
     })
 
--- if nothing of the first string remains, but something of the second does, the second has more
--- components
+-- if the rest of a is empty, and the rest u of b is not, b has all components of a and then more
 pub more-rest_bytes : {a b u : List ℕ} → SharesPrefix a b [] u → is_filler u 0 ≡ false → 0
     < length u
     → HasMore a b

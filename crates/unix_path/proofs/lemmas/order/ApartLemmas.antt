@@ -1,4 +1,5 @@
--- Two strings whose order is decided by the bytes at their first difference.
+-- Two strings whose order is decided by the bytes at their first difference. Two strings are called
+-- apart, in an order, if `AreApart` holds for them and this order.
 use Rattle.std.proofs.Common.{◌≡◌, ℕ, zero, suc, ◌+◌, ◌-◌, ◌<◌, ◌≤◌, ◌||◌, true, false, eqb, List}
 use Rattle.std.proofs.Common.{[], ◌∷◌, ◌++◌, length, get_or, take, drop, map, refl, sym, ap, ◌∙◌}
 use Rattle.std.proofs.Common.{arith, take-append-drop, append_assoc, get_or-drop, length-drop}
@@ -29,7 +30,7 @@ use Rattle.unix_path.proofs.lemmas.parts.PartLemmas.{values-nil}
 use Rattle.unix_path.proofs.lemmas.parts.PieceLemmas.{first_piece, first_piece-other}
 use Rattle.unix_path.proofs.lemmas.lists.PrefixLemmas.{begins_tail}
 
--- if two strings have the same rank at their first difference, a piece of each ends there
+-- if two strings have the same `piece_rank` at their first difference, a piece of each ends there
 pub ranks_end : (a b : List ℕ) (n : ℕ) → n ≡ common_prefix_len eqb a b
     → piece_rank a n ≡ piece_rank b n → piece_rank a n ≡ 0
 ranks_end [] b n is same = refl
@@ -37,8 +38,8 @@ ranks_end (x ∷ a) [] n is same = same
 ranks_end (x ∷ a) (y ∷ b) zero is same = grind arith
 ranks_end (x ∷ a) (y ∷ b) (suc n) is same = grind (arith, ranks_end a b n)
 
--- paths are apart if, after the same components v, they have components s and t, in the order of
--- two different numbers x and y
+-- a and b are apart if the components s and t, which come after the same components v in a and in
+-- b, are in the order of two different numbers x and y
 pub apart-values : {a b : List ℕ} (v : List Value) (s t : Value) (ss ts : List Value) (x y : ℕ)
     → values a ≡ v ++ s ∷ ss → values b ≡ v ++ t ∷ ts → value_cmp s t ≡ nat_cmp x y
     → (x ≡ y → ⊥) → AreApart a b (nat_cmp x y)
@@ -59,14 +60,14 @@ first_piece-after [] x none = refl
 first_piece-after (b ∷ p) x none =
     grind (arith, first_piece-other b (p ++ x), first_piece-after p x)
 
--- the components after the first piece
+-- the components of a string after its first piece
 abbrev later_values : List ℕ → List Value
 later_values s =
     let n = position_or_len is_slash s in
     map (λ (p : Part). p.value) (inner_parts (0 + n) (drop n s))
 
--- a string whose first piece counts has the component of that piece first, and has the same
--- components as after a slash
+-- if the first piece p of s is neither empty nor `.`, the first component of s is that of p, and s
+-- has the same components as after a slash
 values-first : (s p : List ℕ) → first_piece s ≡ p → (bytes_eq p [] || bytes_eq p cur_dir) ≡ false
     → (values s ≡ value_of_piece p ∷ later_values s) × (values s ≡ inner_values s)
 unfolding values
@@ -81,8 +82,9 @@ values-first (b ∷ s) p is h =
       whole,
     )
 
--- if the last piece of w, continued by the first piece of x, counts, then w followed by x has the
--- components before that piece, its component, and the components after it
+-- if the last piece of w and the first piece of x together are a piece for which `Counts` holds, w
+-- ++ x has the components before this piece, the component of this piece, and the components after
+-- it
 values-piece : (w x : List ℕ) (k : ℕ) → IsLastStart w k → Counts (drop k w) (first_piece x)
     → values (w ++ x) ≡ values (take k w)
     ++ value_of_piece (drop k w ++ first_piece x) ∷ later_values (drop k w ++ x)
@@ -106,8 +108,8 @@ values-piece w x (suc k) start h =
 abbrev IsInName : List ℕ → ℕ → Type 0
 IsInName s n = (piece_rank s n ≡ 0 → ⊥) × (piece_rank s n ≡ 47 → ⊥)
 
--- the bytes at the first difference decide the order, if they are neither slashes nor dots, or more
--- than a dot comes before them in their pieces
+-- a and b are apart, in the order of the bytes at their first difference n, if these bytes are
+-- neither slashes nor dots, or if more than a dot comes before them in their pieces
 apart-after : (a b : List ℕ) (n : ℕ) → n ≡ common_prefix_len eqb a b
     → (piece_rank a n ≡ piece_rank b n → ⊥)
     → ((k : ℕ) → is_piece_start a k ≡ true → k ≤ n → n ≤ k + 1 → (k < n → get_or a k 0 ≡ 46)
@@ -140,7 +142,8 @@ apart-after a b n is differs in_name =
     (rw (head_rank-drop a n, head_rank-drop b n) differs)))
     differs
 
--- strings are apart if both have bytes at n that differ and are neither slashes nor dots
+-- a and b are apart if both have a byte at their first difference n, and these bytes are neither
+-- slashes nor dots
 pub apart-here : (a b : List ℕ) (n : ℕ) → n ≡ common_prefix_len eqb a b
     → (piece_rank a n ≡ 0 → ⊥) → (piece_rank a n ≡ 47 → ⊥)
     → (piece_rank b n ≡ 0 → ⊥) → (piece_rank b n ≡ 47 → ⊥)
@@ -149,8 +152,8 @@ apart-here a b n is end_a dot_a end_b dot_b =
     apart-after a b n is (λ e. end_a (ranks_end a b n is e))
     (λ k _ _ _ _. ((end_a, dot_a), (end_b, dot_b)))
 
--- strings are apart if the piece at their first difference n has bytes before n that are more than
--- one dot
+-- a and b are apart if their pieces at the first difference n have bytes before n, other than a
+-- single dot
 pub apart-inside : (a b : List ℕ) (n : ℕ) → n ≡ common_prefix_len eqb a b
     → is_piece_start a n ≡ false → (get_or a (n - 1) 0 ≡ 46 → is_piece_start a (n - 1) ≡ false)
     → (piece_rank a n ≡ piece_rank b n → ⊥)

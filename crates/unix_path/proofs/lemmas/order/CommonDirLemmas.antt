@@ -16,7 +16,7 @@ use Rattle.unix_path.proofs.lemmas.names.NameLemmas.{after_last-byte}
 use Rattle.unix_path.proofs.lemmas.order.PairLemmas.{cuts-begins}
 
 -- an index in the common prefix is the end of the common directory if it is 0 or just after a
--- slash, and no slash follows it
+-- slash, and no slash of the common prefix follows it
 pub common_dir_of-is : (a b : List ℕ) (common n : ℕ) → common ≡ common_prefix_len eqb a b
     → n ≤ length (take common a) → (0 < n → get_or (take common a) (n - 1) 0 ≡ slash)
     → position_or_len is_slash (drop n (take common a)) ≡ length (drop n (take common a))
@@ -26,7 +26,7 @@ common_dir_of-is a b common n is l after none =
     after_last-byte slash (take common a) n l after none
     ∙ ap (λ m. after_last is_slash (take m a)) is
 
--- the byte before the index just after the last slash is a slash
+-- if `after_last is_slash s` is not 0, the byte of s before this index is a slash
 after_last-slash : (s : List ℕ) → 0 < after_last is_slash s
     → get_or s (after_last is_slash s - 1) 0 ≡ slash
 after_last-slash s some =
@@ -45,7 +45,7 @@ after_last-slash s some =
     not_false true e = refl
     not_false false e = cc
 
--- the rests of two strings after their common directory come after the same components
+-- if two strings have a common directory, their rests after it come after the same components
 pub shares-common_dir : (a b : List ℕ) → 0 < common_dir_of a b
     → SharesPrefix a b (drop (common_dir_of a b) a) (drop (common_dir_of a b) b)
 unfolding common_dir_of
@@ -59,7 +59,7 @@ shares-common_dir a b some =
     let cut = cuts-begins a b m n refl inside (rw (other, here) refl) in
     cut.shares some
 
--- the rests of two strings after their common directory decide the order of the strings
+-- if two strings have a common directory, their rests after it decide the order of the strings
 pub values_cmp-common_dir : (a b : List ℕ) → 0 < common_dir_of a b
     → values_cmp (values a) (values b)
     ≡ values_cmp (inner_values (drop (common_dir_of a b) a))

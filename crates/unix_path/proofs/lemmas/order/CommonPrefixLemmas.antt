@@ -26,8 +26,8 @@ values-leading s = map-append (λ (p : Part). p.value) (leading_part s) (inner_p
 pub inner_values-nil : inner_values [] ≡ []
 inner_values-nil = ap (map (λ (p : Part). p.value)) (inner_parts-nil 0)
 
--- cut at a slash that is not its first byte, a string has the components before the slash, and then
--- the inner components after it
+-- the components of a ++ slash ++ b, where a is not empty, are those of a, and then the inner
+-- components of b
 pub values-slash : (a b : List ℕ) → 0 < length a
     → values (a ++ slash ∷ b) ≡ values a ++ inner_values b
 unfolding values
@@ -38,8 +38,8 @@ values-slash a b l =
     ∙ map-append (λ (p : Part). p.value) (parts a) (inner_parts n b)
     ∙ ap (λ vs. map (λ (p : Part). p.value) (parts a) ++ vs) (values-inner_parts n b)
 
--- a string that ends in a slash, followed by b, has its components and then the inner components of
--- b, with their positions
+-- if b is appended to a string that ends in a slash, the inner components of b are appended to the
+-- string's components, with their positions
 pub parts-past_slash : (f b : List ℕ)
     → parts ((f ++ slash ∷ []) ++ b)
     ≡ parts (f ++ slash ∷ []) ++ inner_parts (length (f ++ slash ∷ [])) b
@@ -49,8 +49,8 @@ parts-past_slash f b =
     ∙ ap (λ n. parts g ++ inner_parts n b) {x = 0 + length f + 1} {y = length g}
     (omega (arith, length-append f (slash ∷ [])))
 
--- a string that ends in a slash, followed by b, has its components and then the inner components of
--- b
+-- if b is appended to a string that ends in a slash, the inner components of b are appended to the
+-- string's components, without their positions
 pub values-past_slash : (f b : List ℕ)
     → values ((f ++ slash ∷ []) ++ b) ≡ values (f ++ slash ∷ []) ++ inner_values b
 unfolding values
@@ -92,7 +92,7 @@ take-past_slash s n some l is =
     ap (λ k. take k s) {x = n} {y = i + 1} (omega arith) ∙ take_more s i 0 (omega arith)
     ∙ ap (λ b. take i s ++ b ∷ []) is
 
--- equal strings are equal in the order
+-- equal strings compare as equal
 pub values_cmp-equal_strings : (a b : List ℕ) → a ≡ b → Equal ≡ values_cmp (values a) (values b)
 values_cmp-equal_strings a b e =
     sym (ap (λ t. values_cmp (values a) (values t)) (sym e)

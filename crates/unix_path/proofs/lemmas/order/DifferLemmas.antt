@@ -12,7 +12,7 @@ use Rattle.unix_path.proofs.lemmas.order.CommonPrefixLemmas.{slice_cmp-common}
 use Rattle.unix_path.proofs.lemmas.parts.PieceLemmas.{first_piece, first_piece-other}
 use Rattle.unix_path.proofs.lemmas.parts.PieceLemmas.{first_piece-slash}
 
--- a piece ends at i if the rank there is 0
+-- if `piece_rank s i` is 0, a piece of s ends at i
 pub rank_end : (s : List ℕ) (i : ℕ) → piece_rank s i ≡ 0 → get_or s i 47 ≡ 47
 rank_end s i e = grind arith
 
@@ -21,7 +21,7 @@ abbrev pub head_rank : List ℕ → ℕ
 head_rank [] = 0
 head_rank (b ∷ p) = 1 + b
 
--- the head rank of the piece that starts at n is the rank at n
+-- `head_rank` of the piece that starts at n is `piece_rank s n`
 pub head_rank-drop : (s : List ℕ) (n : ℕ) → head_rank (first_piece (drop n s)) ≡ piece_rank s n
 head_rank-drop [] zero = refl
 head_rank-drop [] (suc n) = refl
@@ -36,12 +36,12 @@ slice_cmp-heads [] (y ∷ r) differs = grind arith
 slice_cmp-heads (x ∷ q) [] differs = grind arith
 slice_cmp-heads (x ∷ q) (y ∷ r) differs = grind arith
 
--- the piece p ++ q counts, and if it is `..`, q is empty
+-- the piece p ++ q is neither empty nor `.`, and if it is `..`, q is empty
 pub record Counts (p q : List ℕ) : Type 0 where
   pub counts : (bytes_eq (p ++ q) [] || bytes_eq (p ++ q) cur_dir) ≡ false
   pub parent : bytes_eq (p ++ q) parent_dir ≡ true → head_rank q ≡ 0
 
--- the piece p ++ q counts if q begins with a byte that isn't a dot, or p is more than a dot
+-- `Counts` holds for p and q if q begins with a byte that isn't a dot, or p is more than a dot
 pub counts_from : (p q : List ℕ) → (length p ≤ 1 → get_or p 0 46 ≡ 46
     → (head_rank q ≡ 0 → ⊥) × (head_rank q ≡ 47 → ⊥)) → Counts p q
 counts_from [] [] h = absurd ((h (omega arith) refl).0 refl)
@@ -58,7 +58,8 @@ counts_from (c ∷ d ∷ []) [] h = record { counts = grind arith; parent = λ e
 counts_from (c ∷ d ∷ []) (b ∷ q) h = record { counts = grind arith; parent = λ e. grind arith }
 counts_from (c ∷ d ∷ b ∷ p) q h = record { counts = grind arith; parent = λ e. grind arith }
 
--- two pieces that count and have the same prefix are in the order of the bytes after the prefix
+-- if `Counts` holds for p and q, and for p and r, and the first bytes of q and r differ, the pieces
+-- p ++ q and p ++ r are in the order of these bytes
 pub value_cmp-pieces : (p q r : List ℕ) → Counts p q → Counts p r
     → (head_rank q ≡ head_rank r → ⊥)
     → value_cmp (value_of_piece (p ++ q)) (value_of_piece (p ++ r))

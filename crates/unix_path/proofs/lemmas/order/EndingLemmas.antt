@@ -24,8 +24,8 @@ same_end_byte a b n k h more =
     from_end a n k more h.in_first ∙ ap (λ w. get_or w (k - 1 - n) 0) h.same
     ∙ sym (from_end b n k more h.in_second)
 
--- if a common suffix of two strings without a slash has more than n bytes, the byte before the last
--- n bytes is not a slash
+-- if a common suffix that contains no slash has more than n bytes, the byte before the last n bytes
+-- is not a slash
 pub same_end_no_slash : (a b : List ℕ) (n k : ℕ) → HasCommonSuffix a b k → n < k
     → get_or a (length a - 1 - n) 0 ≡ 47 → ⊥
 same_end_no_slash a b n k h more slash =
@@ -33,7 +33,8 @@ same_end_no_slash a b n k h more slash =
     let none = fails_before_first is_slash (drop (length a - k) a) (k - 1 - n) 0 in
     grind (arith, slash, is, none, h.no_slash)
 
--- the byte before the last n bytes, if a common suffix is longer
+-- the byte before the last n bytes of two strings, if they have a common suffix of more than n
+-- bytes
 pub ruleset longer_ends = (same_end_byte, same_end_no_slash)
 
 -- the last k bytes are the last piece if they contain no slash and a piece begins with them

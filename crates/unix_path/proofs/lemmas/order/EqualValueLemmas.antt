@@ -1,4 +1,4 @@
--- Equal components, and equal lists of components, are equal in the order.
+-- Equal components, and equal lists of components, compare as equal.
 use Rattle.std.proofs.Common.{◌≡◌, true, List, Decides, sym, ap, ◌∙◌}
 use Rattle.std.specs.Cmp.{Equal-is}
 use Rattle.std.specs.Ordering.{is_eq}

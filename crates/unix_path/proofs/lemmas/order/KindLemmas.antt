@@ -21,7 +21,7 @@ use Rattle.unix_path.proofs.lemmas.parts.PieceLemmas.{first_piece, first_piece-o
 use Rattle.unix_path.proofs.lemmas.lists.PrefixLemmas.{begins_tail}
 use Rattle.unix_path.proofs.lemmas.parts.ValueLemmas.{first_value, value_bytes-first}
 
--- the kind of the first component, determined by three bytes
+-- the first three bytes determine the kind of the first component
 pub first_rank_of : (s : List ℕ) → first_rank (values s) ≡ cond (eqb (length s) 0) 0
     (cond (eqb (get_or s 0 0) 47) 1 (cond (is_filler s 0) 2 (cond (starts_with_parent_dir s) 3 4)))
 unfolding values
@@ -49,14 +49,14 @@ same_kind : (v w : Value) → rank v ≡ rank w
     → value_cmp v w ≡ slice_cmp nat_cmp (value_bytes v) (value_bytes w)
 same_kind v w same = rw (same, tied_itself nat_cmp_total (rank w)) refl
 
--- the first component of a string that begins with a byte other than a slash is the component of
--- its first piece
+-- if s begins with a byte other than a slash, its first component is that of its first piece
 values-name : (s : List ℕ) → 0 < length s → eqb (get_or s 0 0) 47 ≡ false
     → (others : List Value) × (values s ≡ first_value (first_piece s) ∷ others)
 unfolding values
 values-name s some other = (_, ap (map (λ (p : Part). p.value)) (parts-name s some other))
 
--- the first pieces of two strings are in the order of the bytes at n, which is 0 or 1
+-- if two strings don't begin with a slash, have the same bytes before n, which is 0 or 1, and
+-- differ at n, their first pieces are in the order of the bytes at n
 first_piece-cmp : (x y : ℕ) (a b : List ℕ) (n : ℕ) → n ≤ 1 → (0 < n → x ≡ y)
     → eqb x 47 ≡ false → eqb y 47 ≡ false
     → (piece_rank (x ∷ a) n ≡ piece_rank (y ∷ b) n → ⊥)
@@ -75,7 +75,8 @@ first_piece-cmp x y a b (suc zero) l same first second differs =
     )
 first_piece-cmp x y a b (suc (suc n)) l same first second differs = absurd (omega arith)
 
--- two paths that differ at their start don't both begin with a slash
+-- if two paths differ at their start, and their first components are of the same kind, neither path
+-- begins with a slash
 no_root : (x y : ℕ) (a b : List ℕ) (n : ℕ) → n ≡ common_prefix_len eqb (x ∷ a) (y ∷ b)
     → (0 < n → x ≡ 46) → first_rank (values (x ∷ a)) ≡ first_rank (values (y ∷ b))
     → (eqb x 47 ≡ false) × (eqb y 47 ≡ false)
@@ -83,7 +84,8 @@ no_root x y a b n is dot same =
     let first : eqb x 47 ≡ false = grind (arith, first_rank_of (x ∷ a), first_rank_of (y ∷ b)) in
     (first, grind (arith, first_rank_of (x ∷ a), first_rank_of (y ∷ b)))
 
--- first components of the same kind are in the order of the bytes at the first difference
+-- if a and b differ at their start, their first components are of the same kind, and b isn't empty,
+-- a and b are apart, in the order of the bytes at their first difference n
 first_parts-same : (a b : List ℕ) (n : ℕ) → n ≡ common_prefix_len eqb a b → DiffersAtStart a b n
     → first_rank (values a) ≡ first_rank (values b) → 0 < length b
     → AreApart a b (nat_cmp (piece_rank a n) (piece_rank b n))
@@ -105,8 +107,8 @@ first_parts-same (x ∷ a) (y ∷ b) n is start same some =
     ∙ ap₂ (slice_cmp nat_cmp) (value_bytes-first p) (value_bytes-first q)
     ∙ first_piece-cmp x y a b n start.near equal other.0 other.1 differs) differs
 
--- two paths that differ at their start, with first components of the same kind, are in the order of
--- the bytes at the first difference, even if both are empty
+-- if a and b differ at their start, and their first components are of the same kind or both are
+-- empty, a and b are in the order of the bytes at their first difference n
 pub first_parts-cmp : (a b : List ℕ) (n : ℕ) → n ≡ common_prefix_len eqb a b → DiffersAtStart a b n
     → is_ne (nat_cmp (first_rank (values a)) (first_rank (values b))) ≡ false
     → nat_cmp (piece_rank a n) (piece_rank b n) ≡ values_cmp (values a) (values b)

@@ -41,7 +41,8 @@ inside_piece s i e = omega (arith, eqb-false i 0 (or_parts (eqb i 0) _ e).0)
 abbrev pub CanCut : List ℕ → ℕ → Type 0
 CanCut s n = (is_piece_start s n ≡ true) ⊎ (piece_rank s n ≡ 0)
 
--- a string cut just after one of its slashes has the components of both sides
+-- if the byte of s before n is a slash, the components of s are those of its first n bytes, and
+-- then the inner components of the other bytes
 parts-after : (s : List ℕ) (n : ℕ) → 0 < n → n ≤ length s → get_or s (n - 1) 0 ≡ slash
     → parts s ≡ parts (take n s) ++ inner_parts n (drop n s)
 parts-after s n some l is =
@@ -52,7 +53,8 @@ parts-after s n some l is =
     ∙ ap (λ t. parts t ++ inner_parts (length t) (drop n s)) (sym common)
     ∙ ap (λ k. parts (take n s) ++ inner_parts k (drop n s)) (length-take-le n s l)
 
--- a string cut at a slash has the components of both sides
+-- if the byte of s at n is a slash, the components of s are those of its first n bytes, and then
+-- the inner components of the other bytes
 parts-before : (s : List ℕ) (n : ℕ) → 0 < n → n < length s → get_or s n slash ≡ slash
     → parts s ≡ parts (take n s) ++ inner_parts n (drop n s)
 parts-before s n some l is =
@@ -67,7 +69,8 @@ parts-before s n some l is =
     (omega (arith, size))
     ∙ ap (λ ps. parts f ++ ps) (sym (ap (inner_parts n) after ∙ inner_parts-slash n t))
 
--- a string cut where it can be cut has the components of both sides
+-- if s can be cut at n, the components of s are those of its first n bytes, and then the inner
+-- components of the other bytes
 parts-cut : (s : List ℕ) (n : ℕ) → 0 < n → n ≤ length s → CanCut s n
     → parts s ≡ parts (take n s) ++ inner_parts n (drop n s)
 parts-cut s n some inside = ⊎_elim
@@ -141,8 +144,8 @@ shares-written a b n alike some all first =
     subst (SharesPrefix a b (drop (length b) a)) (drop-length b)
     ((cuts a b n (length b) alike all first ends).shares some)
 
--- unless the paths can be cut before their first difference, the first doesn't start with the
--- second, if that isn't empty
+-- if the first difference of a and b is not a `CutBefore`, and b isn't empty, a doesn't start with
+-- b
 pub apart-unless : (a : Bor (List ℕ)) (b : List ℕ) (n : ℕ) (said : Difference)
     → IsCommonPrefixLen a.now b n
     → DifferenceShows a b n said → ((x y : Bor (List ℕ)) → said ≡ CutBefore x y → ⊥) → 0 < length b
@@ -152,7 +155,7 @@ apart-unless a b n FirstComponents alike h other some =
     first_parts-apart a.now b n alike h some
 apart-unless a b n (CutBefore x y) alike h other some = absurd (other x y refl)
 
--- unless a comparison is `StartsWith`, the first path doesn't start with the second
+-- if the comparison of two paths s and t is not a `StartsWith`, s doesn't start with t
 pub no_prefix-unless : (s t : List ℕ) (a : Bor (List ℕ)) (b : List ℕ) (said : Comparison)
     → Compared a b said → SharesPrefix s t a.now b
     → ((rest_bytes : Bor (List ℕ)) → said ≡ StartsWith rest_bytes → ⊥)

@@ -21,15 +21,15 @@ pub record Trims (s : List ℕ) (n : ℕ) : Type 0 where
   pub same : parts (take n s) ≡ parts (take (length s) s)
   pub ends : 0 < n → is_trailing s (n - 1) ≡ false
 
--- if the first n bytes have all components of s and end in a component, they are the rest of s if
--- no component is removed
+-- if `Trims s n` holds, the first n bytes of s are `rest s 0 0`, which is s without trailing
+-- filler, and end in a component
 pub rest-trims : (s : List ℕ) (n : ℕ) → Trims s n → (rest s 0 0 ≡ take n s) × EndsInPart (take n s)
 rest-trims s n h =
     let ends = EndsInPart-take s n h.in_range h.ends in
     let same = h.same ∙ ap parts (take_all (length s) s (omega arith)) in
     (rest-trimmed s n h.in_range same ends, ends)
 
--- the first n bytes, as `Trims` describes them, have the values of s
+-- if `Trims s n` holds, the first n bytes of s have the values of s
 pub values-trims : (s : List ℕ) (n : ℕ) → Trims s n → values (take n s) ≡ values s
 unfolding values
 values-trims s n h = ap (map (λ (p : Part). p.value))
@@ -48,7 +48,8 @@ stripped-whole s base n h none =
     let no_values = ap values (nil_from_length base none) ∙ values-nil in
     sym (ap (λ vs. rest s (length vs) 0) no_values ∙ (rest-trims s n h).0)
 
--- what follows the components of the base in s is the rest of s after the base
+-- the bytes of s after the components of `base`, without filler at either end, are the rest of s
+-- after `base`
 pub stripped-is : (s base : List ℕ) (n : ℕ) (rest_bytes whole : Bor (List ℕ)) → Trims s n
     → whole.now ≡ take n s → IsTail rest_bytes whole → SharesPrefix whole.now base rest_bytes.now []
     → is_filler rest_bytes.now 0 ≡ false → rest_bytes.now ≡ stripped_of s base

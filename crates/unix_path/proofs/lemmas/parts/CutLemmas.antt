@@ -11,7 +11,7 @@ use Rattle.unix_path.proofs.lemmas.parts.PieceLemmas.{slice_split-first}
 use Rattle.unix_path.specs.Parts.{CurDir, RootDir, inner_parts, cur_dir, is_slash, leading_part}
 use Rattle.unix_path.specs.Parts.{parts_of_pieces}
 
--- how many bytes these pieces have, with a slash after each
+-- the number of bytes of these pieces with a slash after each
 width : List (List ℕ) → ℕ
 width [] = 0
 width (p ∷ ps) = length p + 1 + width ps
@@ -55,8 +55,8 @@ width-slice_split (x ∷ s) = by_test (eqb x 47)
           (some_piece s),
     ))
 
--- a byte prepended to the first piece of two lists is prepended to the first list, if it has a
--- piece
+-- prepending a byte to the first piece of two concatenated lists prepends it to the first piece of
+-- the first list, if this list isn't empty
 onto_first-append : (x : ℕ) (ps qs : List (List ℕ)) → 0 < length ps
     → onto_first x (ps ++ qs) ≡ onto_first x ps ++ qs
 onto_first-append x [] qs l = absurd (omega arith)

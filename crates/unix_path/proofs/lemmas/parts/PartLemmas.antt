@@ -25,7 +25,7 @@ unfolding parts leading_part
 parts-root [] e = absurd (omega arith)
 parts-root (b ∷ s) e = ap (λ b. parts (b ∷ s)) e ∙ ap (λ ps. root ∷ ps) (inner_parts-slash 0 s)
 
--- byte 0, if there is one, determines whether a string is rooted
+-- a string is rooted if and only if it has a byte 0, and this byte is a slash
 pub is_rooted-at : (s : List ℕ) → is_rooted s ≡ eqb (get_or s 0 0) 47
 is_rooted-at [] = refl
 is_rooted-at (b ∷ s) = refl
@@ -38,7 +38,7 @@ unfolding leading_part
 leading_part-name s e =
     rw (is_rooted-at s ∙ e) refl
 
--- a string that is not empty and doesn't begin with a slash doesn't have an empty first piece
+-- if s is not empty and doesn't begin with a slash, its first piece is not empty
 pub nonempty_first_piece : (s : List ℕ) → 0 < length s → eqb (get_or s 0 0) 47 ≡ false
     → bytes_eq (first_piece s) [] ≡ false
 nonempty_first_piece [] l e = absurd (omega arith)

@@ -53,11 +53,11 @@ pub position_or_len-other : (x : ℕ) (xs : List ℕ) → eqb x 47 ≡ false
     → position_or_len is_slash (x ∷ xs) ≡ 1 + position_or_len is_slash xs
 position_or_len-other x xs e = rw e refl
 
--- a string that begins with a slash has no byte in its first piece
+-- if a string begins with a slash, its first piece is empty
 pub first_piece-slash : (x : ℕ) (s : List ℕ) → eqb x 47 ≡ true → first_piece (x ∷ s) ≡ []
 first_piece-slash x s e = ap (λ n. take n (x ∷ s)) (position_or_len-slash x s e)
 
--- a string that begins with a byte other than a slash has that byte first in its first piece
+-- if a string begins with a byte other than a slash, its first piece begins with this byte
 pub first_piece-other : (x : ℕ) (s : List ℕ) → eqb x 47 ≡ false
     → first_piece (x ∷ s) ≡ x ∷ first_piece s
 first_piece-other x s e =
@@ -102,12 +102,13 @@ length-first_piece (x ∷ xs) = by_test (eqb x 47)
     (λ e. ap length (first_piece-other x xs e)
     ∙ omega (arith, length-first_piece xs, position_or_len-other x xs e))
 
--- the component of a piece at index `at`, if it counts
+-- the component of a piece at index `at`, or none if the piece is empty or `.`
 abbrev pub parts_of_piece : ℕ → List ℕ → List Part
 parts_of_piece at p = cond (counts p)
     (record { start = at; end = at + length p; value = value_of_piece p } ∷ []) []
 
--- the components of the pieces after a slash are the components of the string that begins with it
+-- the components of the pieces after a slash are the inner components of the string that begins
+-- with this slash
 parts_of_pieces-later_pieces : (at : ℕ) (s : List ℕ) → IsCut s
     → parts_of_pieces (at + 1) (later_pieces s) ≡ inner_parts at s
 unfolding inner_parts
@@ -115,7 +116,8 @@ parts_of_pieces-later_pieces at [] h = refl
 parts_of_pieces-later_pieces at (b ∷ s) h =
     sym (ap (λ b. inner_parts at (b ∷ s)) h ∙ inner_parts-slash at s)
 
--- the inner components are the component of the first piece, if it counts, and those after it
+-- the inner components of s are the component of its first piece, if this piece is neither empty
+-- nor `.`, and then the inner components after it
 pub inner_parts-first : (at : ℕ) (s : List ℕ)
     → inner_parts at s
     ≡ parts_of_piece at (first_piece s) ++ inner_parts (at + position_or_len is_slash s)

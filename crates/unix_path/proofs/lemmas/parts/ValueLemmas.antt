@@ -8,7 +8,7 @@ use Rattle.unix_path.specs.Names.{name_of}
 use Rattle.unix_path.specs.Parts.{Value, RootDir, CurDir, ParentDir, Normal, cur_dir, parent_dir}
 use Rattle.unix_path.specs.Parts.{value_bytes, value_of_piece}
 
--- the component of a piece at the beginning of a string, where a `.` counts
+-- the component of a piece at the beginning of a string, where `.` is a component
 abbrev pub first_value : List ℕ → Value
 first_value bytes = if bytes_eq bytes cur_dir then CurDir else value_of_piece bytes
 

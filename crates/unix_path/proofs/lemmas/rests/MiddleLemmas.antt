@@ -84,13 +84,15 @@ pub rest-middle : (s : List ℕ) (k m : ℕ) (h : Middle s k m) → rest s k m �
 unfolding rest
 rest-middle s k m h = ap (span_of s) h.is ∙ span_at s h.rest_bytes h.at h.stands h.ends
 
--- a function of each element may be applied before or after some are removed
+-- applying a function to each element and removing elements at both ends can be done in either
+-- order
 pub map-middle : {X Y : Type 0} (f : X → Y) (k m : ℕ) (xs : List X)
     → middle k m (map f xs) ≡ map f (middle k m xs)
 map-middle f k m xs = ap₂ (λ n ys. take (n - (k + m)) ys) (length-map xs f) (drop-map f k xs)
     ∙ take-map f (length xs - (k + m)) (drop k xs)
 
--- elements that are removed in two steps may be removed at once
+-- removing k leading and m trailing elements, and then i leading and j trailing elements, is the
+-- same as removing k + i leading and m + j trailing elements
 pub middle-middle : {X : Type 0} (k m i j : ℕ) (xs : List X)
     → middle i j (middle k m xs) ≡ middle (k + i) (m + j) xs
 middle-middle k m i j xs =
@@ -117,7 +119,7 @@ middle-middle k m i j xs =
     ∙ take_all (length (take (n - (k + m)) ys) - (i + j)) [] (omega arith)
     ∙ sym (ap (λ x. take x (drop (k + i) xs)) zero_left))
 
--- a list with an element appended, without its last, is the list
+-- appending an element to a list and then removing the last element leaves the list
 pub middle-push : {X : Type 0} (xs : List X) (y : X) → middle 0 1 (xs ++ y ∷ []) ≡ xs
 middle-push xs y =
     let n : length (xs ++ y ∷ []) - (0 + 1) ≡ length xs =

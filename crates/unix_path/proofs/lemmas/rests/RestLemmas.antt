@@ -20,7 +20,8 @@ values-rest s k m =
     ∙ sym (values-part_at h.at (parts h.rest_bytes)) ∙ ap (map (λ p. p.value)) (sym h.is)
     ∙ sym (map-middle (λ p. p.value) k m (parts s))
 
--- the rest of a rest is the rest without the components removed in both steps
+-- removing k leading and m trailing components, and then i leading and j trailing components,
+-- leaves the same rest as removing k + i and m + j of them at once
 pub rest-rest : (s : List ℕ) (k m i j : ℕ) → rest (rest s k m) i j ≡ rest s (k + i) (m + j)
 rest-rest s k m i j =
     let h = middle_of s k m in

@@ -23,7 +23,7 @@ NoRoot (CurDir ∷ vs) = NoRoot vs
 NoRoot (ParentDir ∷ vs) = NoRoot vs
 NoRoot (Normal name ∷ vs) = NoRoot vs
 
--- a list without the root has no root after the component of a piece is prepended
+-- prepending the component of a piece to a list without the root yields a list without the root
 no_root_cons : (p : List ℕ) (vs : List Value) → NoRoot vs → NoRoot (value_of_piece p ∷ vs)
 no_root_cons p vs h = by_test (bytes_eq p parent_dir) (λ e. rw e h) (λ e. rw e h)
 
@@ -54,7 +54,8 @@ begins_by_root s e = record {
   no_root = no_root_inner 1 (drop 1 s);
 }
 
--- a string that begins with a byte other than a slash has the component of its first piece first
+-- if s begins with a byte other than a slash, its first component is that of its first piece, and
+-- no other component is the root
 begins_by_name : (s : List ℕ) → 0 < length s → eqb (get_or s 0 0) 47 ≡ false
     → BeginsBy s (first_value (first_piece s))
 unfolding values
@@ -66,7 +67,7 @@ begins_by_name s l e =
       no_root = no_root_inner n (drop n s);
     }
 
--- a list whose first component is the root starts with the root
+-- if `root_first vs` is true, the list of only the root is a prefix of vs
 IsPrefixOf-root : (vs : List Value) → root_first vs ≡ true → IsPrefixOf (RootDir ∷ []) vs
 IsPrefixOf-root [] e = absurd (let d : false ≡ true = e in cc)
 IsPrefixOf-root (RootDir ∷ vs) e = (vs, refl)
@@ -84,7 +85,7 @@ rooted-IsPrefixOf s r e = (
 abbrev pub root_count : List Value → ℕ
 root_count vs = cond (root_first vs) 1 0
 
--- the number of roots among a path's components shows whether it is rooted
+-- `root_count` of a path's components is 1 if the path is rooted, and otherwise 0
 pub root_count-values : (s : List ℕ) → cond (is_rooted s) 1 0 ≡ root_count (values s)
 root_count-values s = ap (λ c. cond c 1 0) (sym (root_first-values s))
 
@@ -96,7 +97,7 @@ no_root_last (CurDir ∷ vs) v h r = no_root_last vs v h r
 no_root_last (ParentDir ∷ vs) v h r = no_root_last vs v h r
 no_root_last (Normal name ∷ vs) v h r = no_root_last vs v h r
 
--- if no component after v is the root, but the last component is, nothing comes before it
+-- if no component after v is the root, but the last component w is, w is the only component
 before_last_root : (v w : Value) (more vs : List Value) → NoRoot more → v ∷ more ≡ vs ++ w ∷ []
     → w ≡ RootDir → length vs ≡ 0
 before_last_root v w more [] h e r = refl

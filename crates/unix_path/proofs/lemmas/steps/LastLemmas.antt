@@ -57,7 +57,7 @@ inner_parts_one at y e some no_dot =
     ∙ ap (λ ps. parts_of_piece at y ++ ps) (inner_parts-nil _) ∙ append-nil (parts_of_piece at y)
     ∙ rw (some, no_dot) refl
 
--- a last piece that counts and comes after a slash is the last component
+-- a last piece that is neither empty nor `.`, and comes after a slash, is the last component
 last_after_slash : (s : List ℕ) (start : ℕ) → IsLastStart s start → 0 < start
     → bytes_eq (drop start s) [] ≡ false → bytes_eq (drop start s) cur_dir ≡ false
     → parts s ≡ parts (take start s) ++ record
@@ -80,7 +80,8 @@ last_after_slash s start h some named no_dot =
     ∙ ap₂ (λ a b. record { start = a; end = b; value = value_of_piece y } ∷ []) from to in
     ap parts is ∙ parts-append x y ∙ ap₂ ◌++◌ (sym (ap parts before)) one
 
--- the last piece of a string that ends in a component counts, if a slash comes before it
+-- if a string ends in a component, and a slash comes before its last piece, this piece is neither
+-- empty nor `.`
 pub last_counts : (s : List ℕ) (start : ℕ) → IsLastStart s start → 0 < start → start < length s
     → EndsInPart s → (bytes_eq (drop start s) [] ≡ false)
     × (bytes_eq (drop start s) cur_dir ≡ false)
@@ -103,7 +104,8 @@ last_counts s start h some l ends =
           (λ e. e),
     )
 
--- the last piece of a string that ends in a component is its last component, after those before it
+-- the last piece of a string that ends in a component is its last component, after the components
+-- of the bytes before the piece
 pub last_part : (s : List ℕ) (start : ℕ) → IsLastStart s start → start < length s → EndsInPart s
     → (at : ℕ) × (parts s ≡ parts
     (take start s) ++ record { start = at; end = length s; value = first_value (drop start s) }

@@ -21,7 +21,7 @@ use Rattle.unix_path.specs.CommonDir.{inner_values}
 use Rattle.unix_path.specs.Steps.{StepsFirst}
 use Rattle.unix_path.proofs.lemmas.parts.ValueLemmas.{first_value}
 
--- the first piece of a string that is empty or begins with a slash has no byte
+-- if s is empty or begins with a slash, its first piece is empty
 position_or_len-cut : (s : List ℕ) → get_or s 0 47 ≡ 47 → position_or_len is_slash s ≡ 0
 position_or_len-cut [] e = refl
 position_or_len-cut (b ∷ s) e = position_or_len-slash b s (rw e refl)
@@ -48,7 +48,7 @@ parts-two_dots s e =
     ∙ ap (λ n. record { start = 0; end = n; value = first_value (take n (46 ∷ 46 ∷ s)) }
     ∷ inner_parts n (drop n (46 ∷ 46 ∷ s))) two
 
--- a string that begins with a leading `.` has it as its first component
+-- if s begins with a leading `.`, this `.` is its first component
 pub parts-dot_first : (s : List ℕ) → 0 < length s → is_filler s 0 ≡ true
     → eqb (get_or s 0 0) 47 ≡ false
     → parts s ≡ record { start = 0; end = 1; value = CurDir } ∷ inner_parts 1 (drop 1 s)
@@ -65,7 +65,7 @@ one_byte_no_parent : (b : ℕ) → (eqb b 46 && false) ≡ true → ⊥
 one_byte_no_parent b e =
     by_test (eqb b 46) (λ h. both_ways _ (rw h refl) e) (λ h. both_ways _ (rw h refl) e)
 
--- a string that begins with `..` has it as its first component
+-- if the first piece of s is `..`, it is the first component
 pub parts-parent_first : (s : List ℕ) → starts_with_parent_dir s ≡ true
     → parts s ≡ record { start = 0; end = 2; value = ParentDir } ∷ inner_parts 2 (drop 2 s)
 parts-parent_first [] e = cc
@@ -133,7 +133,7 @@ is_first t e d v l first m filler not_filler =
           ∙ is_filler-drop (drop e t) d ∙ not_filler (omega arith);
     }
 
--- a step over n bytes takes the first component
+-- if the filler after the first component ends at n, a step over n bytes removes this component
 pub steps_first : (t : List ℕ) (e n : ℕ) (v : Value) → IsFirst t e n v → StepsFirst t n v
 unfolding values
 steps_first t e n v h =

@@ -39,7 +39,8 @@ parts_end-whole s ends =
     let size : length s ≡ 0 = omega (arith, ltb-false _ _ none) in
     ap parts_end (parts-none s size) ∙ sym size))
 
--- components whose first begins at index 0 span the string up to the end of the last
+-- if the first of these components begins at index 0, they span the string up to the end of the
+-- last
 from_zero : (t : List ℕ) {all : List Part} {v : Value} {e : ℕ} {ps : List Part}
     → all ≡ record { start = 0; end = e; value = v } ∷ ps → span_of t all ≡ take (parts_end all) t
 from_zero t {v = v} {e = e} {ps = ps} is =
@@ -58,14 +59,13 @@ span-parts t s = by_test (ltb 0 (length s))
     let is = parts-none s (omega (arith, ltb-false _ _ none)) in
     ap (span_of t) is ∙ ap (λ ps. take (parts_end ps) t) (sym is))
 
--- if no component is removed, the rest ends where the last component ends
+-- `rest s 0 0`, from which no component is removed, is s up to the end of its last component
 pub rest-whole : (s : List ℕ) → rest s 0 0 ≡ take (parts_end (parts s)) s
 unfolding rest
 rest-whole s = ap (span_of s) (take_all (length (parts s) - (0 + 0)) (parts s) (omega arith))
     ∙ span-parts s s
 
--- a prefix of a string that has all its components and ends in one is the rest if no component is
--- removed
+-- a prefix that has all components of s, and ends in a component, is `rest s 0 0`
 pub rest-trimmed : (s : List ℕ) (n : ℕ) → n ≤ length s → parts (take n s) ≡ parts s
     → EndsInPart (take n s) → rest s 0 0 ≡ take n s
 rest-trimmed s n l same ends = rest-whole s
@@ -84,7 +84,7 @@ rest-last s ps p e =
     ∙ ap (span_of s) (take-append-le (length ps) ps (p ∷ []) (omega arith)
     ∙ take_all (length ps) ps (omega arith))
 
--- a string that ends in a component is its own rest
+-- if s ends in a component, `rest s 0 0`, from which no component is removed, is s
 pub rest-ended : (s : List ℕ) → EndsInPart s → rest s 0 0 ≡ s
 rest-ended s ends =
     let all = take_all (length s) s (omega arith) in

@@ -22,7 +22,8 @@ rest-first : (s : List ℕ) (p : Part) (ps : List Part) → parts s ≡ p ∷ ps
 unfolding rest
 rest-first s p ps e = rw e (ap (span_of s) (take_all (length (p ∷ ps) - 1) ps (omega arith)))
 
--- the components of u, which is t without its first i bytes, span all of u
+-- if u, which is t without its first i bytes, begins with no filler and ends in a component, its
+-- components span all of u
 span_not_filler : (t u : List ℕ) (i : ℕ) → drop i t ≡ u → i ≤ length t
     → (0 < length u → is_filler u 0 ≡ false)
     → (0 < length u → parts_end (inner_parts i u) ≡ length t)
@@ -35,8 +36,8 @@ span_not_filler t (b ∷ u) i is l not_filler end =
     ap (span_of t) first ∙ ap (λ n. take (n - i) (drop i t)) (sym (ap parts_end first) ∙ reaches)
     ∙ take_all (length t - i) (drop i t) (omega arith) ∙ is
 
--- removing the first n bytes removes the first component, if it ends at e and the filler after it
--- ends at n
+-- if the first component ends at e, and the filler after it ends at n, removing the first n bytes
+-- removes this component
 pub takes_first : (t : List ℕ) (e n : ℕ) (v : Value) → EndsInPart t → n ≤ length t
     → parts t ≡ record { start = 0; end = e; value = v } ∷ inner_parts n (drop n t)
     → (0 < length (drop n t) → is_filler (drop n t) 0 ≡ false) → TakesFirst t (drop n t) v
@@ -60,8 +61,8 @@ takes_first t e n v ends l all not_filler =
     end_of i u some not_filler e v =
         let first = inner_parts_not_filler i u some not_filler in rw first refl
 
--- cutting t to its first n bytes removes the last component, if they have all other components and
--- end in a component
+-- if the first n bytes of t have all components of t except the last, and end in a component,
+-- cutting t to these bytes removes the last component
 takes_last_to : (t : List ℕ) (n at to : ℕ) (v : Value) → n ≤ length t
     → parts t ≡ parts (take n t) ++ record { start = at; end = to; value = v } ∷ []
     → EndsInPart (take n t) → TakesLast t (take n t) v
@@ -87,7 +88,8 @@ takes_last t start n h l ends m same trimmed =
     { start = last.0; end = length t; value = first_value (drop start t) } ∷ []) (sym same))
     (EndsInPart-take t n (omega arith) trimmed)
 
--- from a string that ends in a component and in a slash, the root is removed, and nothing remains
+-- a string that ends in a component and in a slash has the root as its last component, and nothing
+-- remains if the root is removed
 pub takes_root : (t : List ℕ) → 0 < length t → EndsInPart t → get_or t (length t - 1) 0 ≡ 47
     → TakesLast t (take 0 t) RootDir
 takes_root t l ends e =

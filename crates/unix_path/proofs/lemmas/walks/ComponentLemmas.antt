@@ -25,7 +25,7 @@ value_of-other CurDir h e = cc
 value_of-other ParentDir h e = cc
 value_of-other (Normal name) h e = cc
 
--- the last component determines the file name
+-- if the last component of s is `Normal`, its name is the file name of s
 pub file_name_of-normal : {x : Component} {name : UnixStr} (s w : List ℕ)
     → values s ≡ values w ++ value_of x ∷ [] → x ≡ Normal name
     → Some name.bytes.now ≡ file_name_of (values s)

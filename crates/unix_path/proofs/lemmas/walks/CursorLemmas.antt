@@ -1,5 +1,5 @@
--- What calls and chains over a cursor return: its components in order, or in reverse order after
--- `rev`.
+-- What calls on a cursor and chains of iterators yield: its components in order, or in reverse
+-- order after `rev`.
 use Rattle.std.proofs.Common.{ap, ◌∙◌, ◌∷◌, [], length, None, reverse, subst, ◌≤◌, ◌-◌, drop}
 use Rattle.std.proofs.Common.{◌≡◌, refl, sym, arith, length-drop}
 use Rattle.std.specs.Iterator.Adapters.{rev_source, rev_steps}
@@ -28,7 +28,7 @@ length-cursor_rest c = omega (
   length-drop c.start c.source.now,
 )
 
--- the rest of a walk is its own rest if no component is removed
+-- the rest of a walk has no trailing filler, so that it is its own rest if no component is removed
 pub cursor_rest-whole : (c : Components) → cursor_rest c ≡ rest (cursor_rest c) 0 0
 unfolding cursor_rest IsWalk
 cursor_rest-whole c = sym (rest-ended (cursor_rest c) c.fields.ends)

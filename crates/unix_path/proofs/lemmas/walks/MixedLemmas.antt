@@ -13,13 +13,15 @@ use Rattle.unix_path.proofs.lemmas.rests.RestLemmas.{rest-rest}
 use Rattle.unix_path.specs.CallsMixed.{GivesMixed}
 
 module _ {S A V : Type 0} (shows : A → V) (pending : S → List V) where
-  -- what a call of `next` returned, and what remains after it, is what remained before
+  -- the item that a call of `next` returned, and then the items that remain after the call, are the
+  -- items that remained before
   first_taken : (s t : S) (item : Option A) → YieldsFirstBy shows pending s item t
       → map shows (option_to_list item) ++ pending t ≡ pending s
   first_taken s t None h = h.1 ∙ sym h.0
   first_taken s t (Some x) h = sym h
 
-  -- what remains after a call of `next_back`, and what it returned, is what remained before
+  -- the items that remain after a call of `next_back`, and then the item that the call returned,
+  -- are the items that remained before
   last_taken : (s t : S) (item : Option A) → YieldsLastBy shows pending s item t
       → pending t ++ reverse (map shows (option_to_list item)) ≡ pending s
   last_taken s t None h = append-nil (pending t) ∙ h.1 ∙ sym h.0
@@ -30,8 +32,8 @@ module _ {S A V : Type 0} (shows : A → V) (pending : S → List V)
     (first : (s t : S) (item : Option A) → next s item t → YieldsFirstBy shows pending s item t)
     (last : (s t : S) (item : Option A) → next_back s item t → YieldsLastBy shows pending s item t)
   where
-    -- however the calls are mixed, the items that `next` returned, what remains, and the items that
-    -- `next_back` returned, in reverse, are what remained before
+    -- however the calls are mixed, the items that remained before are those that `next` returned,
+    -- then those that still remain, then those that `next_back` returned, in reverse
     pub ends_meet : (old new : S) (front at_back : List A)
         → GivesMixed next next_back old front at_back new
         → map shows front ++ pending new ++ reverse (map shows at_back) ≡ pending old
@@ -55,7 +57,7 @@ module _ {S A V : Type 0} (shows : A → V) (pending : S → List V)
         ∙ ap (λ l. begun ++ l) (last_taken shows pending s t item (last s t item call)))
         ∙ ends_meet old s xs ys calls
 
--- for each item that a call returned, one component is removed, and no other component
+-- each item that a call returned removes one component, and no other component is removed
 module _ {S A V : Type 0} (shows : A → V) (pending : S → List V) (bytes : S → List ℕ)
     (next next_back : S → Option A → S → Type 0)
     (first : (s t : S) (item : Option A) → next s item t → YieldsFirstBy shows pending s item t)
@@ -89,8 +91,9 @@ module _ {S A V : Type 0} (shows : A → V) (pending : S → List V) (bytes : S 
         ∙ ap₂ (rest u) (let zero : k + 0 ≡ k = omega arith in zero)
         (sym (length-append ys (x ∷ [])))
 
-    -- what remains is the rest without one leading component for each item that `next` returned,
-    -- and one trailing component for each item that `next_back` returned
+    -- the bytes that remain are those that remained before, without one leading component for each
+    -- item that `next` returned, and without one trailing component for each item that `next_back`
+    -- returned
     pub rest_between : (old new : S) (front at_back : List A)
         → GivesMixed next next_back old front at_back new
         → bytes new ≡ rest (bytes old) (length front) (length at_back)

@@ -61,7 +61,8 @@ is_filler-first (b ∷ s) = by_test (eqb b 47)
         (λ e. rw e refl)
         (λ e. by_test (bytes_eq p parent_dir) (λ f. rw (e, f) refl) (λ f. rw (e, f) refl))
 
--- two strings with the same components both begin with filler, or neither does
+-- if two strings have the same components, both begin with the root or a leading `.`, or neither
+-- does
 pub is_filler-same : (s t : List ℕ) → parts s ≡ parts t → is_filler s 0 ≡ is_filler t 0
 unfolding values
 is_filler-same s t e = is_filler-first s ∙ ap (λ ps. lead_first (map (λ p. p.value) ps)) e
@@ -77,7 +78,8 @@ pub record StepsForward (s : List ℕ) (a b n : ℕ) (v : Value) : Type 0 where
   pub takes : TakesFirst (slice_range s a b) (slice_range s (a + n) b) v
   pub lead : false ≡ is_filler (slice_range s (a + n) b) 0
 
--- if the first component and the filler after it have n bytes, a step over them moves a by n
+-- if the first component and the filler after it have n bytes, a step over them moves the start of
+-- the range from a to a + n
 pub steps_forward : (s : List ℕ) (a b n : ℕ) (v : Value) → a ≤ b → b ≤ length s
     → EndsInPart (slice_range s a b) → StepsFirst (slice_range s a b) n v → StepsForward s a b n v
 steps_forward s a b n v in_order in_range ends step =
@@ -91,7 +93,8 @@ steps_forward s a b n v in_order in_range ends step =
           (subst (λ u. 0 < length u → is_filler u 0 ≡ false) is step.not_filler);
     }
 
--- a step over the first component of the rest of a walk moves the first of its indices by n
+-- if the first component of a walk's rest and the filler after it have n bytes, a step over them
+-- moves the walk's `start` by n
 pub walks_forward : {t : List ℕ} (c : Components) (n : ℕ) (v : Value) → t ≡ cursor_rest c
     → StepsFirst t n v → StepsForward c.source.now c.start c.end n v
 unfolding cursor_rest IsWalk
@@ -143,7 +146,8 @@ lead_before_last t u v n h size = by_test (ltb 0 n)
     and_false true = refl
     and_false false = refl
 
--- a step over the last component of the range from a to b moves b to n bytes after a
+-- if removing the last component of the range from a to b leaves n bytes, a step over this
+-- component moves the end of the range to a + n
 pub steps_back : (s : List ℕ) (a b n : ℕ) (v : Value) → a ≤ b → b ≤ length s
     → n ≤ length (slice_range s a b) → TakesLast (slice_range s a b) (take n (slice_range s a b)) v
     → StepsBack s a b n v
@@ -160,8 +164,8 @@ steps_back s a b n v in_order in_range l takes =
       lead = lead_before_last (slice_range s a b) (slice_range s a (a + n)) v n moved before;
     }
 
--- a step over the last component of the rest of a walk moves the second of its indices to n bytes
--- after the first
+-- if removing the last component of a walk's rest leaves n bytes, a step over this component moves
+-- the walk's `end` to `start` + n
 pub walks_back : {t : List ℕ} (c : Components) (n : ℕ) (v : Value) → t ≡ cursor_rest c
     → n ≤ length t → TakesLast t (take n t) v → StepsBack c.source.now c.start c.end n v
 unfolding cursor_rest IsWalk
@@ -169,8 +173,8 @@ walks_back c n v e l takes =
     steps_back c.source.now c.start c.end n v c.fields.in_order c.fields.in_range
     (subst (λ t. n ≤ length t) e l) (subst (λ t. TakesLast t (take n t) v) e takes)
 
--- if u is the rest of s when no component is removed, its last component is the last component of
--- s, and the rest w of u before it is the rest of s before it
+-- if u is s without trailing filler, u and s have the same last component, and the rest w of u
+-- before this component is the rest of s before it
 pub has_last : {u w : List ℕ} (s : List ℕ) (before end : ℕ) (v : Value) → u ≡ rest s 0 0
     → values u ≡ values w ++ v ∷ [] → w ≡ rest u 0 1 → w ≡ take before s → length u ≡ end
     → before ≤ length s → HasLast s before end v

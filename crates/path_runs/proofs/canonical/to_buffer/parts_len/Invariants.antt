@@ -3,6 +3,7 @@ use Rattle.path_runs.specs.Gaps.{slashed_parts, IsPartStart}
 use Rattle.path_runs.proofs.canonical.to_buffer.parts_len.Given as goal
 
 -- the length counted so far plus the length of the remaining components is the length of all
+-- components after the gap, with a slash before each
 abbrev pub invariant-loop-start : goal.invariant-loop-start
 invariant-loop-start l = record {
   in_range : l.start ≤ length l.bytes;

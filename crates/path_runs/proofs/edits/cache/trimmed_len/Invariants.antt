@@ -2,7 +2,7 @@ use Rattle.std.proofs.Common.{◌≡◌, ◌≤◌, length, take}
 use Rattle.unix_path.specs.Parts.{parts}
 use Rattle.path_runs.proofs.edits.cache.trimmed_len.Given as goal
 
--- the bytes at and after index `end` are filler
+-- the bytes from index `end` on are filler: without them the path has the same components
 abbrev pub invariant-loop-end : goal.invariant-loop-end
 invariant-loop-end l = record {
   forward : l.min ≤ l.end;

@@ -13,7 +13,8 @@ use Rattle.unix_path.proofs.pair.Comparison.compare_after_cut.Goals as goal
 pub loop-second-init : goal.loop-second-init
 loop-second-init c = record { shares = λ s t h. h; tail = IsTail-itself c.args.a }
 
--- the bytes after the filler are still the rests of the two paths
+-- after the filler at their beginning is skipped, the rests are still rests of the two paths after
+-- the same components
 shares : (c : After-after_filler-second) (s t : List ℕ) → SharesPrefix s t c.args.a.now c.args.b.now
     → SharesPrefix s t c.after_filler-first.result.now c.after_filler-second.result.now
 shares c s t h = shares-past (c.loop-second.invariant.shares s t h)

@@ -7,7 +7,7 @@ use Rattle.unix_path.proofs.lemmas.order.PairLemmas.{kinds-cmp}
 use Rattle.unix_path.proofs.pair.Pair.first_components_order.Goals.{After-cmp-by_kind}
 use Rattle.unix_path.proofs.pair.Pair.first_components_order.Goals as goal
 
--- the kinds of the two paths are in the order of the ranks of their first values
+-- comparing the kinds of the two paths is the same as comparing the ranks of their first values
 by_kind-is : (c : After-cmp-by_kind) → c.cmp-by_kind.result
     ≡ nat_cmp (first_rank (values c.args.self.first.now))
     (first_rank (values c.args.self.second.now))

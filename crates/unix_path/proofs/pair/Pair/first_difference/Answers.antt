@@ -40,7 +40,8 @@ is_piece_start-requires c =
     let pair = c.args.self in
     omega (arith, pair.alike, (common_prefix_len-le eqb pair.first.now pair.second.now).0)
 
--- at the first difference no piece begins, and the ranks differ
+-- if the condition for a cut at the first difference is false, no piece begins there, and the ranks
+-- differ
 told : (c : Joined-x-y) → c.if-x-y.value ≡ false
     → (is_piece_start c.args.self.first.now c.args.self.common ≡ false)
     × (piece_rank c.args.self.first.now c.args.self.common

@@ -1,7 +1,7 @@
 use Rattle.std.proofs.Common.{◌≡◌, ◌≤◌}
 use Rattle.path_runs.proofs.edits.stems.Stems.truncate.Given as goal
 
--- indices have at most been dropped, and none has been changed
+-- the list may have lost indices at its end, but no index in it has changed
 abbrev pub invariant-loop-self : goal.invariant-loop-self
 invariant-loop-self l = record {
   fewer : l.self.last ≤ l.initial.self.last;
