@@ -166,8 +166,8 @@ class [[nodiscard]] result {
         return has_value() ? next(std::invoke(std::forward<Function>(function), std::move(*value_)))
                            : next(error_, required_size_);
     }
-    /// Like `and_then`, but for a function that returns a plain value, not void: returns a result
-    /// with this value.
+    /// Like `and_then`, for a function that returns a plain value and not a result or void. Returns
+    /// this value in a result.
     template <typename Function>
     auto transform(Function &&function) const & {
         using next = result<std::decay_t<std::invoke_result_t<Function, const T &>>>;
