@@ -55,8 +55,8 @@ pub record HasParentDirs (n : ℕ) (vs : List Value) : Type 0 where
   pub names : names_below vs ≡ []
   pub parent_dirs : remaining_parent_dirs vs ≡ n
 
--- the result of taking the last name that remains of vs: the name, if the components ws are before
--- it, or the number of `..` that remain if no name remains
+-- the result of taking the last name that remains of vs: either this name, with the components ws
+-- before it, or, if no name remains, the number of `..` that remain
 abbrev pub Takes : LastResolved → List Value → List Value → Type 0
 Takes (last.Name name) vs ws = TakesName name.bytes.now vs ws
 Takes (ParentDirs n) vs ws = HasParentDirs n vs
@@ -76,8 +76,9 @@ pub record SharePrefix (s t : List ℕ) (index : ℕ) : Type 0 where
   pub first : values s ≡ shared ++ values (drop index s)
   pub second : values t ≡ shared ++ values (drop index t)
 
--- `new` is `out` after these components, each after a slash, have overwritten its bytes from
--- `start` up to `end`; both indices count an imaginary slash before `out`, at index 0
+-- `new` is `out` after these components, each after a slash, have overwritten its bytes from index
+-- `start` to just before index `end`; both indices count an imaginary slash before `out`, at index
+-- 0
 pub record Puts (vs : List Value) (end : ℕ) (out : List ℕ) (start : ℕ) (new : List ℕ) : Type 0 where
   pub size : start + slashed_len vs ≡ end
   pub bytes : (ws : List Value) → drop end (slash ∷ out) ≡ slash_each ws

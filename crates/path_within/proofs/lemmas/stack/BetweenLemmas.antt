@@ -79,7 +79,7 @@ pub record AreSteps (v w steps : List Value) : Type 0 where
   pub no_root : list_any is_root w ≡ false
   pub steps_are : parent_dirs_for v ++ w ≡ steps
 
--- if there is a relative path from v to w without their common prefix, `AreSteps` is true of it
+-- if `steps_between` finds a relative path from v to w, `AreSteps` is true of this path
 pub steps_between-is : (v w steps : List Value) → steps_between v w ≡ Some steps
     → AreSteps v w steps
 steps_between-is v w steps e =
