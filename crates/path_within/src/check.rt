@@ -16,9 +16,9 @@ use unix_path::{Component, Path};
 pub(crate) enum Check {
     // The path fails the test.
     Refused,
-    // The path passes, and consists of names only (see `is_names_only`).
+    // The path passes, and is one of names only (see the module `names_only`).
     NamesOnly,
-    // The path passes. It may or may not consist of names only.
+    // The path passes. It may or may not be one of names only.
     Accepted,
 }
 

@@ -198,9 +198,9 @@ impl Root {
     /// a `/` between two names, and a `/` before the first name unless the root is empty or ends in
     /// `/`.
     ///
-    /// The bytes after the root have no `..`, no `.`, no NUL and no trailing slash. If the request
-    /// has no name, the join is the root itself. Allocates once, one byte more than the root and
-    /// the request have together. Fails only if the allocation fails.
+    /// After the root there is no `..`, no `.`, no NUL and no trailing slash. If the request has no
+    /// name, the join is the root itself. Allocates once, one byte more than the root and the
+    /// request have together. Fails only if the allocation fails.
     ///
     /// Below `/srv/www` the request `a/../b/` is `/srv/www/b`.
     #[must_use]
