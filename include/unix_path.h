@@ -1,13 +1,14 @@
 /* Unix paths as plain bytes: the calls of the library unix_path.
  *
- * A path is a pointer to its bytes and their number. It may hold any byte, including NUL, and needs
- * no NUL after it. Its components are the root, a leading `.`, and then each name and each `..`.
+ * A path is passed as a pointer to its bytes and their number. It may contain any byte, including
+ * NUL, and needs no NUL after it. Its components are the root, a leading `.`, and then each name
+ * and each `..`.
  * Paths with the same components are equal. `..` is a component like a name, except in calls that
  * resolve it. No file is touched.
  *
  * No call allocates, locks or reads global state, so all may be made in signal handlers and from
- * many threads. This joins a request from outside so that it stays beneath a root, with <stdio.h>
- * and <string.h>:
+ * many threads. This example joins a request from outside to a root, so that the result stays
+ * beneath the root. It needs <stdio.h> and <string.h>:
  *
  *     const char *root = "/srv", *request = "a/../b";
  *     char out[64];
@@ -23,37 +24,37 @@
  *         puts(length == 0 ? "." : out);
  *     }
  *
- * It prints `/srv/b`. For the request `../b` it would print UNIX_PATH_ESCAPES. A web server passes
- * the decoded path of a URL to unix_path_join_in_root: no call decodes `%2e`. A table before
- * unix_path_join_beneath compares the four joins.
+ * It prints `/srv/b`. For the request `../b` it would print UNIX_PATH_ESCAPES. For the path of a
+ * URL, decode the path, and call unix_path_join_in_root: no call decodes `%2e`. The table above the
+ * declaration of unix_path_join_beneath compares the four joins.
  *
- * Link with what `pkg-config --libs unix_path` prints: -lunix_path, the shared library. For the
- * archive add -static, or use -l:libunix_path.a instead. The CMake package unix_path has the
- * targets unix_path::unix_path and, for the archive, unix_path::static. Of the C library only
- * memcpy, memmove, memset and memcmp are needed.
+ * Link with what `pkg-config --libs unix_path` prints: -lunix_path, which is the shared library. To
+ * link the archive, add -static, or use -l:libunix_path.a instead. The CMake package unix_path has
+ * the targets unix_path::unix_path for the shared library and unix_path::static for the archive. Of
+ * the C library only memcpy, memmove, memset and memcmp are needed.
  *
  * For every call:
  *
  *  - It returns, whatever the bytes are. It reads only the bytes and records passed to it, and
  *    keeps no pointer.
  *  - Lengths and indices count bytes. A length is at most PTRDIFF_MAX.
- *  - No pointer may be null, except to a path of no bytes or an `out` of size 0. Functions of this
- *    header replace such a null pointer before they make the call. These functions are not proved,
- *    and unix_path.hpp needs them. A program that makes the calls without them, by the library's
- *    symbols or with UNIX_PATH_EXPORTS_ONLY defined before this file, must pass no null pointer at
- *    all.
- *  - What a call writes (walk, part, span, next, ancestor, chunk, out) overlaps nothing else that
- *    it is passed.
- *  - If it returns false, the records that it would write are unchanged.
+ *  - No pointer may be null, except the pointer to a path of no bytes or to an `out` of size 0.
+ *    Inline functions of this header replace such a null pointer before they make the call. These
+ *    functions are not proved, and unix_path.hpp needs them. A program that makes the calls without
+ *    them, by the library's symbols or with UNIX_PATH_EXPORTS_ONLY defined before this file, must
+ *    pass no null pointer at all.
+ *  - The memory to which a call writes (walk, part, span, next, ancestor, chunk, out) must not
+ *    overlap the other memory that is passed to the call.
+ *  - If it returns false, the records that it writes otherwise are unchanged.
  *
  * A call with `out` returns the length of its result. If that is at most out_length, the result is
  * at the beginning of out, and the bytes after it are unchanged. Otherwise nothing is written, and
  * a second call with an out of that length writes all of the result.
  *
- * No call appends a NUL: leave a byte for one and write it, as above, before a result goes to the
- * system. The system cuts a path at its first NUL. The text before unix_path_join says which
- * results may hold one, and unix_path_is_c_string whether one does. An empty path means the current
- * directory: pass `.` to the system instead.
+ * No call appends a NUL: leave a byte for one and write it, as above, before you pass a result to
+ * the system. The system reads a path only up to its first NUL. The text above unix_path_join says
+ * which results may contain a NUL, and unix_path_is_c_string tests that a path has none. An empty
+ * path means the current directory: pass `.` to the system instead.
  *
  * A call with `out` may also return an error code, for which unix_path_is_length is false. Then
  * nothing is written:
@@ -65,18 +66,20 @@
  *                                  a NUL byte, and the code is not UNIX_PATH_ESCAPES
  *     UNIX_PATH_SEPARATOR          _with_extension, _with_added_extension: the extension has a
  *                                  slash
- *     UNIX_PATH_NO_RELATIVE_PATH   _relative_path: no path without a root leads there
+ *     UNIX_PATH_NO_RELATIVE_PATH   _relative_path: no path without a root leads from the first
+ *                                  path to the second
  *     UNIX_PATH_NOT_A_KEY          _from_key, _key_range_end: no path has this key
  *     UNIX_PATH_NO_END             _key_range_end: the key is empty
  *     UNIX_PATH_TOO_LONG           all of these except _key_range_end, and _to_string_lossy: the
- *                                  result has more than PTRDIFF_MAX bytes, as no buffer has
+ *                                  result has more than PTRDIFF_MAX bytes, which no buffer has
  *
- * All are greater than the length of any buffer. None is SIZE_MAX: a program that adds 1 to one by
- * mistake does not ask malloc for 0 bytes.
+ * All error codes are greater than the length of any buffer. None is SIZE_MAX, so that a program
+ * that adds 1 to an error code by mistake does not call malloc with 0.
  *
- * This file needs C11 or C++11. Defined before it, UNIX_PATH_NO_ATTRIBUTES leaves out the
- * attributes by which compilers warn of misuses, and UNIX_PATH_EXPORTS_ONLY all except records,
- * numbers and plain declarations, for tools that read it for another language. */
+ * This file needs C11 or C++11. If UNIX_PATH_NO_ATTRIBUTES is defined before it, it leaves out the
+ * attributes with which compilers warn of misuses. If UNIX_PATH_EXPORTS_ONLY is defined before it,
+ * it has only records, numbers and plain declarations, for tools that read it for another
+ * language. */
 #ifndef UNIX_PATH_H
 #define UNIX_PATH_H
 
@@ -85,9 +88,9 @@
 #include <stdint.h>
 
 /* The version. While its first number is the same, no call, record or number of this file is
- * removed or changed, nor what a call returns: a program built with an older version runs with a
- * newer shared library. A program is not loaded with a shared library that lacks one of its calls
- * or has another first number. */
+ * removed or changed, and no call returns different results. So a program built with an older
+ * version runs with a newer shared library. A program is not loaded with a shared library that
+ * lacks a call of the program or has another first number. */
 #define UNIX_PATH_VERSION_MAJOR 1
 #define UNIX_PATH_VERSION_MINOR 1
 #define UNIX_PATH_VERSION "1.1"
@@ -111,9 +114,10 @@ extern "C" {
 /* SIZE_MAX / 2 is PTRDIFF_MAX. */
 #define UNIX_PATH_TOO_LONG (SIZE_MAX / 2 + 1)
 
-/* A walk over a path. Its rest is the bytes from index front up to back, as a path of their own:
- * from 1 to 3 in `a/b`, the root and `b`. The rest is empty if front is greater than back, or if
- * back is greater than the path's length. Any two numbers are safe, even if no call wrote them. */
+/* A walk over a path. The rest of the walk is the bytes from index front up to index back, read as
+ * a path of their own: in `a/b` the rest from 1 to 3 is `/b`, the root and `b`. The rest is empty
+ * if front is greater than back, or if back is greater than the path's length. Any two numbers are
+ * safe, even if no call wrote them. */
 typedef struct {
     size_t front, back;
 } unix_path_walk;
@@ -140,13 +144,13 @@ typedef struct {
     uint32_t kind;
 } unix_path_part;
 
-/* A span of a path: the `length` bytes at index `start`, all inside the path. */
+/* A span of a path: `length` bytes from index `start` on, all inside the path. */
 typedef struct {
     size_t start, length;
 } unix_path_span;
 
-/* A chunk of a path: valid_length bytes of valid UTF-8 at index `start`, and then broken_length
- * invalid bytes, at most 3. Only the last chunk can have no invalid bytes. */
+/* A chunk of a path: valid_length bytes of valid UTF-8 from index `start` on, and then
+ * broken_length invalid bytes, at most 3. Only the last chunk can have no invalid bytes. */
 typedef struct {
     size_t start, valid_length, broken_length;
 } unix_path_chunk;
@@ -169,20 +173,21 @@ uint32_t unix_path_version(void);
  */
 
 /* Begins a walk over the whole path, from 0 to the end of its last component. A record whose front
- * is 0 and whose back is the path's length is such a walk too. */
+ * is 0 and whose back is the path's length is a walk over the whole path too. */
 void unix_path_components(const void *path, size_t path_length, unix_path_walk *walk);
 
-/* Takes the first component of the rest. For `/a` it is the root, which is the byte `/`, and then
- * `a`. */
+/* Takes the first component of the rest. For `/a` the first call takes the root, which is the byte
+ * `/`, and the second call takes `a`. */
 bool unix_path_next(const void *path, size_t path_length, unix_path_walk *walk,
                     unix_path_part *part);
 
-/* Takes the last component of the rest. For `/a` it is `a`, and then the root. */
+/* Takes the last component of the rest. For `/a` the first call takes `a`, and the second call
+ * takes the root. */
 bool unix_path_next_back(const void *path, size_t path_length, unix_path_walk *walk,
                          unix_path_part *part);
 
-/* Writes the span of the rest, from its first component to the end of its last. For `a/./b/` it is
- * `a/./b` at first, and `b` after one component is taken from the front. */
+/* Writes the span of the rest, from its first component to the end of its last. For `a/./b/` the
+ * rest is `a/./b` at first, and `b` after one component is taken from the front. */
 void unix_path_as_path(const void *path, size_t path_length, const unix_path_walk *walk,
                        unix_path_span *span);
 
@@ -202,7 +207,7 @@ bool unix_path_next_chunk(const void *path, size_t path_length, size_t *next,
                           unix_path_chunk *chunk);
 
 /* Calls that find a span of the path. An empty span may start anywhere in the path. A span is not
- * followed by a NUL: copy it before it goes to the system. */
+ * followed by a NUL: copy its bytes and append a NUL before you pass them to the system. */
 
 /* Finds the parent: the path without its last component, as a prefix of the path. Returns false for
  * the root and the empty path. For `/a//b/` it is `/a`, and for `a` it is empty. */
@@ -230,8 +235,9 @@ bool unix_path_extension(const void *path, size_t path_length, unix_path_span *s
  * unix_path_file_stem. */
 bool unix_path_file_prefix(const void *path, size_t path_length, unix_path_span *span);
 
-/* Finds what follows base. Returns false if the path does not start with base. For `/a//b/` and
- * `/a` it is `b`, and for `/dest/../etc` and `/dest` it is `../etc`: see unix_path_starts_with. */
+/* Finds the rest of the path after base. Returns false if the path does not start with base. For
+ * `/a//b/` and `/a` it is `b`. For `/dest/../etc` and `/dest` it is `../etc`: see
+ * unix_path_starts_with. */
 bool unix_path_strip_prefix(const void *path, size_t path_length, const void *base,
                             size_t base_length, unix_path_span *span);
 
@@ -278,20 +284,21 @@ bool unix_path_escapes(const void *path, size_t path_length);
  *     UNIX_PATH_REQUEST_HAS_NUL    it has a NUL byte, at which a system call cuts it
  *     UNIX_PATH_REQUEST_OK         none of these
  *
- * unix_path_join_in_root refuses only a NUL, and unix_path_join_verbatim each `..` too. */
+ * unix_path_join_in_root refuses only a NUL. unix_path_join_verbatim refuses a root, each `..` and
+ * a NUL. */
 int32_t unix_path_check_request(const void *path, size_t path_length);
 
-/* Returns true if a request has no name, resolved as by unix_path_join_in_root: it is the root
- * itself. True for `a/..`, `/` and the empty path; false for `a/../b`. */
+/* Returns true if no name remains of a request when unix_path_join_in_root resolves it: the join is
+ * then the root itself. True for `a/..`, `/` and the empty path; false for `a/../b`. */
 bool unix_path_request_is_root(const void *path, size_t path_length);
 
 /* Returns true if the last component is a name and a slash or a `/.` follows it: for `a/` and
- * `a/.`, but not for `a`, `a/..` and `/`. A system call takes such a path for the path of a
- * directory. A join that resolves the request drops what follows its names. */
+ * `a/.`, but not for `a`, `a/..` and `/`. A system call then requires the name to be a directory. A
+ * join that resolves the request drops the slash or `/.`. */
 bool unix_path_ends_in_slash(const void *path, size_t path_length);
 
 /* Returns the index just after the last slash of the longest prefix that the bytes of a and b
- * share, or 0 if it has no slash. For `a/./b` and `a/b` it is 2. */
+ * share, or 0 if this prefix has no slash. For `a/./b` and `a/b` it is 2. */
 size_t unix_path_common_dir(const void *a, size_t a_length, const void *b, size_t b_length);
 
 /* New paths and keys, written to out:
@@ -307,26 +314,29 @@ size_t unix_path_common_dir(const void *a, size_t a_length, const void *b, size_
  *     3 * key_length / 2                        _from_key
  *     key_length, always                        _key_range_end
  *
- * A new path may hold a NUL if an argument holds one. A join of a request may only if the root
- * holds one. unix_path_to_string_lossy keeps each NUL. */
+ * A new path may contain a NUL if an argument contains one. A join of a request may contain a NUL
+ * only if the root contains one. unix_path_to_string_lossy keeps each NUL. */
 
-/* Joins two trusted paths; for a request from outside call unix_path_join_beneath. Writes path if
- * it has a root; otherwise base, a slash unless base is empty or ends in one, and path. `/a` with
- * `./b` is `/a/./b`, and with `/b` it is `/b`. */
+/* Joins two trusted paths; for a request from outside call unix_path_join_beneath. Writes only path
+ * if path has a root. Otherwise writes base, a slash unless base is empty or ends in one, and path.
+ * `/a` with `./b` is `/a/./b`, and with `/b` it is `/b`. */
 size_t unix_path_join(const void *base, size_t base_length, const void *path,
                       size_t path_length, void *out, size_t out_length);
 
-/* Replaces the file name, or joins name to a path without one. `/a/b.txt` with `c` is `/a/c`. */
+/* Replaces the path's file name by name, or joins name to a path without a file name. `/a/b.txt`
+ * with `c` is `/a/c`. */
 size_t unix_path_with_file_name(const void *path, size_t path_length, const void *name,
                                 size_t name_length, void *out, size_t out_length);
 
-/* Replaces the extension, or removes it if the new one is empty, and drops what follows the file
- * name. Without a file name the path is unchanged. `a.rs/.` and `a` with `txt` are both `a.txt`. */
+/* Replaces the file name's extension, adds one if there is none, or removes it if the new one is
+ * empty. Drops a `/` and a `/.` after the file name. Without a file name the path is unchanged.
+ * `a.rs/.` and `a` with `txt` are both `a.txt`. */
 size_t unix_path_with_extension(const void *path, size_t path_length, const void *extension,
                                 size_t extension_length, void *out, size_t out_length);
 
-/* Adds a dot and the extension to the file name. Without a file name, or with an empty extension,
- * the path is unchanged. `a.tar` with `gz` is `a.tar.gz`. */
+/* Adds a dot and the extension to the file name, and drops a `/` and a `/.` after the file name.
+ * Without a file name, or with an empty extension, the path is unchanged. `a.tar` with `gz` is
+ * `a.tar.gz`. */
 size_t unix_path_with_added_extension(const void *path, size_t path_length, const void *extension,
                                       size_t extension_length, void *out, size_t out_length);
 
@@ -335,20 +345,20 @@ size_t unix_path_with_added_extension(const void *path, size_t path_length, cons
 size_t unix_path_canonical(const void *path, size_t path_length, void *out,
                            size_t out_length);
 
-/* Writes the path as UTF-8, with U+FFFD for the invalid bytes of each chunk. */
+/* Writes the path as UTF-8, with one U+FFFD instead of the invalid bytes of each chunk. */
 size_t unix_path_to_string_lossy(const void *path, size_t path_length, void *out,
                                  size_t out_length);
 
 /* Resolves `..` lexically and writes the canonical form. Drops each `..` with the name before it,
- * each `.`, and each `..` after the root. Without a root, a `..` with no name before it stays at
- * the beginning. Where a component may be a link, only the system knows where `..` leads. For
- * `a/../..//b/.` it is `../b`, and for `a/..` it is empty. */
+ * each `.`, and each `..` directly after the root. If the path has no root, a `..` that finds no
+ * name to drop stays, at the beginning. Where a component may be a link, only the system knows
+ * where `..` leads. For `a/../..//b/.` it is `../b`, and for `a/..` it is empty. */
 size_t unix_path_resolved(const void *path, size_t path_length, void *out,
                           size_t out_length);
 
 /* Four calls join two paths. unix_path_join, above, is for trusted paths: a rooted path replaces
- * the base, and `..` may lead out of it. The others are for requests: paths from outside, joined to
- * a trusted root.
+ * the base, and `..` may lead out of the base. The other three calls are for requests, which are
+ * paths from outside that are joined to a trusted root.
  *
  *     request                     a           a/../b      ../x      /x        x\0y
  *     unix_path_join_beneath      /srv/a      /srv/b      ESCAPES   ESCAPES   NUL_IN_REQUEST
@@ -357,30 +367,32 @@ size_t unix_path_resolved(const void *path, size_t path_length, void *out,
  *     unix_path_join              /srv/a      /srv/a/../b /srv/../x /x        /srv/x\0y
  *
  * unix_path_join_beneath and unix_path_join_in_root resolve `..` in the request lexically, and drop
- * a slash at its end. If a component below the root may be a link, let the system refuse links:
- * join to an empty root, which makes a relative path, and open that by openat2 of Linux, beneath a
- * file descriptor of the root, with RESOLVE_BENEATH or RESOLVE_NO_SYMLINKS. The root itself is not
- * resolved. To resolve its `..` lexically too, call unix_path_resolved once and pass what it
- * wrote. */
+ * its trailing slash. If a component below the root may be a link, let the system refuse links:
+ * join the request to an empty root, which results in a relative path, and open this path by
+ * openat2 of Linux, beneath a file descriptor of the root, with RESOLVE_BENEATH or
+ * RESOLVE_NO_SYMLINKS. The root itself is not resolved. To resolve the root's `..` lexically too,
+ * call unix_path_resolved once and pass its result as the root. */
 
 /* Joins a request that must stay beneath the root, such as an entry of an archive. Writes the root
- * verbatim, and after it the names that the request resolves to, with a slash between two of them
- * and, where one is needed, after the root. After the root there is no `..`, no `.`, no NUL and no
- * slash at the end. If unix_path_request_is_root is true, this is the root itself.
+ * verbatim, and then the names that the request resolves to, with a slash between two names, and a
+ * slash before the first name unless the root is empty or ends in one. After the root there is no
+ * `..`, no `.`, no NUL and no trailing slash. If unix_path_request_is_root is true, the join is the
+ * root itself.
  *
- * Refuses a request that escapes, or has a NUL byte, at which a system call would cut the join.
- * unix_path_check_request says which, before any join. `/srv/` with `a/../b` is `/srv/b`. */
+ * Refuses a request that escapes, or has a NUL byte, at which a system call would end the join.
+ * unix_path_check_request tests for both without a join. `/srv/` with `a/../b` is `/srv/b`. */
 size_t unix_path_join_beneath(const void *root, size_t root_length, const void *request,
                               size_t request_length, void *out, size_t out_length);
 
 /* Joins a request as in a chroot, such as the decoded path of a URL: as if the root were the root
- * directory `/`. This is unix_path_join_beneath, except that leading slashes are dropped, and a
- * `..` at the root stays there. Refuses only a NUL. `/srv/` with `/../b` is `/srv/b`. */
+ * directory `/`. The call is like unix_path_join_beneath, except that leading slashes of the
+ * request are dropped, and a `..` at the root stays there. Refuses only a NUL. `/srv/` with `/../b`
+ * is `/srv/b`. */
 size_t unix_path_join_in_root(const void *root, size_t root_length, const void *request,
                               size_t request_length, void *out, size_t out_length);
 
-/* Joins root and request verbatim, for a root that is a link or may contain links. Refuses a
- * request with a root, a `..` or a NUL. The system follows links below the root wherever they lead.
+/* Joins root and request verbatim, for a root whose components may be links. Refuses a request with
+ * a root, a `..` or a NUL. The system follows links below the root wherever they lead.
  * `/srv/../www` with `./a` is `/srv/../www/./a`; `a/../b` and `..\0/a` are refused. */
 size_t unix_path_join_verbatim(const void *root, size_t root_length, const void *request,
                                size_t request_length, void *out, size_t out_length);
@@ -394,15 +406,16 @@ size_t unix_path_relative_path(const void *from, size_t from_length, const void 
                                size_t to_length, void *out, size_t out_length);
 
 /* Keys, for a store that compares keys byte by byte, like memcmp and then by length. Keys sort as
- * unix_path_compare does, and are identical if and only if the paths are equal. One key begins with
- * another if and only if its path starts with the other's: `a` is 61 00, and `ab` is 61 62 00.
+ * unix_path_compare sorts their paths, and are identical if and only if the paths are equal. One
+ * key begins with another key if and only if its path starts with the other key's path: the key of
+ * `ab`, 61 62 00, does not begin with the key of `a`, 61 00.
  *
  * A key is the path's components in order, each as these bytes:
  *
  *     the root         00 01
  *     a leading `.`    00 02
  *     each `..`        00 03
- *     a name           its bytes, each that is less than 2F raised by one, then 00
+ *     a name           its bytes, with each byte less than 2F raised by one, then 00
  *
  * The key of `/srv//a-1.txt/..` is 00 01, 73 72 76 00, 61 2E 31 2F 74 78 74 00, 00 03. The key of
  * the empty path is empty. */
@@ -413,10 +426,11 @@ size_t unix_path_key(const void *path, size_t path_length, void *out, size_t out
 /* Writes the canonical form of the paths that have the key. For 00 02 61 00 62 00 it is `./a/b`. */
 size_t unix_path_from_key(const void *key, size_t key_length, void *out, size_t out_length);
 
-/* Writes the end of the key's range: the key with its last byte raised by one. Any bytes begin with
- * the key if and only if they are not less than the key, and less than the end. The keys among them
- * are those of the paths that start with the key's path. The range of the empty key has all bytes
- * and no end. For 61 00, the key of `a`, the end is 61 01. */
+/* Writes the end of the key's range: the key with its last byte raised by one. The range contains
+ * the byte strings that are at least the key and less than the end. These are all byte strings that
+ * begin with the key. The keys among them are the keys of the paths that start with the key's path.
+ * The range of the empty key contains every byte string and has no end. For 61 00, the key of `a`,
+ * the end is 61 01. */
 size_t unix_path_key_range_end(const void *key, size_t key_length, void *out, size_t out_length);
 
 #ifndef UNIX_PATH_EXPORTS_ONLY
@@ -458,8 +472,8 @@ UNIX_PATH_INLINE const char *unix_path_error_name(size_t answer) {
     }
 }
 
-/* Returns true if no byte is NUL, so that the system reads all of the path once a NUL follows
- * it. */
+/* Returns true if the path contains no NUL byte, so that the system reads all of it once a NUL is
+ * appended. */
 UNIX_PATH_INLINE bool unix_path_is_c_string(const void *path, size_t path_length) {
     const char *bytes = UNIX_PATH_CHARS(path);
     for (size_t at = 0; at < path_length; at++) {
@@ -470,9 +484,10 @@ UNIX_PATH_INLINE bool unix_path_is_c_string(const void *path, size_t path_length
     return true;
 }
 
-/* From here on the name of each call names a function of this header, which replaces null pointers
- * and then makes the call. A pointer to this function may be passed on. Its attributes say what it
- * reads and writes, and that its result has to be used. */
+/* From here on the name of each call names an inline function of this header, which replaces null
+ * pointers and then makes the call. A program may use a pointer to this function. The function's
+ * attributes tell the compiler which memory it reads and writes, and that its result has to be
+ * used. */
 
 #ifdef __GNUC__
 #pragma GCC diagnostic push
@@ -505,12 +520,12 @@ UNIX_PATH_INLINE bool unix_path_is_c_string(const void *path, size_t path_length
 #define UNIX_PATH_MOVES(record) UNIX_PATH_ACCESS(__read_write__, record) UNIX_PATH_NONNULL(record)
 #define UNIX_PATH_LOOKS(record) UNIX_PATH_ACCESS(__read_only__, record) UNIX_PATH_NONNULL(record)
 
-/* Returns `path`, or a pointer that is not null if it has no bytes. */
+/* Returns `path` or, if it has no bytes, a pointer that is not null. */
 UNIX_PATH_INLINE const void *unix_path_bytes(const void *path, size_t path_length) {
     return path_length == 0 ? "" : path;
 }
 
-/* Returns `out`, or `none` if its size is 0. */
+/* Returns `out`, or `none` if the size of `out` is 0. */
 UNIX_PATH_INLINE void *unix_path_room(void *out, size_t out_length, void *none) {
     return out_length == 0 ? none : out;
 }
@@ -557,7 +572,7 @@ UNIX_PATH_INLINE void *unix_path_room(void *out, size_t out_length, void *none) 
     UNIX_PATH_CALL(bool, name, UNIX_PATH_READS_TWO UNIX_PATH_WRITES(5),                            \
                    (UNIX_PATH_TWO, unix_path_span *span), (UNIX_PATH_AB, span))
 
-/* The same for the calls with `out`. */
+/* Does the same as UNIX_PATH_CALL, for the calls with `out`. */
 #define UNIX_PATH_OUT_CALL(name, known, parameters, ...)                                           \
     known UNIX_PATH_ALL_NONNULL size_t unix_path_##name parameters;                                \
     UNIX_PATH_ASKED known UNIX_PATH_INLINE size_t unix_path_inline_##name parameters {             \
@@ -571,7 +586,7 @@ UNIX_PATH_INLINE void *unix_path_room(void *out, size_t out_length, void *none) 
     UNIX_PATH_OUT_CALL(name, UNIX_PATH_READS_TWO UNIX_PATH_FILLS(5, 6),                            \
                        (UNIX_PATH_TWO, UNIX_PATH_OUT), UNIX_PATH_AB)
 
-/* The same for the calls that return nothing. */
+/* Define the functions that make the calls that return nothing. */
 #define UNIX_PATH_BEGIN(name)                                                                      \
     UNIX_PATH_READS_ONE UNIX_PATH_WRITES(3) UNIX_PATH_INLINE                                       \
     void unix_path_inline_##name(UNIX_PATH_ONE, unix_path_walk *walk) {                            \

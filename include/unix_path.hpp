@@ -1,15 +1,15 @@
 // Unix paths as plain bytes, for C++17 and later, over the calls of unix_path.h.
 //
-// A request from outside, joined so that it stays beneath a root:
+// This joins a request from outside to a root, so that the result stays beneath the root:
 //
 //     unix_path::view root = "/srv/www";
 //     auto file = root.join_beneath("img/../a.png");
 //     std::puts(file ? file->c_str() : unix_path::to_string(file.error()));
 //
-// It prints `/srv/www/a.png`. For the request `../etc/passwd` it would print the error, escapes.
-// For the decoded path of a URL call join_in_root.
+// It prints `/srv/www/a.png`. For the request `../etc/passwd` it would print the name of the error,
+// escapes. For the decoded path of a URL call join_in_root.
 //
-// A map that finds a path however it is spelled:
+// This looks up a path in a map that has the path in another spelling:
 //
 //     std::map<std::string, int, unix_path::less> sizes{{"src//main.c", 42}};
 //     std::string_view asked = "./src/main.c";
@@ -21,14 +21,14 @@
 // It prints `src//main.c`. The look-up copies nothing. Both examples need <cstdio>, and the second
 // <map>; unix_path.h says how to link.
 //
-// A member does what the call of its name in unix_path.h does; that header describes the calls,
-// their error codes, and their use by threads and signal handlers. The calls are proved. This file
-// is not: only tests check that it passes on arguments and results.
+// A member function does the same as the call of its name in unix_path.h. That header describes the
+// calls, their error codes, and their use by threads and signal handlers. The calls are proved.
+// This file is not: only tests check that it passes on arguments and results.
 //
 // Nothing here throws by itself. A function that is `noexcept` does not allocate. A function that
 // returns a std::string, or a result with one, throws std::bad_alloc if an allocation fails. A
-// std::string_view with a null pointer is an empty path. What a function finds in a path are the
-// path's own bytes, which have to outlive the result.
+// std::string_view with a null pointer is an empty path. A part of a path that a function returns,
+// such as a file name, refers to the path's own bytes, which have to outlive it.
 #ifndef UNIX_PATH_HPP
 #define UNIX_PATH_HPP
 
@@ -74,13 +74,13 @@ enum class error {
     separator,
     /// The request escapes; for join_verbatim, it has a root or any `..`.
     escapes,
-    /// The request has a NUL byte, at which a system call cuts it.
+    /// The request has a NUL byte, at which a system call ends a path.
     nul_in_request,
     /// No path has these bytes as its key.
     not_a_key,
     /// The key is empty, and its range has no end.
     no_end,
-    /// No path without a root leads there.
+    /// No path without a root leads from the first path to the second.
     no_relative_path,
     /// The result has more bytes than a buffer can have.
     too_long,
@@ -111,9 +111,9 @@ constexpr const char *to_string(error why) noexcept {
     return "short_buffer";
 }
 
-/// The value that a call returns, or an error, with the names of std::expected. Reading the value
-/// of an error, or the error of a value, ends the program by std::terminate, since nothing here
-/// throws.
+/// The value that a call returns, or an error. Its members are named as in std::expected. Reading
+/// the value of a result that has an error, or the error of a result that has a value, ends the
+/// program by std::terminate, since nothing here throws.
 template <typename T>
 class [[nodiscard]] result {
   public:
@@ -126,7 +126,7 @@ class [[nodiscard]] result {
     bool has_value() const noexcept { return value_.has_value(); }
     explicit operator bool() const noexcept { return has_value(); }
 
-    /// Returns the value, as `*` does. It is moved out of an rvalue.
+    /// Returns the value, as `*` does. If the result is an rvalue, the value is moved out of it.
     const T &value() const & noexcept UNIX_PATH_LIFETIME { return checked(); }
     T value() && noexcept(std::is_nothrow_move_constructible_v<T>) {
         checked();
@@ -137,7 +137,7 @@ class [[nodiscard]] result {
         return std::move(*this).value();
     }
     const T *operator->() const noexcept UNIX_PATH_LIFETIME { return &checked(); }
-    /// Returns the value, or `other` for an error.
+    /// Returns the value, or `other` if there is an error.
     T value_or(T other) const & { return has_value() ? *value_ : std::move(other); }
     T value_or(T other) && { return std::move(has_value() ? *value_ : other); }
 
@@ -148,11 +148,12 @@ class [[nodiscard]] result {
         }
         return error_;
     }
-    /// Returns the number of bytes that the buffer needs for `short_buffer`; otherwise 0.
+    /// Returns the number of bytes that the buffer needs if the error is `short_buffer`; otherwise
+    /// returns 0.
     std::size_t required_size() const noexcept { return required_size_; }
 
-    /// Calls the function with the value, and returns the result that it returns. If there is an
-    /// error, returns a result of the same type with the error and `required_size()`.
+    /// Calls the function with the value, and returns the function's result. If there is an error,
+    /// returns a result of the same type with the error and `required_size()`.
     template <typename Function>
     auto and_then(Function &&function) const & {
         using next = std::decay_t<std::invoke_result_t<Function, const T &>>;
@@ -165,7 +166,8 @@ class [[nodiscard]] result {
         return has_value() ? next(std::invoke(std::forward<Function>(function), std::move(*value_)))
                            : next(error_, required_size_);
     }
-    /// Like `and_then`, but returns a result with what the function returns, which is not void.
+    /// Like `and_then`, for a function that returns a plain value and not a result or void. Returns
+    /// this value in a result.
     template <typename Function>
     auto transform(Function &&function) const & {
         using next = result<std::decay_t<std::invoke_result_t<Function, const T &>>>;
@@ -239,7 +241,7 @@ constexpr const char *to_string(component_kind kind) noexcept {
     return "normal";
 }
 
-/// A component of a path: its kind and its bytes, which are the path's.
+/// A component of a path: its kind and its bytes, which are bytes of the path and not a copy.
 struct component {
     component_kind kind;
     std::string_view bytes;
@@ -251,7 +253,7 @@ struct component {
 };
 
 /// A chunk of a path: valid UTF-8 and the invalid bytes after it, as unix_path_next_chunk finds
-/// them. The bytes are the path's.
+/// them. They are bytes of the path and not a copy.
 struct chunk {
     std::string_view valid, broken;
 
@@ -276,19 +278,19 @@ class components;
 class ancestors;
 class chunks;
 
-/// A path: bytes that live elsewhere. Paths are compared by their components: `a/./b//` equals
-/// `a/b`. To compare bytes, compare `bytes()`.
+/// A path, which refers to bytes that live elsewhere. Paths are compared by their components:
+/// `a/./b//` equals `a/b`. To compare bytes, compare `bytes()`.
 class view {
   public:
     constexpr view() noexcept = default;
     constexpr view(std::string_view bytes) noexcept : bytes_(bytes) {}
     view(const std::string &bytes UNIX_PATH_LIFETIME) noexcept : bytes_(bytes) {}
-    /// A path that ends at the string's first NUL. The null pointer is the empty path.
+    /// Creates a path that ends at the string's first NUL. The null pointer becomes the empty path.
     constexpr view(const char *string) noexcept
         : bytes_(string == nullptr ? std::string_view() : std::string_view(string)) {}
     view(std::nullptr_t) = delete;
-    /// Types that convert to a new string, which would be gone at once, are rejected. Of a
-    /// `std::filesystem::path` pass `native()`.
+    /// Rejects types that convert to a temporary std::string, to whose bytes the view could not
+    /// refer. Instead of a `std::filesystem::path` pass its `native()`.
     template <class T, std::enable_if_t<std::is_convertible_v<const T &, std::string> &&
                                             !std::is_convertible_v<const T &, std::string_view> &&
                                             !std::is_convertible_v<const T &, const char *>,
@@ -299,7 +301,7 @@ class view {
     constexpr const char *data() const noexcept { return bytes_.data(); }
     constexpr std::size_t size() const noexcept { return bytes_.size(); }
     constexpr bool empty() const noexcept { return bytes_.empty(); }
-    /// Returns true if there is a NUL byte, at which a system call cuts the path.
+    /// Returns true if the path has a NUL byte, at which a system call ends the path.
     constexpr bool has_nul() const noexcept {
         return bytes_.find('\0') != std::string_view::npos;
     }
@@ -341,11 +343,13 @@ class view {
     request_check check_request() const noexcept {
         return static_cast<request_check>(unix_path_check_request(data(), size()));
     }
-    /// Returns true if a request has no name, resolved as by `join_in_root`: it is the root itself.
+    /// Returns true if no name remains of a request when `join_in_root` resolves it: the join is
+    /// then the root itself.
     bool request_is_root() const noexcept { return unix_path_request_is_root(data(), size()); }
     /// Returns true if the last component is a name and a slash or a `/.` follows it.
     bool ends_in_slash() const noexcept { return unix_path_ends_in_slash(data(), size()); }
-    /// Returns the index just after the last slash of the longest prefix that both share, or 0.
+    /// Returns the index just after the last slash of the longest prefix that the bytes of both
+    /// paths share, or 0 if this prefix has no slash.
     std::size_t common_dir(view other) const noexcept {
         return unix_path_common_dir(data(), size(), other.data(), other.size());
     }
@@ -357,8 +361,8 @@ class view {
         unix_path_span span;
         return path_at(unix_path_parent(data(), size(), &span), span);
     }
-    /// Returns what follows base, or nothing if `starts_with` is false. For `/dest/../etc` and
-    /// `/dest` it is `../etc`.
+    /// Returns the rest of the path after base, or nothing if `starts_with(base)` is false. For
+    /// `/dest/../etc` and `/dest` it is `../etc`.
     std::optional<view> strip_prefix(view base) const noexcept {
         unix_path_span span;
         return path_at(
@@ -380,24 +384,24 @@ class view {
         unix_path_span span;
         return text_at(unix_path_file_prefix(data(), size(), &span), span);
     }
-    /// Returns the components, in both directions.
+    /// Returns the components, as a range in both directions.
     unix_path::components components() const noexcept;
     /// Returns the path, its parent, the parent's parent, and so on.
     unix_path::ancestors ancestors() const noexcept;
     /// Returns the chunks of valid UTF-8 and of invalid bytes.
     unix_path::chunks chunks() const noexcept;
 
-    // New paths and keys: as a std::string, or in a buffer, without an allocation and with no NUL
-    // after it. An error is the error code of the call: unix_path.h has a table of them. The system
-    // cuts a path at its first NUL, which `has_nul` finds, and refuses an empty path: pass `.`
-    // instead.
+    // New paths and keys. Without `out`, a function returns a std::string. With `out`, it writes to
+    // a buffer, allocates nothing and appends no NUL. An error is the error code of the call:
+    // unix_path.h has a table of the error codes. The system reads a path only up to its first NUL,
+    // for which `has_nul` tests, and refuses an empty path: pass `.` instead.
     //
     // `join` is for trusted paths. The other joins are for requests, which are paths from outside.
-    // This path is the root of the request, and stays verbatim. A table in unix_path.h compares the
-    // four joins. All are lexical: where a component below the root may be a link, let the system
-    // refuse links, as openat2 of Linux does.
+    // They join a request to this path, the root, which stays verbatim. A table in unix_path.h
+    // compares the four joins. All are lexical: where a component below the root may be a link, let
+    // the system refuse links, as openat2 of Linux does.
 
-    /// Joins two trusted paths: returns path itself if it has a root. For a request from outside
+    /// Joins two trusted paths. Returns `path` itself if it has a root. For a request from outside
     /// call `join_beneath` instead.
     std::string join(view path) const;
     result<std::string_view> join(view path, buffer out) const noexcept;
@@ -414,22 +418,21 @@ class view {
     result<std::string_view> to_string_lossy(buffer out) const noexcept;
     std::string resolved() const;
     result<std::string_view> resolved(buffer out) const noexcept;
-    /// Joins root and request verbatim, for a root that is a link or may contain links. Refuses a
-    /// request with a root, a `..` or a NUL. The system follows links below the root wherever they
-    /// lead.
+    /// Joins root and request verbatim, for a root whose components may be links. Refuses a request
+    /// with a root, a `..` or a NUL. The system follows links below the root wherever they lead.
     result<std::string> join_verbatim(view request) const;
     result<std::string_view> join_verbatim(view request, buffer out) const noexcept;
-    /// Joins a request that must stay beneath the root: returns the root's bytes and after them the
-    /// names that the request resolves to, with no slash at the end. To resolve the root's own `..`
-    /// too, join to what `resolved` returns for it.
+    /// Joins a request that must stay beneath the root. Returns the root's bytes and then the names
+    /// that the request resolves to, without the request's trailing slash. To resolve the root's
+    /// own `..` too, join to the path that the root's `resolved` returns.
     result<std::string> join_beneath(view request) const;
     result<std::string_view> join_beneath(view request, buffer out) const noexcept;
-    /// Joins a request as in a chroot, such as the decoded path of a URL: like `join_beneath`,
-    /// except that leading slashes are dropped, and a `..` at the root stays there. No call decodes
-    /// `%2e`.
+    /// Joins a request as in a chroot, such as the decoded path of a URL. It is like
+    /// `join_beneath`, except that leading slashes of the request are dropped, and a `..` at the
+    /// root stays there. No call decodes `%2e`.
     result<std::string> join_in_root(view request) const;
     result<std::string_view> join_in_root(view request, buffer out) const noexcept;
-    /// Returns the relative path from this path to the other; both are resolved lexically. Where a
+    /// Returns the relative path from this path to `to`. Both are resolved lexically. Where a
     /// component of this path may be a link, only the system knows where `..` leads.
     result<std::string> relative_path(view to) const;
     result<std::string_view> relative_path(view to, buffer out) const noexcept;
@@ -460,12 +463,12 @@ class walk {
     explicit walk(view path) noexcept : path_(path) {
         unix_path_components(path.data(), path.size(), &walk_);
     }
-    /// Takes the first component of the rest; none if the rest is empty.
+    /// Takes and returns the first component of the rest, or nothing if the rest is empty.
     std::optional<component> next() noexcept {
         unix_path_part part;
         return part_at(unix_path_next(path_.data(), path_.size(), &walk_, &part), part);
     }
-    /// Takes the last component of the rest; none if the rest is empty.
+    /// Takes and returns the last component of the rest, or nothing if the rest is empty.
     std::optional<component> next_back() noexcept {
         unix_path_part part;
         return part_at(unix_path_next_back(path_.data(), path_.size(), &walk_, &part), part);
@@ -492,7 +495,7 @@ class walk {
 
 namespace detail {
 
-// The result of `->` where `*` returns a value.
+// The result of an iterator's `->` if its `*` returns a value and not a reference.
 template <typename T>
 class arrow {
   public:
@@ -505,11 +508,11 @@ class arrow {
 
 }  // namespace detail
 
-// The iterators below return values, which outlive the iterator; the bytes of a value are the
-// path's. Two iterators over one path are equal if both are at the same item, or both at the end.
-// By C++17's rules an iterator that returns values is only an input iterator. Like
-// std::vector<bool>, these iterators nevertheless have the category of the steps that they can
-// make, so that std::prev can step back.
+// The iterators below return values, which outlive the iterator and refer to the path's bytes. Two
+// iterators over one path are equal if both are at the same item, or both at the end. By C++17's
+// rules an iterator that returns values is only an input iterator. Nevertheless these iterators,
+// like those of std::vector<bool>, have the category of the steps that they can make, so that
+// std::prev can step back.
 
 /// The components of a path, as a range in both directions.
 class components {
@@ -566,23 +569,23 @@ class components {
 
       private:
         friend class components;
-        // The value of left_.front after a step back: only the next step forward computes left_.
+        // The value of left_.front after a step back. The next step forward then computes left_.
         static constexpr std::size_t unknown = SIZE_MAX;
 
-        // Begins before the first component at or after this index. If the index is the path's
-        // length, this is the end.
+        // Creates an iterator from which `++` steps to the first component at or after index
+        // `start`. If `start` is the path's length, it is the end.
         iterator(view path, std::size_t start) noexcept
             : path_(path), left_{start, path.size()}, part_{start, 0, UNIX_PATH_NORMAL} {}
         iterator(view path, unix_path_walk left, const unix_path_part &part) noexcept
             : path_(path), left_(left), part_(part) {}
 
         view path_;
-        // The rest of a walk after it took the component.
+        // The rest of a walk that has just taken this iterator's component.
         unix_path_walk left_ = {0, 0};
         unix_path_part part_ = {0, 0, UNIX_PATH_NORMAL};
     };
-    /// Steps from the last component to the first. std::reverse_iterator does not work: in C++17
-    /// libc++'s `->` takes the address of what `*` returns, which is a value here.
+    /// Steps from the last component to the first. std::reverse_iterator does not work here: in
+    /// C++17 its `->` in libc++ takes the address of the result of `*`, which is a temporary value.
     class reverse_iterator {
       public:
         using iterator_category = std::bidirectional_iterator_tag;
@@ -667,7 +670,7 @@ class ancestors {
         friend bool operator!=(const iterator &a, const iterator &b) noexcept { return !(a == b); }
 
       private:
-        // The path whose ancestors these are, and the length of the next.
+        // The path whose ancestors these are, and the length of its next ancestor.
         view whole_{};
         std::size_t next_ = SIZE_MAX;
         std::optional<view> path_{};
@@ -743,8 +746,8 @@ inline unix_path::components view::components() const noexcept {
 inline unix_path::ancestors view::ancestors() const noexcept { return unix_path::ancestors(*this); }
 inline unix_path::chunks view::chunks() const noexcept { return unix_path::chunks(*this); }
 
-/// Compares paths by their components: `std::map<std::string, V, less>` finds a view without a
-/// copy.
+/// Compares paths by their components. A `std::map<std::string, V, less>` looks up a view without
+/// copying its bytes.
 struct less {
     using is_transparent = void;
     bool operator()(view a, view b) const noexcept { return a < b; }
@@ -757,9 +760,10 @@ struct equal_to {
 };
 
 /// Hashes a path. In a `std::unordered_map<std::string, V, hash, equal_to>` equal paths are one
-/// key. From C++20 on, this map finds a view without a copy. In C++17 a `std::unordered_map<view,
-/// V>` does; the bytes of its paths live elsewhere and have to outlive it. The hash is unkeyed: an
-/// attacker who chooses the paths can force collisions, so use a std::map for such paths.
+/// key. From C++20 on, this map looks up a view without copying its bytes. In C++17 a
+/// `std::unordered_map<view, V>` does so; the bytes of its keys live elsewhere and have to outlive
+/// the map. The hash is unkeyed: an attacker who chooses the paths can force collisions, so use a
+/// std::map for such paths.
 struct hash {
     using is_transparent = void;
     std::size_t operator()(view path) const noexcept { return path.hash(); }
@@ -779,7 +783,8 @@ inline error error_of(std::size_t answer) noexcept {
     }
 }
 
-// Returns what the call writes to a string, which has this size at first.
+// Returns the result that the call writes to a string, or its error. The string has `room` bytes at
+// first.
 template <typename Call>
 result<std::string> grown(std::size_t room, Call call) {
     std::string out(room, '\0');
@@ -796,7 +801,7 @@ result<std::string> grown(std::size_t room, Call call) {
     }
 }
 
-// Returns what the call writes to the buffer.
+// Returns the result that the call writes to the buffer, or its error.
 template <typename Call>
 result<std::string_view> written(buffer out, Call call) noexcept {
     const std::size_t length = call(out.data(), out.size());
@@ -881,7 +886,7 @@ inline auto key_range_end_call(std::string_view key) noexcept {
     };
 }
 
-// Returns the size of both paths and a byte between them.
+// Returns the size of two paths with one byte between them.
 inline std::size_t room_of(view a, view b) noexcept { return a.size() + b.size() + 1; }
 
 }  // namespace detail
@@ -966,7 +971,8 @@ inline result<std::string_view> view::key(buffer out) const noexcept {
     return detail::written(out, detail::key_call(*this));
 }
 
-/// Returns the canonical form of the paths that have this key of view::key, or error::not_a_key.
+/// Returns the canonical form of the paths for which view::key returns this key, or
+/// error::not_a_key.
 inline result<std::string> from_key(std::string_view key) {
     return detail::grown(key.size() + key.size() / 2, detail::from_key_call(key));
 }
@@ -974,8 +980,8 @@ inline result<std::string_view> from_key(std::string_view key, buffer out) noexc
     return detail::written(out, detail::from_key_call(key));
 }
 
-/// Returns the end of a key's range: a path starts with the key's path if and only if its own key
-/// is not less than the key and less than this end. Or returns error::no_end or error::not_a_key.
+/// Returns the end of a key's range, or error::no_end or error::not_a_key. A path starts with the
+/// key's path if and only if the path's own key is at least the key and less than this end.
 inline result<std::string> key_range_end(std::string_view key) {
     return detail::grown(key.size(), detail::key_range_end_call(key));
 }

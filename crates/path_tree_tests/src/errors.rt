@@ -4,8 +4,8 @@ use path_within::{RequestError, StripError, WithinError};
 use std::alloc::{AllocError, Global};
 use std::fmt;
 
-// Returns true if the error is displayed as this text: without padding, and in fields of 25 columns
-// at either end.
+// Returns true if the error is displayed as `text`: without padding, and in fields of 25 columns at
+// the left and at the right.
 fn is_shown<E: fmt::Display>(alloc: Global, error: &E, text: &str) -> bool {
     match format!(in alloc; "{error}|{error:<25}|{error:>25}") {
         Ok(shown) => shown.as_str() == text,

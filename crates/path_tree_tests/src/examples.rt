@@ -1,4 +1,4 @@
-//! Rows of calls of the crate `callers`, each of which shows a rule.
+//! Tables of calls of the crate `callers`. Each row shows a rule.
 use callers::archive::{UnpackError, unpack_path};
 use callers::changes::changes_from;
 use callers::index::{search_by_path, value_at};
@@ -18,7 +18,7 @@ use std::test::Fail;
 use unix_path::bytes::UnixStr;
 use unix_path::{Path, PathBuf};
 
-// A request, and whether it stays below whatever it is joined to.
+// A request, and whether it stays below each root that it may be joined to.
 static BELOW: [(&'static str, bool); 8] = [
     ("a//b", true),
     ("./a", true),
@@ -40,7 +40,8 @@ static SERVED: [(&'static str, Option<&'static str>); 6] = [
     ("/shell.php\0.png", None),
 ];
 
-// An entry of an archive, and where it goes below `/tmp/x`, or why it is rejected.
+// An entry of an archive, and the path below `/tmp/x` to which it is unpacked, or the error with
+// which it is rejected.
 static ENTRIES: [(&'static str, Result<&'static str, RequestError>); 7] = [
     ("a/./b", Ok("/tmp/x/a/b")),
     ("a/../b/", Ok("/tmp/x/b")),
@@ -51,7 +52,8 @@ static ENTRIES: [(&'static str, Result<&'static str, RequestError>); 7] = [
     ("a\0b", Err(RequestError::Nul)),
 ];
 
-// A URL's path, and its file with the prefix `/static` and the root `/srv/www`.
+// A URL's path, and the path of its file, if the URL prefix is `/static` and the root is
+// `/srv/www`.
 static URLS: [(&'static str, Option<&'static str>); 7] = [
     ("/static/css/a.css", Some("/srv/www/css/a.css")),
     ("/static//css/../a.css", Some("/srv/www/a.css")),
@@ -62,7 +64,8 @@ static URLS: [(&'static str, Option<&'static str>); 7] = [
     ("/static/a\0", None),
 ];
 
-// A path, and its file with `/srv` mounted at `/`, and `/home/me` at `/me` and at `me`.
+// A path, and the path of its file, if `/srv` is mounted at `/`, and `/home/me` at `/me` and at
+// `me`.
 static MOUNTED: [(&'static str, Option<&'static str>); 9] = [
     ("/a/b", Some("/srv/a/b")),
     ("/me/a", Some("/home/me/a")),
@@ -75,8 +78,9 @@ static MOUNTED: [(&'static str, Option<&'static str>); 9] = [
     ("/a\0", None),
 ];
 
-// A URL's path, and its file with the prefix `/static` and the root `/srv/./www`, with each `..`
-// dropped together with the name before it; `refused` if it would leave the root.
+// A URL's path, and the path of its file, if the URL prefix is `/static` and the root is
+// `/srv/./www`. Each `..` is dropped together with the name before it. A path that would leave the
+// root is `refused`.
 static FILES: [(&'static str, Option<&'static str>); 7] = [
     ("/static/css/../a.css", Some("/srv/www/a.css")),
     ("/static//x/./y/", Some("/srv/www/x/y")),
@@ -87,8 +91,8 @@ static FILES: [(&'static str, Option<&'static str>); 7] = [
     ("/static/a/../../www/a", Some("refused")),
 ];
 
-// A path, the handler of its route and the rest for the handler, with the handlers 1 at `/`, 2 at
-// `/api`, 3 at `/api/v1` and 4 at `static`, and the fallback 0.
+// A path, the number of its handler, and the rest of the path for the handler. The handlers are 1
+// at `/`, 2 at `/api`, 3 at `/api/v1` and 4 at `static`, and the fallback is 0.
 static ROUTED: [(&'static str, u8, &'static str); 9] = [
     ("/api//users", 2, "users"),
     ("/apis/", 1, "apis"),
@@ -101,7 +105,8 @@ static ROUTED: [(&'static str, u8, &'static str); 9] = [
     ("", 0, ""),
 ];
 
-// Returns true if the path that was found has the expected bytes.
+// Returns true if the path that was found has the expected bytes, or if no path was found and none
+// is expected.
 fn is_wanted(found: Option<PathBuf>, want: Option<&str>) -> bool {
     match (found, want) {
         (Some(found), Some(want)) => found.as_path().as_unix_str() == UnixStr::new(want),
@@ -117,7 +122,8 @@ fn requests_stay_below(rt: HostRuntime) {
     }
 }
 
-// Returns true if the request finds its file, or leaves the buffer unchanged.
+// Returns true if the request finds the row's file, or, if the row has no file, leaves the buffer
+// unchanged.
 fn is_served(alloc: Global, root: &Root, row: &(&str, Option<&str>)) -> Result<bool, AllocError> {
     let mut file = PathBuf::from_text(alloc, "as it was")?;
     let is_found = find_file(root, &mut file, Path::from_text(row.0))?;
@@ -134,7 +140,7 @@ fn requests_find_files(rt: HostRuntime) -> Result<(), Fail> {
     Ok(())
 }
 
-// Returns true if the entry goes where it should, or is rejected for the expected reason.
+// Returns true if the entry is unpacked to the row's path, or is rejected with the row's error.
 fn is_unpacked(alloc: Global, root: &Root, row: &(&str, Result<&str, RequestError>)) -> bool {
     match (unpack_path(alloc, root, Path::from_text(row.0)), row.1) {
         (Ok(target), Ok(want)) => has_bytes(&target, want),
@@ -246,8 +252,8 @@ fn letters(alloc: Global, falls: bool) -> Result<Vec<PathBuf>, AllocError> {
     Ok(paths)
 }
 
-// Returns true if these paths are normalised to `want`. If there is a `last`, it is added after
-// them, and is expected before all of them in the set.
+// Returns true if the paths `given` are normalised to `want`. If there is a path `last`, it is
+// added after the paths `given`, and has to come before all of them in the normalised list.
 fn are_ordered(
     alloc: Global,
     given: &[PathBuf],
@@ -278,8 +284,8 @@ fn listings_are_ordered(rt: HostRuntime) -> Result<(), Fail> {
     Ok(())
 }
 
-// Returns true if `a/b` and `a//b/` are one file of the tree, which is found and removed at the
-// key.
+// Returns true if `a/b` and `a//b/` are one file of the tree, which `get` and `remove` find at the
+// path `key`.
 fn is_one_file(alloc: Global, tree: &mut Tree<u8>, key: &PathBuf) -> Result<bool, AllocError> {
     let first = tree.insert(alloc, Path::from_text("a/b"), 1)?;
     let second = tree.insert(alloc, Path::from_text("a//b/"), 2)?;
@@ -322,7 +328,7 @@ fn an_equal_path_is_found_in_order(rt: HostRuntime) -> Result<(), Fail> {
     Ok(())
 }
 
-// Returns a tree of the mounts that the rows above describe.
+// Returns a tree of the mounts that the comment of `MOUNTED` describes.
 fn mounts(alloc: Global) -> Result<PathTree<Root>, AllocError> {
     let mut mounts = PathTree::new(alloc);
     mounts.insert(
@@ -380,8 +386,8 @@ fn paths_are_routed(rt: HostRuntime) -> Result<(), Fail> {
     Ok(())
 }
 
-// Compares two manifests. Returns true if the expected paths are new, gone and different in the
-// second.
+// Compares two manifests. Returns true if the expected paths are new, gone or different in the
+// second manifest.
 fn has_changed(alloc: Global) -> Result<bool, AllocError> {
     let before = [("a", 1), ("b", 2), ("d//e", 5), ("d.e", 6)];
     let before = tree_of(alloc, before.as_slice())?;

@@ -1,5 +1,5 @@
-//! Tests of path_tree, path_within and callers, in a crate of their own: a crate with tests is
-//! proved twice.
+//! Tests of path_tree, path_within and callers. They are in a crate of their own, because a crate
+//! with tests is proved twice.
 #![tactic(auto)]
 
 #[cfg(test)]

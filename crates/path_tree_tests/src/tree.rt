@@ -1,4 +1,4 @@
-//! Rows of calls of a tree, its callers, and a tree compared with a list.
+//! Tests of `path_tree`: tables of calls, callers, and a tree compared with a list.
 mod beside_list;
 mod children;
 mod marked;
@@ -25,7 +25,7 @@ fn tree_of(alloc: Global, paths: &[&str]) -> Result<PathTree<u32>, AllocError> {
     Ok(tree)
 }
 
-// Returns true if the tree has this value, or none, at the path and at its key.
+// Returns true if the tree has the value `want`, or no value, at the path and at the path's key.
 fn has_at(
     alloc: Global,
     tree: &PathTree<u32>,
@@ -40,8 +40,8 @@ fn has_at(
     Ok(by_path && by_key && is_known && tree.contains(&key) == want.is_some())
 }
 
-// The tree's paths, a path, and the position of the path among them, counted from 1, if it is one
-// of them.
+// The tree's paths, a path, and its position among the tree's paths, counted from 1, if it equals
+// one of them.
 type Row = (&'static [&'static str], &'static [u8], Option<u32>);
 
 static FOUND: [Row; 14] = [
@@ -91,7 +91,8 @@ fn insert_name(
     tree.insert(Path::from_bytes(&name), len)
 }
 
-// Returns true if the tree has the name with its length, and no longer has it once it is removed.
+// Returns true if the tree has the name with its length as the value, and no longer has the name
+// after it is removed.
 fn is_taken_out(alloc: Global, tree: &mut PathTree<u32>, len: u32) -> Result<bool, AllocError> {
     let name = long_name(alloc, len)?;
     Ok(
@@ -102,8 +103,8 @@ fn is_taken_out(alloc: Global, tree: &mut PathTree<u32>, len: u32) -> Result<boo
     )
 }
 
-// Tests that the tree distinguishes names whose keys have one byte less than fits on the stack, as
-// many, and one more.
+// Tests that the tree finds names whose keys have one byte less than fits on the stack, as many,
+// and one more.
 #[test]
 fn long_paths_are_found(rt: HostRuntime) -> Result<(), Fail> {
     let mut tree = PathTree::new(rt.alloc());

@@ -1,4 +1,5 @@
-//! Calls that allocate, compared with calls that write to buffers; rows of requests and roots.
+//! Tests of `path_within`: calls that allocate, compared with calls that write to buffers, and
+//! tables of requests and roots.
 mod bounds;
 mod made;
 mod requests;

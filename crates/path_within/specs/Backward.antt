@@ -25,11 +25,12 @@ parent_dir_count (v ∷ vs) = parent_dir_count vs
 unfoldable pub remaining_parent_dirs : List Value → ℕ
 remaining_parent_dirs vs = parent_dir_count (resolve_onto [] vs)
 
--- of the names that remain of these components, the last n, or all if there are fewer
+-- the last n of the names that remain of these components after resolving, or all if there are
+-- fewer
 abbrev pub last_names : ℕ → List Value → List Value
 last_names n vs = drop (length (names_below vs) - n) (names_below vs)
 
--- a piece as a component; filler becomes `.`, which resolving drops
+-- the bytes of a piece as a component; filler becomes `.`, which resolving drops
 abbrev pub piece_value : List ℕ → Value
 piece_value bytes = if counts bytes then value_of_piece bytes else CurDir
 
@@ -42,19 +43,20 @@ value_in (Name name) = Normal name.bytes.now
 abbrev pub piece_values : List ℕ → List Value
 piece_values s = map piece_value (slice_split is_slash s)
 
--- `name`, the last name that remains of vs, is taken, and ws are the components before it
+-- `name` is the last name that remains of vs after resolving, and the components ws before it
+-- resolve to the same names and `..` as vs, except `name`
 pub record TakesName (name : List ℕ) (vs ws : List Value) : Type 0 where
   pub names : names_below vs ≡ names_below ws ++ Normal name ∷ []
   pub parent_dirs : remaining_parent_dirs vs ≡ remaining_parent_dirs ws
   pub fewer : length ws < length vs
 
--- no name remains of vs, and `..` remains n times
+-- no name and n times `..` remain of vs after resolving
 pub record HasParentDirs (n : ℕ) (vs : List Value) : Type 0 where
   pub names : names_below vs ≡ []
   pub parent_dirs : remaining_parent_dirs vs ≡ n
 
--- what is taken from the components vs: the last name that remains, so that ws are left, or the
--- number of `..` if no name remains
+-- the result of taking the last name that remains of vs: either this name, with the components ws
+-- before it, or, if no name remains, the number of `..` that remain
 abbrev pub Takes : LastResolved → List Value → List Value → Type 0
 Takes (last.Name name) vs ws = TakesName name.bytes.now vs ws
 Takes (ParentDirs n) vs ws = HasParentDirs n vs
@@ -74,8 +76,9 @@ pub record SharePrefix (s t : List ℕ) (index : ℕ) : Type 0 where
   pub first : values s ≡ shared ++ values (drop index s)
   pub second : values t ≡ shared ++ values (drop index t)
 
--- these components, each after a slash, overwrite the bytes of `out` from `start` up to `end`, and
--- `new` is the result; both indices are counted as if there were a slash before `out`
+-- `new` is `out` after these components, each after a slash, have overwritten its bytes from index
+-- `start` to just before index `end`; both indices count an imaginary slash before `out`, at index
+-- 0
 pub record Puts (vs : List Value) (end : ℕ) (out : List ℕ) (start : ℕ) (new : List ℕ) : Type 0 where
   pub size : start + slashed_len vs ≡ end
   pub bytes : (ws : List Value) → drop end (slash ∷ out) ≡ slash_each ws

@@ -16,7 +16,7 @@ use Rattle.path_within.specs.Resolved.{resolved_of}
 unfoldable pub names_below : List Value → List Value
 names_below vs = drop 1 (resolved_of (RootDir ∷ vs))
 
--- a byte is NUL, at which C ends a string
+-- the bytes contain a NUL, at which C ends a string
 abbrev pub has_nul : List ℕ → Bool
 has_nul s = list_any (λ b. b == 0) s
 

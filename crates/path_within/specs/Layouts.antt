@@ -1,5 +1,4 @@
--- The components that the names and layouts of resolved paths represent. No public clause cites
--- these definitions.
+-- The components that a `Names` and a `Layout` represent. No public clause cites these definitions.
 use Rattle.std.specs.Prelude.{List, ◌∷◌, ◌++◌, replicate, if◌then◌else◌}
 use Rattle.unix_path.specs.Parts.{Value, RootDir, ParentDir, values}
 use Rattle.path_within.specs.Backward.{last_names}

@@ -14,15 +14,15 @@ RelativePathReadsBack =
     → values (spelling_of steps) ≡ steps
 
 -- if there is a relative path, the first path joined with it resolves to the same bytes as the
--- other
+-- second path
 abbrev pub RelativePathLeads : Type 0
 RelativePathLeads =
     (from to : List ℕ) (steps : List Value)
     → relative_path_of (values from) (values to) ≡ Some steps
     → resolved_bytes_of (join_of from (spelling_of steps)) ≡ resolved_bytes_of to
 
--- if there is no relative path, no path without a root, joined to the first, resolves to the same
--- bytes as the other
+-- if there is no relative path from one path to another, the first path joined with a path without
+-- a root never resolves to the same bytes as the second path
 abbrev pub NoRelativePath : Type 0
 NoRelativePath =
     (from to b : List ℕ) → relative_path_of (values from) (values to) ≡ None → is_rooted b ≡ false

@@ -14,7 +14,7 @@ is_root RootDir = true
 is_root _ = false
 
 -- the relative path from the directory v to the path w, which have no common prefix: `..` for each
--- name of v, and then w; none if v has a component that is no name, or w has a root
+-- name of v, and then w; `None` if v has a component that is not a name, or if w has a root
 abbrev pub steps_between : List Value → List Value → Option (List Value)
 steps_between v w =
     if list_all is_name v && not (list_any is_root w) then Some (map (λ x. ParentDir) v ++ w)

@@ -38,7 +38,7 @@ AllNames [] = ⊤
 AllNames (Normal name ∷ vs) = AllNames vs
 AllNames vs = ⊥
 
--- these components are `..` any number of times, and then names
+-- these components are zero or more `..`, and then zero or more names
 abbrev pub ParentDirsThenNames : List Value → Type 0
 ParentDirsThenNames (ParentDir ∷ vs) = ParentDirsThenNames vs
 ParentDirsThenNames vs = AllNames vs

@@ -11,17 +11,18 @@ AllParentDirs [] = ⊤
 AllParentDirs (ParentDir ∷ vs) = AllParentDirs vs
 AllParentDirs vs = ⊥
 
--- these components may be a stack: names on top, and below them only the root or only `..`
+-- these components can be the stack of a path: names on top, and below them only the root or only
+-- `..`
 abbrev pub IsStack : List Value → Type 0
 IsStack (Normal name ∷ ks) = IsStack ks
 IsStack (RootDir ∷ ks) = ks ≡ []
 IsStack ks = AllParentDirs ks
 
--- the component's bytes are a path of only this component
+-- parsed as a path, the component's bytes have only this component
 abbrev pub ValueReadsAsItself : Value → Type 0
 ValueReadsAsItself v = values (value_bytes v) ≡ v ∷ []
 
--- the bytes of each of these components are a path of only that component
+-- parsed as a path, the bytes of each of these components have only that component
 abbrev pub ReadsAsItself : List Value → Type 0
 ReadsAsItself vs = AllByRecursion ValueReadsAsItself vs
 

@@ -14,13 +14,12 @@ slashed_len vs = sum_by (λ v. 1 + length (value_bytes v)) vs
 abbrev pub root_prefix : List ℕ → List ℕ
 root_prefix root = root ++ (if needs_no_separator root then [] else slash ∷ [])
 
--- t has no root, and the names of s
+-- t has no root, and the same names remain of t and s after resolving
 pub record RepresentsNames (t s : List ℕ) : Type 0 where
   pub rootless : is_rooted t ≡ false
   pub names : names_below (values t) ≡ names_below (values s)
 
--- there is at least one name, and the bytes are the names, verbatim, with a slash between two of
--- them
+-- there is at least one name, and the bytes are the names with single slashes between them
 pub record AreVerbatim (bytes : List ℕ) (names : List Value) : Type 0 where
   pub some : 0 < length names
   pub is : bytes ≡ slashed_bytes names

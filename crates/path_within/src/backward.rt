@@ -16,7 +16,7 @@ use unix_path::Path;
 // The bytes between two slashes, classified.
 #[derive(Clone, Copy)]
 pub(crate) enum Piece<'a> {
-    // Nothing, or `.`.
+    // No bytes, or `.`.
     Filler,
     // `..`.
     DotDot,
@@ -37,7 +37,8 @@ fn classify_piece(bytes: &[u8]) -> Piece<'_>
     Piece::Name(UnixStr::from_bytes(bytes))
 }
 
-// Returns the path, without the filler after its last component if it ends in a slash or a dot.
+// Returns the path without the filler after its last component. A path that ends in neither a slash
+// nor a dot has no such filler, so it is not parsed.
 #[inline]
 pub(crate) fn without_filler(path: Path<'_>) -> Path<'_>
     ensures { SameValues result.bytes.now path.entry.bytes.now }
@@ -61,7 +62,7 @@ impl<'a> Pieces<'a> {
     ghost use Rattle.path_within.specs.Pieces.{remaining_values};
 
     // Returns the pieces of a path, without trailing filler. Resolving these pieces leaves the same
-    // names as resolving the path and, if the path has no root, as many `..`.
+    // names as resolving the path and, if the path has no root, the same number of `..`.
     #[inline(always)]
     pub(crate) fn new(path: Path<'a>) -> Pieces<'a>
         ensures names { names_below (remaining_values result)
@@ -77,8 +78,8 @@ impl<'a> Pieces<'a> {
         }
     }
 
-    // Takes the last piece. Always inlined, so that a loop over the names keeps the pieces in
-    // registers.
+    // Takes and returns the last piece. Always inlined, so that a loop over the names keeps the
+    // fields of `self` in registers.
     #[inline(always)]
     fn next_back(&mut self) -> Option<Piece<'a>>
         ensures none { result ≡ None → remaining_values self.old ≡ [] }
@@ -95,15 +96,15 @@ impl<'a> Pieces<'a> {
         Some(classify_piece(&bytes[start..]))
     }
 
-    // Takes the last name that remains after resolving, together with all pieces after it, and
-    // returns this name. If no name remains, returns the number of `..` that remain. Always
+    // Takes the last name that remains after resolving, together with all pieces after this name,
+    // and returns the name. If no name remains, returns the number of `..` that remain. Always
     // inlined, for the same reason as `next_back`.
     #[inline(always)]
     pub(crate) fn next_back_resolved(&mut self) -> LastResolved<'a>
         requires { length (remaining_values self.old) < 2 ^ 64 }
         ensures { Takes result (remaining_values self.old) (remaining_values self.new) }
     {
-        // The number of `..` that were taken and have not dropped a name yet.
+        // The number of `..` that have been taken and have not dropped a name yet.
         let mut parent_dirs = 0_usize;
         while let Some(piece) = self.next_back() {
             match piece {
@@ -126,11 +127,11 @@ impl<'a> Pieces<'a> {
 pub(crate) enum LastResolved<'a> {
     // A name.
     Name(UnixStr<'a>),
-    // There is no name, and `..` is there this many times.
+    // The path has no name, and this many `..`.
     ParentDirs(usize),
 }
 
-// The contents of a resolved path, other than its root.
+// The numbers of components of a resolved path, except its root.
 #[derive(Clone, Copy)]
 pub(crate) struct Counts {
     // The number of `..`.
@@ -141,7 +142,7 @@ pub(crate) struct Counts {
     pub(crate) len: usize,
 }
 
-// Counts the contents of the path after it is resolved.
+// Counts the `..` and the names that remain of the path after it is resolved.
 pub(crate) fn count_resolved(path: Path<'_>) -> Counts
     ensures parent_dirs { result.parent_dirs ≡ remaining_parent_dirs (values path.entry.bytes.now) }
     ensures names { result.names ≡ length (names_below (values path.entry.bytes.now)) }
@@ -170,8 +171,8 @@ pub(crate) fn count_resolved(path: Path<'_>) -> Counts
 }
 
 // Overwrites the bytes before `end` with a slash and the name. Returns the index of the slash. Both
-// indices are counted as if there were a slash before `out`, at index 0. If the name is written to
-// the beginning of `out`, this is its slash.
+// indices count an imaginary slash before `out`: it is at index 0, and the first byte of `out` is
+// at index 1. If the name is written to the beginning of `out`, its slash is the imaginary one.
 #[inline]
 pub(crate) fn put_before(out: &mut [u8], end: usize, name: &[u8]) -> usize
     requires in_range { end ≤ 1 + length out.old }
@@ -188,9 +189,9 @@ pub(crate) fn put_before(out: &mut [u8], end: usize, name: &[u8]) -> usize
     start
 }
 
-// Overwrites the bytes before `end` with the last `count` names of the resolved path, and a slash
-// before each. Returns the index of the first of these slashes. Indices are counted as in
-// `put_before`.
+// Overwrites the bytes before `end` with the last `count` names that remain of the path after it is
+// resolved, each after a slash. If fewer names remain, writes all of them. Returns the index of the
+// first of these slashes, or `end` if there are none. Indices are counted as in `put_before`.
 #[inline(never)]
 pub(crate) fn put_names_before(out: &mut [u8], end: usize, path: Path<'_>, count: usize) -> usize
     requires in_range { end ≤ 1 + length out.old }
@@ -210,8 +211,8 @@ pub(crate) fn put_names_before(out: &mut [u8], end: usize, path: Path<'_>, count
     end
 }
 
-// Overwrites the bytes before `end` with as many `..` as fit, and a slash before each. The index is
-// counted as in `put_before`.
+// Overwrites the bytes before `end` with as many `..` as fit, each after a slash. `end` is counted
+// as in `put_before`.
 pub(crate) fn put_parent_dirs_before(out: &mut [u8], end: usize)
     requires { end ≤ 1 + length out.old }
     ensures { (n : ℕ) → end ≡ 3 * n → Puts (replicate n ParentDir) end out.old 0 out.new }

@@ -16,9 +16,9 @@ use unix_path::{Component, Path};
 pub(crate) enum Check {
     // The path fails the test.
     Refused,
-    // The path passes, and is one of names only.
+    // The path passes, and is one of names only (see the module `names_only`).
     NamesOnly,
-    // The path passes. It may be one of names only.
+    // The path passes. It may or may not be one of names only.
     Accepted,
 }
 
@@ -40,7 +40,7 @@ impl Check {
     }
 }
 
-/// Returns true if a byte is NUL, at which a system call cuts a path.
+/// Returns true if the bytes contain a NUL byte, at which a system call ends a path.
 ///
 /// Reads 16 bytes at a time.
 ///
@@ -53,7 +53,7 @@ pub fn has_nul(bytes: &[u8]) -> bool
     find_byte(bytes, 0) < bytes.len()
 }
 
-// Returns true if the path escapes. Visits its components one by one.
+// Returns true if the path escapes. Visits the path's components one by one.
 fn escapes_by_components(path: Path<'_>) -> bool
     ensures { IsTrue result ↔ Escapes (values path.entry.bytes.now) }
 {
@@ -70,7 +70,7 @@ fn escapes_by_components(path: Path<'_>) -> bool
     false
 }
 
-// Tests whether the path escapes. Does not visit the components of a path of names only.
+// Tests whether the path escapes. Accepts a path of names only without visiting its components.
 pub(crate) fn check_escape(path: Path<'_>) -> Check
     ensures refused { result ≡ Refused ↔ Escapes (values path.entry.bytes.now) }
     ensures names_only { result ≡ NamesOnly → is_names_only path.entry.bytes.now ≡ true }
@@ -95,8 +95,8 @@ fn is_root_or_parent_dir(part: Component<'_>) -> bool
     matches!(part, Component::RootDir | Component::ParentDir)
 }
 
-// Tests whether the path has a root or a `..`. Does not visit the components of a path of names
-// only.
+// Tests whether the path has a root or a `..`. Accepts a path of names only without visiting its
+// components.
 pub(crate) fn check_parent_dir(path: Path<'_>) -> Check
     ensures refused { result ≡ Refused
         ↔ (has_root_or_parent_dir (values path.entry.bytes.now) ≡ true) }
@@ -119,8 +119,8 @@ pub(crate) fn check_parent_dir(path: Path<'_>) -> Check
 /// than names.
 ///
 /// Purely lexical: if a component may be a symbolic link, only the system knows where a `..` leads.
-/// Go's `filepath.IsLocal` returns the opposite, except that it returns false for the empty path,
-/// which does not escape.
+/// Go's `filepath.IsLocal` returns the opposite, except for the empty path, for which both return
+/// false.
 ///
 /// It is true for `a/../../root/x` and `/a`, and false for `a/../..foo`.
 #[must_use]
@@ -132,8 +132,8 @@ pub fn escapes(path: Path<'_>) -> bool
 
 /// Returns true if the path has a root or any `..`.
 ///
-/// Lexically, a path with neither only goes down from the root that it is joined to.
-/// `join_verbatim` refuses all other paths.
+/// `join_verbatim` refuses such a path as a request. Lexically, any other path only goes down from
+/// the root that it is joined to.
 ///
 /// It is true for `/a` and `a/../b`, and false for `./a` and `..a`.
 #[must_use]

@@ -1,5 +1,5 @@
-//! Paths of names only: their bytes are a root, if they have one, and then names with one slash
-//! between two of them.
+//! Paths of names only: the bytes of such a path are an optional root, and then one or more names
+//! with single slashes between them.
 ghost use Rattle.std.specs.Prelude.{◌≡◌, true, IsTrue};
 ghost use Rattle.path_within.specs.NamePieces.{name_starts_at, is_names_only};
 

@@ -18,8 +18,8 @@ fn is_name(part: Component<'_>) -> bool
     matches!(part, Component::Normal(_))
 }
 
-// Returns true if all these components are names. Does not visit the components of a path of names
-// only.
+// Returns true if all these components are names. Recognises a path of names only without visiting
+// its components.
 #[inline]
 pub(crate) fn are_names(parts: Components<'_>) -> bool
     ensures { result ≡ list_all is_name (cursor_values parts.entry) }
@@ -40,7 +40,7 @@ fn is_parent_dir(part: Component<'_>) -> bool
     matches!(part, Component::ParentDir)
 }
 
-// Returns true if these components are `..`, any number of times, and then names.
+// Returns true if these components are zero or more `..`, and then zero or more names.
 fn are_parent_dirs_then_names(parts: Components<'_>) -> bool
     ensures { IsTrue result ↔ ParentDirsThenNames (cursor_values parts.entry) }
 {
@@ -65,20 +65,20 @@ fn is_normal(parts: Components<'_>) -> bool
     }
 }
 
-// Returns true if the path is resolved already: if `resolved` returns the same bytes for it. Not
-// inlined, so that its callers, which call it for few paths, stay small.
+// Returns true if the path is resolved already, that is, if `resolved` returns the same bytes. Not
+// inlined, because it is called for few paths, and its callers should stay small.
 #[inline(never)]
 pub(crate) fn is_resolved(path: Path<'_>) -> bool
     ensures { IsTrue result
         ↔ (resolved_bytes_of path.entry.bytes.now ≡ path.entry.bytes.now) }
 {
-    // `is_canonical` looks for a gap 16 bytes at a time, so it is called first.
+    // `is_canonical` reads 16 bytes at a time and is the faster test, so it is called first.
     is_canonical(path) && is_normal(path.components())
 }
 
 // Returns true only if the path is resolved already, and always for the empty path. Visits the
-// components of few paths: only where the first piece is not a name, or the path ends in a dot that
-// is not filler.
+// components of few paths: only if the first piece is not a name, or if the path ends in a dot but
+// not in `/.`.
 #[inline]
 pub(crate) fn is_known_resolved(path: Path<'_>) -> bool
     ensures resolved { IsTrue result

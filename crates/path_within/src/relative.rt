@@ -75,8 +75,8 @@ fn after_shared<'a, 'b>(from: Path<'a>, to: Path<'b>) -> (Path<'a>, Path<'b>)
     }
 }
 
-// Returns the relative path between two paths of names only. Either both have a root, or neither
-// has one.
+// Returns the relative path from one path to another. Both are paths of names only. Either both
+// have a root, or neither has one.
 fn names_only_steps<'a>(from: Path<'_>, to: Path<'a>) -> Layout<'a>
     requires from { is_names_only from.bytes.now ≡ true }
     requires to { is_names_only to.bytes.now ≡ true }
@@ -91,7 +91,8 @@ fn names_only_steps<'a>(from: Path<'_>, to: Path<'a>) -> Layout<'a>
     )
 }
 
-// Takes `count` names from the end of a walk. Returns their length, with a slash for each.
+// Takes the last `count` names that remain after resolving. Returns the length of these names, with
+// a slash for each.
 fn skip_last_names(rest: &mut Pieces<'_>, count: usize) -> usize
     requires few { length (remaining_values rest.old) < 2 ^ 64 }
     requires some { count ≤ length (names_below (remaining_values rest.old)) }
@@ -122,9 +123,9 @@ struct SharedNames {
 
 // Counts the names that two paths both start with after they are resolved. Resolved, `from` has
 // `first` names, and `to` has `second` names. Names are found from the last to the first. The path
-// with more names first skips its extra last names; the remaining names are compared in pairs, one
-// from each path. The shared names end before the pair that differs and has the lowest index, which
-// is the last such pair found.
+// with more names first skips its extra last names. Then the remaining names are compared in pairs,
+// one from each path. The shared names end before the differing pair with the lowest index, which
+// is the last differing pair found.
 fn shared_names(from: Path<'_>, first: usize, to: Path<'_>, second: usize) -> SharedNames
     requires first { first ≡ length (names_below (values from.bytes.now)) }
     requires second { second ≡ length (names_below (values to.bytes.now)) }
@@ -155,8 +156,8 @@ fn shared_names(from: Path<'_>, first: usize, to: Path<'_>, second: usize) -> Sh
     SharedNames { count, len }
 }
 
-// Returns the relative path between two paths, or `None` if there is none. Either both have a root,
-// or neither has one.
+// Returns the relative path from one path to another, or `None` if there is none. Either both paths
+// have a root, or neither has one.
 fn resolved_steps<'a>(from: Path<'_>, to: Path<'a>) -> Option<Layout<'a>>
     requires { is_rooted from.bytes.now ≡ is_rooted to.bytes.now }
     ensures { option_map layout_values result
@@ -179,7 +180,7 @@ fn resolved_steps<'a>(from: Path<'_>, to: Path<'a>) -> Option<Layout<'a>>
     Some(Layout::after_parent_dirs(first.names - shared.count, names))
 }
 
-// Returns the relative path between two paths, or `None` if there is none.
+// Returns the relative path from one path to another, or `None` if there is none.
 fn steps<'a>(from: Path<'_>, to: Path<'a>) -> Option<Layout<'a>>
     ensures { option_map layout_values result
         ≡ relative_path_of (values from.entry.bytes.now) (values to.entry.bytes.now) }
@@ -197,10 +198,10 @@ fn steps<'a>(from: Path<'_>, to: Path<'a>) -> Option<Layout<'a>>
 ///
 /// Both paths are resolved lexically, and the components that both then start with are dropped. The
 /// relative path is a `..` for each remaining name of the first path, and then the rest of the
-/// second. Between equal paths it is the empty path. It is `None` if and only if one path has a
-/// root and the other has none, or the rest of the first path contains a `..`. Then no path without
-/// a root leads there. Python's `PurePath.relative_to` with `walk_up` does the same without
-/// resolving.
+/// second. Between equal paths it is the empty path. The result is `None` if and only if one path
+/// has a root and the other has none, or the rest of the first path contains a `..`. Then no path
+/// without a root leads from the first path to the second. Python's `PurePath.relative_to` with
+/// `walk_up` does the same without resolving.
 ///
 /// Purely lexical: if a component may be a symbolic link, only the system knows where a `..` leads.
 /// The result is allocated once; an empty one allocates nothing. Fails if the allocation fails, and
@@ -228,10 +229,10 @@ pub fn relative_path(
 /// Writes the relative path from one path to another to the beginning of `out`. Returns its length,
 /// or `None` if there is no relative path.
 ///
-/// The relative path is what `relative_path` returns. If it fits, the rest of `out` is unchanged.
-/// If it is longer than `out`, nothing is written, and its length is still returned, or
-/// `usize::MAX` if its length is greater than that. If there is no relative path, nothing is
-/// written.
+/// The function `relative_path` returns the same path. If the path fits, the rest of `out` is
+/// unchanged. If the path is longer than `out`, nothing is written, and its length is still
+/// returned, or `usize::MAX` if its length is greater than that. If there is no relative path,
+/// nothing is written.
 ///
 /// From `/a/b/c` to `/a/d` it is `../../d`, of 7 bytes.
 pub fn write_relative_path(from: Path<'_>, to: Path<'_>, out: &mut [u8]) -> Option<usize>

@@ -84,8 +84,8 @@ fn leading_slash_count(bytes: &[u8]) -> usize
 #[derive(Clone, Copy)]
 pub struct Request<'a> {
     path: Path<'a>,
-    // If true, the bytes are names with one slash between two of them, so a join copies the path in
-    // one piece, without parsing it. If false, nothing is known.
+    // If true, the bytes are names with single slashes between them, so a join copies the path as a
+    // whole, without parsing it. If false, nothing is known of the bytes.
     is_verbatim: bool,
     ghost rootless: { is_rooted path.bytes.now ≡ false },
     ghost no_nul: { has_nul path.bytes.now ≡ false },
@@ -96,8 +96,8 @@ impl<'a> Request<'a> {
     ghost use Rattle.path_within.specs.Layouts.{names_in};
     ghost use Rattle.path_within.specs.Requests.{request_bytes, request_names};
 
-    // Wraps a path that the caller has checked: it has no root and no NUL, and is one of names only
-    // if `is_verbatim`.
+    // Wraps a path that the caller has checked. The path has no root and no NUL. If `is_verbatim`
+    // is true, the path is one of names only.
     #[inline]
     pub(crate) fn from_checked(path: Path<'a>, is_verbatim: bool) -> Request<'a>
         requires rootless { is_rooted path.bytes.now ≡ false }
@@ -110,10 +110,11 @@ impl<'a> Request<'a> {
 
     /// Checks a path from outside that must stay beneath the root to which it will be joined.
     ///
-    /// The request represents the names of the path, resolved. The path is refused with the first
-    /// error that applies: `Rooted` if it has a root, `Escapes` if some prefix of its components
-    /// has more `..` than names, `Nul` if it has a NUL byte. Go's `filepath.IsLocal` is the same
-    /// test, except that it refuses the empty path and accepts a NUL.
+    /// The request represents the names that remain of the path after it is resolved. The path is
+    /// refused with the first error that applies: `Rooted` if it has a root, `Escapes` if some
+    /// prefix of its components has more `..` than names, `Nul` if it has a NUL byte. Go's
+    /// `filepath.IsLocal` is the same test, except that it refuses the empty path and accepts a
+    /// NUL.
     ///
     /// `a//../b` becomes a request that represents `b`. `/a`, `a/../..` and `a\0.png` are refused.
     #[inline]
@@ -148,8 +149,9 @@ impl<'a> Request<'a> {
     }
 
     /// Checks a path from outside that is read as in a chroot: leading slashes are dropped, and a
-    /// `..` at the top stays at the top. It is for the paths of URLs and archives. Percent-encoding
-    /// is not decoded.
+    /// `..` at the top stays at the top. It is for the paths of URLs, and for other requests that
+    /// are read as in a chroot; for entries of archives use `beneath`. Percent-encoding is not
+    /// decoded.
     ///
     /// The error is `Nul` if and only if the path has a NUL byte; there is no other error. The
     /// names are those of Go's `path.Clean` for `/` followed by the path.
@@ -175,8 +177,8 @@ impl<'a> Request<'a> {
         })
     }
 
-    /// Returns the path of the request, not resolved. After `in_root` it is without its leading
-    /// slashes, and it may escape: join the request, never this path.
+    /// Returns the path of the request, unresolved. If `in_root` returned the request, the path has
+    /// lost its leading slashes, and it may escape: join the request, never this path.
     ///
     /// For the request of `a/../b/` it is `a/../b/`.
     #[must_use]
@@ -189,7 +191,7 @@ impl<'a> Request<'a> {
         self.path
     }
 
-    // Returns true only if the bytes are names with one slash between two of them.
+    // Returns true only if the bytes are names with single slashes between them.
     #[inline]
     pub(crate) fn is_verbatim(&self) -> bool
         ensures { IsTrue result → is_names_only (request_bytes self.now) ≡ true }
@@ -205,10 +207,10 @@ impl<'a> Request<'a> {
         Layout::names_of(self.path, self.is_verbatim)
     }
 
-    /// Writes the request joined to a root to the beginning of `out`. Returns the length of the
-    /// join.
+    /// Joins the request to a root, and writes the join to the beginning of `out`. Returns the
+    /// length of the join.
     ///
-    /// The join is what `Root::join` returns for `Root::verbatim` of this root. The root's bytes
+    /// `Root::join` returns the same join for a root created by `Root::verbatim`. The root's bytes
     /// come first, unchanged; to join to a resolved root, resolve the root once beforehand. The
     /// names follow, with a `/` between two names, and a `/` before the first name unless the root
     /// is empty or ends in `/`. If the join fits, the rest of `out` is unchanged. If the join is
@@ -257,7 +259,7 @@ impl<'a> Request<'a> {
     /// Returns true if the path's last component is a name, and a slash or a `/.` follows it. The
     /// path is not resolved for this.
     ///
-    /// A system call then requires the name to be a directory. A join drops what follows the names.
+    /// A system call then requires the name to be a directory. A join drops the slash or `/.`.
     ///
     /// It is true for the requests of `a/` and `a/.`, and false for the requests of `a` and `a/..`.
     #[must_use]
@@ -277,7 +279,7 @@ impl fmt::Debug for Request<'_> {
 
 /// Returns true if no name remains of the path after it is resolved as in a chroot. If
 /// `Request::in_root` accepts such a path, a join with the request is the root itself.
-/// `Request::beneath` may refuse it. NUL bytes are not looked for.
+/// `Request::beneath` may refuse such a path. Does not test for NUL bytes.
 ///
 /// It is true for `a/..`, `/`, `..` and the empty path, and false for `.foo` and `a/../b`.
 #[must_use]

@@ -23,9 +23,9 @@ fn resolve_to_path_buf(alloc: Global, path: Path<'_>) -> Result<PathBuf, AllocEr
 
 /// Returns the path resolved lexically, in canonical form: each `..` drops the name before it.
 ///
-/// Each `.` is dropped too, and so is each `..` after the root. Without a root, a `..` with no name
-/// before it stays at the beginning. The empty path is the current directory. Go's `path.Clean`
-/// returns the same, except that it returns `.` where this function returns the empty path.
+/// Each `.` is dropped too, and so is each `..` directly after the root. If the path has no root, a
+/// `..` that finds no name to drop stays, at the beginning of the result. An empty result means the
+/// current directory. Go's `path.Clean` then returns `.`, and otherwise the same result.
 ///
 /// Purely lexical: if a component before a `..` may be a symbolic link, only the system knows where
 /// that `..` leads. The result is allocated once; an empty one allocates nothing. Fails if the
@@ -42,12 +42,12 @@ pub fn resolved(alloc: Global, path: Path<'_>) -> Result<PathBuf, AllocError>
     resolve_to_path_buf(alloc, path)
 }
 
-/// Writes the path resolved lexically to the beginning of `out`. Returns the length of the resolved
-/// path.
+/// Resolves the path lexically, and writes the result to the beginning of `out`. Returns the length
+/// of the result.
 ///
-/// The resolved path is what `resolved` returns, and is never longer than the path. If it fits, the
-/// rest of `out` is unchanged. If it is longer than `out`, nothing is written, and its length is
-/// still returned.
+/// The result is the path that `resolved` returns, which is never longer than `path`. If it fits,
+/// the rest of `out` is unchanged. If it is longer than `out`, nothing is written, but its length
+/// is still returned.
 ///
 /// `a/../..//b/.` resolves to `../b`, of 4 bytes.
 pub fn write_resolved(path: Path<'_>, out: &mut [u8]) -> usize

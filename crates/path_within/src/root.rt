@@ -56,8 +56,8 @@ impl fmt::Display for StripError {
 
 impl Error for StripError {}
 
-// Appends bytes that fit in the spare capacity. The early return is never taken; it is there so
-// that no code to grow the vector is built, and the vector's fields stay in registers.
+// Appends bytes that fit in the spare capacity. The early return is never taken. Because of it, the
+// compiler leaves out the code that grows the vector, and keeps the vector's fields in registers.
 #[inline]
 fn append(bytes: &mut Vec<u8>, more: &[u8])
     requires { length bytes.old.items + length more.now ≤ vec_capacity bytes.old }
@@ -70,8 +70,8 @@ fn append(bytes: &mut Vec<u8>, more: &[u8])
     let _ = bytes.extend_from_slice(more);
 }
 
-// Appends the root prefix: the root, and a slash unless the root is empty or ends in one. Both fit
-// in the spare capacity.
+// Appends the root prefix: the root, and a slash unless the root is empty or ends in a slash. The
+// root prefix fits in the spare capacity.
 #[inline]
 fn append_root_prefix(bytes: &mut Vec<u8>, root: &[u8])
     requires { length bytes.old.items + length root.now + 1 ≤ vec_capacity bytes.old }
@@ -84,8 +84,8 @@ fn append_root_prefix(bytes: &mut Vec<u8>, root: &[u8])
     }
 }
 
-// Returns the root prefix and then a path, in the memory of `previous`, which has the capacity for
-// both.
+// Returns the root prefix of the first path, and then the second path. Reuses the memory of
+// `previous`, which has enough capacity.
 #[inline]
 fn join_bytes_in(previous: PathBuf, both: (Path<'_>, Path<'_>)) -> (PathBuf, ())
     requires { length both.0.bytes.now + 1 + length both.1.bytes.now ≤ capacity previous }
@@ -99,9 +99,9 @@ fn join_bytes_in(previous: PathBuf, both: (Path<'_>, Path<'_>)) -> (PathBuf, ())
     (PathBuf::from(UnixString::from(bytes)), ())
 }
 
-// Returns the join of a root and a request in the memory of `previous`, which has the capacity for
-// both. First fills the memory with the root prefix and the bytes of the request. Then overwrites
-// them with the join, which is no longer.
+// Returns the join of a root and a request. Reuses the memory of `previous`, which has enough
+// capacity. First writes the root prefix and the bytes of the request to the memory. Then
+// overwrites these bytes with the join, which is at most as long.
 fn join_request_in(previous: PathBuf, both: (Path<'_>, Request<'_>)) -> (PathBuf, ())
     requires { length both.0.bytes.now + 1 + length (request_bytes both.1) ≤ capacity previous }
     ensures { path_bytes result.0
@@ -132,9 +132,9 @@ impl Root {
 
     /// Returns the root with this path, resolved lexically.
     ///
-    /// If a component before a `..` may be a symbolic link, use `verbatim`. The resolved path is
-    /// allocated once. An empty one, which is the current directory, allocates nothing. Fails if
-    /// the allocation fails.
+    /// If a component before a `..` may be a symbolic link, use `verbatim`. Allocates the resolved
+    /// path once, or nothing if it is empty, which means the current directory. Fails if the
+    /// allocation fails.
     ///
     /// For `/srv/a/../www/` it is the root `/srv/www`.
     pub fn new(alloc: Global, path: Path<'_>) -> Result<Root, AllocError>
@@ -146,9 +146,9 @@ impl Root {
 
     /// Returns the root with this path, verbatim.
     ///
-    /// It is for roots whose components may be symbolic links: each `..` leads where the system
-    /// says. Allocates once, as many bytes as the path has, and nothing for the empty path. Fails
-    /// if the allocation fails.
+    /// It is for roots whose components may be symbolic links: each `..` stays, and the system
+    /// determines where it leads. Allocates once, as many bytes as the path has, and nothing for
+    /// the empty path. Fails if the allocation fails.
     ///
     /// For `/srv/a/../www/` it is the root `/srv/a/../www/`.
     pub fn verbatim(alloc: Global, path: Path<'_>) -> Result<Root, AllocError>
@@ -169,7 +169,8 @@ impl Root {
         self.path.as_path()
     }
 
-    // Writes the join of a request and the root to a buffer, which has the capacity for both.
+    // Replaces the contents of a buffer with the join of the root and a request. The buffer has
+    // enough capacity.
     #[inline(always)]
     fn fill(&self, buffer: &mut PathBuf, request: Request<'_>)
         requires { length (root_bytes self.now) + 1 + length (request_bytes request)
@@ -185,7 +186,7 @@ impl Root {
         replace_with(buffer, (self.as_path(), request), join_request_in);
     }
 
-    // Returns a length that no join with the request exceeds.
+    // Returns an upper bound on the length of the join of the root and the request.
     #[inline]
     fn max_len(&self, request: Request<'_>) -> usize
         ensures { result ≡ length (root_bytes self.now) + 1 + length (request_bytes request.entry) }
@@ -197,9 +198,9 @@ impl Root {
     /// a `/` between two names, and a `/` before the first name unless the root is empty or ends in
     /// `/`.
     ///
-    /// What follows the root has no `..`, no `.`, no NUL and no trailing slash. If the request has
-    /// no name, the join is the root itself. Allocates once, one byte more than the root and the
-    /// request have. Fails only if the allocation fails.
+    /// After the root there is no `..`, no `.`, no NUL and no trailing slash. If the request has no
+    /// name, the join is the root itself. Allocates once, one byte more than the root and the
+    /// request have together. Fails only if the allocation fails.
     ///
     /// Below `/srv/www` the request `a/../b/` is `/srv/www/b`.
     #[must_use]
@@ -214,11 +215,11 @@ impl Root {
         Ok(joined)
     }
 
-    /// Replaces what the buffer holds with the request joined to the root, as `join` returns it.
+    /// Replaces the contents of the buffer with the join that `join` returns.
     ///
-    /// If the capacity is at least one byte more than the root and the request have, it allocates
-    /// nothing and succeeds. Otherwise it allocates once. If the allocation fails, the buffer is
-    /// unchanged.
+    /// If the buffer's capacity is at least one byte more than the root and the request have
+    /// together, it allocates nothing and succeeds. Otherwise it allocates once. If the allocation
+    /// fails, the buffer is unchanged.
     ///
     /// Below `/srv/www` the request `a` turns a buffer that holds `/tmp` into `/srv/www/a`.
     #[inline(always)]

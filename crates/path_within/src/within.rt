@@ -19,7 +19,7 @@ use std::error::Error;
 use std::fmt;
 use unix_path::{Path, PathBuf};
 
-/// The error of a join of a request to its root.
+/// The error of `join_within` and `join_verbatim`.
 ///
 /// Displaying it pads the text like any string.
 #[derive(Debug, Drop)]
@@ -27,8 +27,8 @@ pub enum WithinError {
     /// The request escapes or, for `join_verbatim`, has a root or a `..`. It is printed as
     /// `path leaves its root`.
     Escapes,
-    /// The request of `join_verbatim` has neither a root nor a `..`, and has a NUL byte. It is
-    /// printed as `path has a NUL byte`.
+    /// The request has a NUL byte, and neither a root nor a `..`. Only `join_verbatim` returns this
+    /// error. It is printed as `path has a NUL byte`.
     Nul,
     /// An allocation failed. It is printed as `out of memory`.
     Memory(AllocError),
@@ -68,7 +68,8 @@ impl From<AllocError> for WithinError {
     }
 }
 
-/// Returns the request joined to the root, resolved: a path that starts with the resolved root.
+/// Joins the request to the root, and resolves the join lexically. The result starts with the
+/// resolved root.
 ///
 /// The error is `Escapes` if and only if the request escapes; nothing has been allocated then. The
 /// error is `Memory` if the allocation fails. A trailing slash of the request is dropped, and the
@@ -81,7 +82,7 @@ impl From<AllocError> for WithinError {
 /// A request with a NUL byte is not refused, and `..\0` is a name. A system call reads a path only
 /// up to its first NUL, so it may read the result as the root's parent. For `/srv` and `..\0/a` the
 /// result is `/srv/..\0/a`, which a system call reads as `/srv/..`. `Request::beneath` and
-/// `Request::in_root` refuse a NUL, and `has_nul` finds one.
+/// `Request::in_root` refuse a path with a NUL, and `has_nul` tests for one.
 ///
 /// `/srv/www` with `a/../b` is `/srv/www/b`. With `a/../../x` it is refused.
 pub fn join_within(alloc: Global, root: Path<'_>, request: Path<'_>) -> Result<PathBuf, WithinError>
@@ -110,14 +111,14 @@ pub fn join_within(alloc: Global, root: Path<'_>, request: Path<'_>) -> Result<P
 /// Returns the request joined to the root, both verbatim, if the request has no root, no `..` and
 /// no NUL.
 ///
-/// It is for a root that is a symbolic link or may contain some: each `..` of the root stays.
-/// Lexically, the request only goes down from the root. A link below the root is followed wherever
-/// it leads. The root may contain a NUL. A trailing slash of the request stays, and the result may
-/// be the root itself, with a trailing slash. A request with a leading slash is refused; for paths
-/// of URLs use `Request::in_root`.
+/// It is for a root whose components may be symbolic links: each `..` of the root stays. Lexically,
+/// the request only goes down from the root. The system follows a link below the root wherever it
+/// leads. The root may contain a NUL. A trailing slash of the request stays, and the result may be
+/// the root itself, with a trailing slash. A request with a leading slash is refused; for paths of
+/// URLs use `Request::in_root`.
 ///
 /// The error is `Escapes` if and only if the request has a root or any `..`. Otherwise it is `Nul`
-/// if and only if the request has a NUL byte, at which a system call would cut the join. Nothing
+/// if and only if the request has a NUL byte, at which a system call would end the join. Nothing
 /// has been allocated in either case. The error is `Memory` if the allocation fails. Allocates
 /// once, as many bytes as the join has. If both paths are empty, it allocates nothing and succeeds.
 ///

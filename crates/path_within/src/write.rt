@@ -21,7 +21,7 @@ use unix_path::filler::after_filler;
 use unix_path::path_end::needs_no_separator;
 use unix_path::{Path, PathBuf};
 
-// The last names of a path, after it is resolved.
+// The last names that remain of a path after it is resolved.
 #[derive(Clone, Copy)]
 pub(crate) struct Names<'a> {
     path: Path<'a>,
@@ -29,7 +29,8 @@ pub(crate) struct Names<'a> {
     count: usize,
     // The length of the names, with a slash for each.
     pub(crate) len: usize,
-    // True only if the path's bytes are these names. A join then copies them in one piece.
+    // True only if the path's bytes are these names, with single slashes between them. A join then
+    // copies the path as a whole.
     is_verbatim: bool,
     ghost len_is: { len ≡ slashed_len (last_names count (values path.bytes.now)) },
     ghost fits: { len ≤ 2 ^ 63 },
@@ -63,7 +64,8 @@ impl<'a> Names<'a> {
         }
     }
 
-    // Returns the names of a path whose bytes are its names.
+    // Returns the names of a path whose bytes are just these names, with single slashes between
+    // them.
     #[inline]
     fn verbatim(path: Path<'a>) -> Names<'a>
         requires { AreVerbatim path.bytes.now (names_below (values path.bytes.now)) }
@@ -77,8 +79,8 @@ impl<'a> Names<'a> {
         }
     }
 
-    // Returns the last names of a path, at most `count` of them. `len` is their length, with a
-    // slash for each.
+    // Returns the last `count` names that remain of a path after it is resolved, or all if there
+    // are fewer. `len` is the length of these names, with a slash for each.
     #[inline]
     pub(crate) fn last(path: Path<'a>, count: usize, len: usize) -> Names<'a>
         requires { len ≡ slashed_len (last_names count (values path.bytes.now)) }
@@ -92,9 +94,9 @@ impl<'a> Names<'a> {
         }
     }
 
-    // Overwrites the bytes before `end` with the names and a slash before each. Returns the index
-    // of the first of these slashes. Both indices are counted as if there were a slash before
-    // `out`, at index 0.
+    // Overwrites the bytes before `end` with the names, each after a slash. Returns the index of
+    // the first of these slashes, or `end` if there are no names. Both indices count an imaginary
+    // slash before `out`: it is at index 0, and the first byte of `out` is at index 1.
     #[inline(always)]
     pub(crate) fn put_before(&self, out: &mut [u8], end: usize) -> usize
         requires in_range { end ≤ 1 + length out.old }
@@ -110,7 +112,7 @@ impl<'a> Names<'a> {
         put_names_before(out, end, self.path, self.count)
     }
 
-    // Returns the length of a join: the root, and then these names.
+    // Returns the length of the join of `root` and these names.
     #[inline]
     fn joined_len(&self, root: &[u8]) -> usize
         ensures { result ≡ length (below_of root.now (names_in self.now)) }
@@ -121,19 +123,19 @@ impl<'a> Names<'a> {
         root.len() + self.len - usize::from(needs_no_separator(root))
     }
 
-    // Writes a join over all of `out`, which has the join's length.
+    // Fills `out` with the join of `root` and these names. `out` has the length of the join.
     #[inline]
     fn fill_join(&self, root: &[u8], out: &mut [u8])
         requires { length out.old ≡ length (below_of root.now (names_in self.now)) }
         ensures { out.new ≡ below_of root.now (names_in self.now) }
     {
-        // The slash before the first name is written too; it may be the root's last byte.
+        // This writes a slash before the first name too. It may be the root's last byte.
         self.put_before(out, 1 + out.len());
         write_at(out, 0, root);
     }
 
-    // Writes a join, the root and then these names, to the beginning of `out` if all of it fits.
-    // Returns its length either way.
+    // Writes the join of `root` and these names to the beginning of `out` if all of the join fits.
+    // Returns the length of the join either way.
     #[inline(always)]
     pub(crate) fn write_join(&self, root: &[u8], out: &mut [u8]) -> usize
         ensures out { out.new ≡ buffer_after (below_of root.now (names_in self.now)) out.old }
@@ -147,7 +149,7 @@ impl<'a> Names<'a> {
     }
 }
 
-// The layout of a resolved path: the root, or `..` any number of times, and then names.
+// The layout of a resolved path: either the root or zero or more `..`, and then zero or more names.
 #[derive(Clone, Copy)]
 pub(crate) struct Layout<'a> {
     has_root: bool,
@@ -161,7 +163,7 @@ pub(crate) struct Layout<'a> {
 impl<'a> Layout<'a> {
     ghost use Rattle.path_within.specs.Layouts.{layout_names, layout_values, names_in};
 
-    // Returns the layout of `..`, `parent_dirs` times, and then these names.
+    // Returns the layout that has `..` `parent_dirs` times, and then these names.
     #[inline]
     pub(crate) fn after_parent_dirs(parent_dirs: usize, names: Names<'a>) -> Layout<'a>
         ensures { layout_values result ≡ replicate parent_dirs ParentDir ++ names_in names.entry }
@@ -200,8 +202,8 @@ impl<'a> Layout<'a> {
         }
     }
 
-    // Returns the names of a path. Not inlined, so that its callers stay small. Few of their paths
-    // need it: the bytes of most are their names.
+    // Resolves a path, and returns its names. Not inlined, so that its callers stay small. They
+    // rarely call it, because the bytes of most paths are their names.
     #[inline(never)]
     pub(crate) fn resolve_names(path: Path<'a>) -> Names<'a>
         ensures { names_in result ≡ names_below (values path.entry.bytes.now) }
@@ -209,7 +211,8 @@ impl<'a> Layout<'a> {
         Layout::of(path).names
     }
 
-    // Returns the names of a path. If `are_verbatim`, the path's bytes are these names.
+    // Returns the names that remain of a path after it is resolved. If `are_verbatim` is true, the
+    // path's bytes are these names, with single slashes between them.
     #[inline]
     pub(crate) fn names_of(path: Path<'a>, are_verbatim: bool) -> Names<'a>
         requires { IsTrue are_verbatim
@@ -222,7 +225,7 @@ impl<'a> Layout<'a> {
         Layout::resolve_names(path)
     }
 
-    // Returns this layout with more names after its own. Its own `more` has to be empty.
+    // Returns this layout with more names at its end. The layout's `more` has to be empty before.
     #[inline]
     pub(crate) fn with(self, more: Names<'a>) -> Layout<'a>
         requires { names_in self.more ≡ [] }
@@ -231,7 +234,7 @@ impl<'a> Layout<'a> {
         Layout { more, ..self }
     }
 
-    // Returns the length of the path, or `usize::MAX` if it is greater.
+    // Returns the length of the resolved path, or `usize::MAX` if the length is greater than that.
     #[inline(always)]
     pub(crate) fn len(&self) -> usize
         ensures { result ≡ min (2 ^ 64 - 1) (length (spelling_of (layout_values self.now))) }
@@ -252,7 +255,8 @@ impl<'a> Layout<'a> {
         more_len.saturating_sub(1)
     }
 
-    // Fills `out` with what follows the root: the names, and before them as many `..` as fit.
+    // Fills `out` with all of the path except its root: the names at the end of `out`, and as many
+    // `..` as fit before the names.
     #[inline(always)]
     fn fill_after_root(&self, out: &mut [u8])
         requires { self.now.names.len + self.now.more.len ≤ 1 + length out.old }
@@ -265,7 +269,7 @@ impl<'a> Layout<'a> {
         put_parent_dirs_before(out, end);
     }
 
-    // Writes the path over all of `out`, which has the path's length.
+    // Fills `out` with the resolved path. `out` has the length of the path.
     #[inline(always)]
     pub(crate) fn fill(&self, out: &mut [u8])
         requires { length out.old ≡ length (spelling_of (layout_values self.now)) }
@@ -279,8 +283,8 @@ impl<'a> Layout<'a> {
         }
     }
 
-    // Writes the path to the beginning of `out` if all of it fits. Returns its length either way,
-    // or `usize::MAX` if it is greater.
+    // Writes the resolved path to the beginning of `out` if all of the path fits. Returns the
+    // length of the path either way, or `usize::MAX` if the length is greater than that.
     #[inline(always)]
     pub(crate) fn write(&self, out: &mut [u8]) -> usize
         ensures out { out.new ≡ buffer_after (spelling_of (layout_values self.now)) out.old }
@@ -294,7 +298,8 @@ impl<'a> Layout<'a> {
         len
     }
 
-    // Returns the path in memory of its length. The empty path allocates nothing.
+    // Returns the resolved path. Allocates once, as many bytes as the path has, and nothing for the
+    // empty path.
     pub(crate) fn to_path_buf(&self, alloc: Global) -> Result<PathBuf, AllocError>
         ensures bytes { IfOk result (λ p.
             path_bytes p ≡ spelling_of (layout_values self.now)) }

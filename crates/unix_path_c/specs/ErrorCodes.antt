@@ -25,7 +25,7 @@ no_end = 2 ^ 64 - 6
 abbrev pub separator : ℕ
 separator = 2 ^ 64 - 7
 
--- `SIZE_MAX - 7`: no path without a root leads there
+-- `SIZE_MAX - 7`: no path without a root leads from the first path to the second
 abbrev pub no_relative_path : ℕ
 no_relative_path = 2 ^ 64 - 8
 

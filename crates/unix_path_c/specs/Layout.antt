@@ -3,6 +3,6 @@ use Rattle.std.specs.Prelude.{ℕ, List, ◌++◌}
 use Rattle.unix_path.specs.Scan.{separator_bytes}
 use Rattle.unix_path_c.specs.declared.joins.Layout.{Layout}
 
--- the beginning, then the separator's byte if there is one, then the end
+-- a layout's bytes: the beginning, then the separator if there is one, then the end
 abbrev pub layout_bytes : Layout → List ℕ
 layout_bytes layout = (layout.beginning.now ++ separator_bytes layout.separator) ++ layout.end.now

@@ -1,5 +1,5 @@
--- What queries return: an order as a number, and the hash of a path (like C's `strcmp` and Rust's
--- `DefaultHasher`).
+-- The results of queries: an order as a number (like C's `strcmp`), and the hash of a path (like
+-- Rust's `DefaultHasher`).
 use Rattle.std.specs.Prelude.{ℕ, ℤ, pos, negsuc, List, fold}
 use Rattle.std.specs.declared.cmp.Ordering.{Ordering}
 use Rattle.std.specs.declared.cmp.Ordering.TheVariants.{Less, Equal, Greater}
@@ -13,6 +13,6 @@ sign_of Less = negsuc 0
 sign_of Equal = pos 0
 sign_of Greater = pos 1
 
--- the hash by SipHash-1-3, with both keys 0, of what these components feed a hasher
+-- the SipHash-1-3, with both keys 0, of the bytes that these components feed to a hasher
 unfoldable pub path_hash : List Value → ℕ
 path_hash vs = sip.finish (fold sip.write sip.initial (hash_input_of vs))

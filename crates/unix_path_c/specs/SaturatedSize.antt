@@ -6,7 +6,7 @@ use Rattle.std.specs.Prelude.{ℕ, min, ◌-◌, ◌^◌}
 abbrev pub saturated_size : ℕ → ℕ
 saturated_size n = min n (2 ^ 64 - 1)
 
--- the number, or `PTRDIFF_MAX + 1` if the number is greater; with this value a call reports that
--- its result is too long
+-- the number, or `PTRDIFF_MAX + 1` if the number is greater; a call returns `PTRDIFF_MAX + 1` as
+-- the error code for a result that is too long
 abbrev pub buffer_size : ℕ → ℕ
 buffer_size n = min n (2 ^ 63)

@@ -9,8 +9,8 @@ use Rattle.unix_path_c.specs.Walks.{part_value, remaining_parts}
 use Rattle.unix_path_c.specs.declared.walks.Part.{Part}
 use Rattle.unix_path_c.specs.declared.walks.Walk.{Walk}
 
--- s ends where its last component ends, and its first component has `size` bytes and this kind;
--- that component and the filler after it have `step` bytes
+-- s ends where its last component ends; its first component has this kind and `size` bytes, and
+-- together with the filler after it `step` bytes
 pub record StartsWithPart (s : List ℕ) (size step kind : ℕ) : Type 0 where
   pub ends : EndsInPart s
   pub value : Value
@@ -30,8 +30,8 @@ pub record EndsInName (s : List ℕ) (before start : ℕ) : Type 0 where
   pub values_are : values s ≡ values (take before s) ++ Normal (drop start s) ∷ []
   pub rest_is : rest s 0 1 ≡ take before s
 
--- `part` was the first component in the rest of `old`, and the other components are in the rest of
--- `new`
+-- `part` is the first component in the rest of the walk `old`, and the components after it are
+-- those in the rest of the walk `new`
 pub record TakenFromFront (path : List ℕ) (old new : Walk) (part : Part) : Type 0 where
   pub parts_are : remaining_parts path old ≡ part_in path part ∷ remaining_parts path new
   pub values_are : values (remaining path old)
@@ -43,8 +43,8 @@ pub record TakenFromFront (path : List ℕ) (old new : Walk) (part : Part) : Typ
   pub in_order : InOrder
       (old.front ∷ part.start ∷ part_end part ∷ new.front ∷ new.back ∷ old.back ∷ length path ∷ [])
 
--- `part` was the last component in the rest of `old`, and the other components are in the rest of
--- `new`
+-- `part` is the last component in the rest of the walk `old`, and the components before it are
+-- those in the rest of the walk `new`
 pub record TakenFromBack (path : List ℕ) (old new : Walk) (part : Part) : Type 0 where
   pub parts_are : remaining_parts path old ≡ remaining_parts path new ++ part_in path part ∷ []
   pub values_are : values (remaining path old)

@@ -6,7 +6,7 @@ use Rattle.unix_path.specs.Parts.{Value, RootDir, CurDir, ParentDir, Normal, par
 use Rattle.unix_path_c.specs.declared.walks.Part.{Part}
 use Rattle.unix_path_c.specs.declared.walks.Walk.{Walk}
 
--- each of these indices is at most the next
+-- the indices are in order: each is at most as large as the next
 abbrev pub InOrder : List ℕ → Type 0
 InOrder [] = Unit {0}
 InOrder (m ∷ []) = Unit {0}
@@ -19,8 +19,8 @@ remaining path walk =
     if nat_le walk.front walk.back && nat_le walk.back (length path)
     then slice_range path walk.front walk.back else []
 
--- p is a component of a string that begins at index `at` of a path; the same component, with its
--- indices in the path
+-- the component p of a string that begins at index `at` of a path, with its indices in the path
+-- instead of the string
 abbrev pub part_from : ℕ → paths.Part → paths.Part
 part_from at p = record { start = p.start + at; end = p.end + at; value = p.value }
 
@@ -49,11 +49,11 @@ part_end part = part.start + part.length
 abbrev pub part_bytes : List ℕ → Part → List ℕ
 part_bytes path part = take part.length (drop part.start path)
 
--- the component, by its kind and its bytes, without its position
+-- the component of a path that the record `part` describes, without its position
 abbrev pub part_value : List ℕ → Part → Value
 part_value path part = value_of_kind part.kind (part_bytes path part)
 
--- the component in the form that the specs of `unix_path` use
+-- the component that the record `part` describes, in the form that the specs of `unix_path` use
 abbrev pub part_in : List ℕ → Part → paths.Part
 part_in path part =
     record { start = part.start; end = part_end part; value = part_value path part }

@@ -1,4 +1,5 @@
-//! A path and its parents, one at a time. The caller keeps the length of the next ancestor.
+//! The ancestors of a path, one at a time: the path, its parent, and so on. The caller keeps the
+//! length of the next ancestor.
 ghost use Rattle.std.specs.Prelude.{◌≡◌, ◌↔◌, ◌≤◌, [], ◌∷◌, length, IsFalse, IsTrue};
 ghost use Rattle.unix_path_c.specs.Ancestors.{remaining_ancestors};
 ghost use Rattle.unix_path_c.specs.Spans.{span_bytes, span_end};
@@ -15,7 +16,7 @@ const NO_MORE_ANCESTORS: usize = usize::MAX;
 /// The ancestors are the path itself, its parent, the parent's parent, and so on. Each is a prefix
 /// of the path. `next` is the length of the next ancestor: the path's length for the first, and
 /// `SIZE_MAX` once none remains. No ancestor remains either if `next` is any other number greater
-/// than the path's length. Like the `next` of Rust's `Path::ancestors`.
+/// than the path's length. The call is like the `next` of Rust's `Path::ancestors`.
 ///
 /// For `../a`, with 4 as the first `next`, the ancestors have 4, 2 and 0 bytes.
 #[unsafe(no_mangle)]

@@ -1,4 +1,5 @@
-//! Callers of the exports, proved from the exports' clauses. Nothing calls them.
+//! Functions that call the exported functions. They show that the contracts of the exported
+//! functions suffice to prove callers. Nothing calls them.
 ghost use Rattle.std.specs.Prelude.{◌≡◌, [], ◌∷◌, ◌++◌, IsTrue, option_map};
 ghost use Rattle.unix_path.specs.Names.{file_name_of};
 ghost use Rattle.unix_path.specs.Parts.{values};

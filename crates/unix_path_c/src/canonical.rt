@@ -1,4 +1,5 @@
-//! The canonical form of a path, written to the caller's buffer, and whether a path has it.
+//! Writes the canonical form of a path to the caller's buffer, and tests whether a path is
+//! canonical.
 ghost use Rattle.std.specs.Prelude.{◌≡◌, ◌↔◌, ◌≤◌, length, IsTrue};
 ghost use Rattle.unix_path.specs.Parts.{values};
 ghost use Rattle.path_runs.specs.Buffer.{buffer_after};
@@ -9,9 +10,9 @@ use unix_path::Path;
 
 /// Writes the canonical form of a path to `out` if it fits, and returns its length.
 ///
-/// It is the path's components with one `/` between two of them, and none after the root: the one
-/// shortest path that is equal to this one. It is never longer than the path, and empty for the
-/// empty path. In Rust's std it is a `Components` that is collected into a `PathBuf`.
+/// The canonical form has the path's components with single slashes between them, and no slash
+/// after the root. It is the one shortest path that is equal to this path, and empty for the empty
+/// path. In Rust's std it is a `Components` that is collected into a `PathBuf`.
 ///
 /// For `.//a/./b/` it is `./a/b`, of 5 bytes.
 #[tactic(auto, using(crate::proofs::lemmas::buffers::BoundLemmas::bounds))]

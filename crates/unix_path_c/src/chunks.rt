@@ -1,11 +1,11 @@
-//! The chunks of a path that may not be valid UTF-8, one at a time. The caller keeps the index of
-//! the next chunk.
+//! The chunks of a path, one at a time: runs of valid UTF-8, each with the invalid bytes after it.
+//! The caller keeps the index of the next chunk.
 ghost use Rattle.std.specs.Prelude.{◌≡◌, ◌↔◌, ◌≤◌, [], ◌∷◌, length, IsFalse, IsTrue};
 ghost use Rattle.unix_path_c.specs.Chunks.{chunk_end, chunk_in, remaining_chunks};
 
 use unix_bytes::lossy::Utf8Lossy;
 
-/// A chunk of a path: valid UTF-8 and the invalid bytes after it. Like Rust's `Utf8Chunk`.
+/// A chunk of a path: valid UTF-8 and the invalid bytes after it. It is like Rust's `Utf8Chunk`.
 ///
 /// The first chunk of the bytes 61 FF 62 starts at 0, and has 1 valid byte and 1 invalid byte.
 #[derive(Clone, Copy)]
@@ -16,7 +16,7 @@ pub struct Chunk {
     /// The number of bytes of valid UTF-8. It is 0 if the chunk begins with invalid bytes.
     pub valid_length: usize,
     /// The number of invalid bytes after the valid ones, at most 3: an incomplete UTF-8 sequence,
-    /// or a single byte with which no UTF-8 sequence begins. Only the last chunk can have 0.
+    /// or a single byte that begins no UTF-8 sequence. It can be 0 only in the last chunk.
     pub broken_length: usize,
 }
 
@@ -25,8 +25,9 @@ pub struct Chunk {
 ///
 /// A chunk is the longest run of valid UTF-8 at index `next`, and the invalid bytes after it, which
 /// the lossy string replaces with one U+FFFD. `next` is the index at which the next chunk begins: 0
-/// for the first chunk, and the path's length once no chunk remains. If `next` is greater, no chunk
-/// remains either. Like the `next` of Rust's `<[u8]>::utf8_chunks`.
+/// for the first chunk, and the path's length once no chunk remains. No chunk remains either if
+/// `next` is greater than the path's length. The call is like the `next` of Rust's
+/// `<[u8]>::utf8_chunks`.
 ///
 /// The chunks of the bytes 61 FF 62 are `a` with the invalid byte FF, and `b` with none.
 #[unsafe(no_mangle)]

@@ -1,19 +1,21 @@
 //! A fast step over the first component in the rest of a walk. It applies if the rest ends in a
-//! component, and begins with neither the root nor a `.`, which is so after a walk's first step.
+//! component, and begins with neither the root nor a `.`. After a walk's first step this is always
+//! so.
 ghost use Rattle.std.specs.Prelude.{◌<◌, length, IfSome};
 ghost use Rattle.unix_path_c.specs.Steps.{StartsWithPart};
 
 use unix_path::filler::{is_filler, is_trailing};
 use unix_path::first_component::{name_step, parent_dir_step, starts_with_parent_dir};
 
-// The kind of `..`.
+// The `kind` of the component `..`.
 pub(crate) const PARENT_DIR: u32 = 2;
 
-// The kind of a name.
+// The `kind` of a name.
 pub(crate) const NORMAL: u32 = 3;
 
-// Returns the length of the first component, the length of a step over it, and its kind. Returns
-// `None` if the bytes begin with the root or a `.`, or do not end in a component.
+// Returns the length of the first component, the length of a step over it and the filler after it,
+// and its kind. Returns `None` if the bytes begin with the root or a `.`, or do not end in a
+// component.
 #[inline(always)]
 pub(crate) fn first_part(bytes: &[u8]) -> Option<(usize, usize, u32)>
     requires { 0 < length bytes.now }

@@ -17,7 +17,7 @@ use unix_path::stems::{dot_before, has_slash};
 // The error code if an extension has a slash.
 const SEPARATOR: usize = usize::MAX - 6;
 
-// The bytes of a result: a beginning, then a separator of one byte, if there is one, and then an
+// The bytes of a result: a beginning, then the separator, one byte, if there is one, and then an
 // end.
 #[derive(Clone, Copy)]
 struct Layout<'a> {
@@ -27,7 +27,7 @@ struct Layout<'a> {
 }
 
 impl Layout<'_> {
-    // Returns the length of all three together.
+    // Returns the length of the beginning, the separator and the end together.
     #[inline]
     fn total_len(&self) -> usize
         ensures total { result ≡ length (layout_bytes self.now) }
@@ -37,7 +37,8 @@ impl Layout<'_> {
         self.beginning.len() + separator_len(self.separator) + self.end.len()
     }
 
-    // Writes all three to the beginning of the buffer if they fit, and returns their length.
+    // Writes the beginning, the separator and the end to `out` if all of them fit. Returns their
+    // length either way.
     #[inline]
     fn write(&self, out: &mut [u8]) -> usize
         ensures out { out.new ≡ buffer_after (layout_bytes self.now) out.old }
@@ -54,7 +55,7 @@ impl Layout<'_> {
     }
 }
 
-// Returns the layout of a join.
+// Returns the layout of the join of two paths.
 #[inline]
 fn join_layout<'a>(base: Path<'a>, path: Path<'a>) -> Layout<'a>
     ensures { layout_bytes result ≡ join_of base.entry.bytes.now path.entry.bytes.now }
@@ -94,7 +95,7 @@ fn unchanged_layout<'a>(path: Path<'a>) -> Layout<'a>
     }
 }
 
-// Returns the layout of a path with another extension.
+// Returns the layout of the path with `extension` instead of its own extension.
 #[inline]
 fn extension_layout<'a>(path: Path<'a>, extension: &'a [u8]) -> Layout<'a>
     ensures { layout_bytes result ≡ with_extension_of path.entry.bytes.now extension.now }
@@ -109,7 +110,7 @@ fn extension_layout<'a>(path: Path<'a>, extension: &'a [u8]) -> Layout<'a>
     }
 }
 
-// Returns the layout of a path with an extension added.
+// Returns the layout of the path with `extension` added to its file name.
 #[inline]
 #[tactic(auto, using(unix_path::proofs::lemmas::names::NameEndLemmas::added_cases))]
 fn added_extension_layout<'a>(path: Path<'a>, extension: &'a [u8]) -> Layout<'a>
@@ -146,9 +147,9 @@ pub extern "C" fn unix_path_join(base: &[u8], path: &[u8], out: &mut [u8]) -> us
 
 /// Writes the path with another file name to `out` if it fits, and returns its length.
 ///
-/// The name is joined to what comes before the file name, or to the whole path if it has no file
-/// name. The name may be any bytes: one that begins with `/` replaces the whole path, and `..`
-/// stays. The length is at most `path.len() + 1 + name.len()`.
+/// The name is joined to the path without its file name, or to the whole path if it has no file
+/// name. The name may be any bytes: a name that begins with `/` replaces the whole path, and a name
+/// `..` is not resolved. The length is at most `path.len() + 1 + name.len()`.
 ///
 /// `/tmp/foo.txt` with the file name `bar.txt` is `/tmp/bar.txt`, of 12 bytes, and `foo/..` with
 /// `bar` is `foo/../bar`.
@@ -165,8 +166,8 @@ pub extern "C" fn unix_path_with_file_name(path: &[u8], name: &[u8], out: &mut [
 
 /// Writes the path with another extension to `out` if it fits, and returns its length.
 ///
-/// The extension, with a dot before it unless it is empty, replaces what follows the stem of the
-/// file name. A path without a file name is unchanged.
+/// The bytes after the stem of the file name are replaced by a dot and the extension, or dropped if
+/// the extension is empty. A path without a file name is unchanged.
 ///
 /// Returns at most `path.len() + 1 + extension.len()`, or an error code: `UNIX_PATH_SEPARATOR` if
 /// and only if the extension has a `/`, or `UNIX_PATH_TOO_LONG` if the result has more than
@@ -195,8 +196,8 @@ pub extern "C" fn unix_path_with_extension(path: &[u8], extension: &[u8], out: &
 
 /// Writes the path with an extension added to `out` if it fits, and returns its length.
 ///
-/// A dot and the extension follow the file name. A path without a file name is unchanged, and so is
-/// every path if the extension is empty.
+/// The bytes after the file name are replaced by a dot and the extension. A path without a file
+/// name is unchanged, and so is every path if the extension is empty.
 ///
 /// Returns at most `path.len() + 1 + extension.len()`, or an error code: `UNIX_PATH_SEPARATOR` if
 /// and only if the extension has a `/`, or `UNIX_PATH_TOO_LONG` if the result has more than

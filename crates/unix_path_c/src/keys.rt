@@ -12,7 +12,7 @@ use path_keys::{is_key, write_key, write_path_of};
 use unix_bytes::buffers::write_at;
 use unix_path::Path;
 
-// The error code if bytes are the key of no path.
+// The error code if the bytes are the key of no path.
 const NOT_A_KEY: usize = usize::MAX - 4;
 
 // The error code if the range of a key has no end.
@@ -22,8 +22,8 @@ const NO_END: usize = usize::MAX - 5;
 ///
 /// A store that compares keys byte by byte sorts them in the order of their paths. Two keys are
 /// identical if and only if their paths are equal. The root is 00 01, a leading `.` is 00 02, and
-/// each `..` is 00 03. A name is its bytes, each that is less than 2F raised by one, followed by
-/// 00. The key has at most `path.len() + 2` bytes.
+/// each `..` is 00 03. A name is its bytes, of which each byte less than 2F is raised by one, and
+/// then 00. The key has at most `path.len() + 2` bytes.
 ///
 /// The key of `/a` is 00 01 61 00, of 4 bytes. The key of the empty path is empty.
 #[tactic(auto, using(crate::proofs::lemmas::buffers::BoundLemmas::bounds))]
@@ -83,16 +83,17 @@ fn write_end(out: &mut [u8], key: &[u8]) -> usize
     key.len()
 }
 
-/// Writes the end of a key's range to `out` if it fits, and returns its length, which is the key's.
+/// Writes the end of a key's range to `out` if it fits, and returns the end's length, which is also
+/// the key's length.
 ///
-/// Any byte string, also one that is not a key, is not less than this key and less than the end if
-/// and only if it begins with this key. The keys among these are the keys of all paths that start
-/// with this key's path. The end is the key with its last byte raised by one. Like `path_keys`'s
-/// `PathKey::range_under`.
+/// The range contains the byte strings that are at least this key and less than the end. These are
+/// all byte strings that begin with this key. The keys among them are the keys of all paths that
+/// start with this key's path. The end is the key with its last byte raised by one. The call is
+/// like `path_keys`'s `PathKey::range_under`.
 ///
-/// Returns `UNIX_PATH_NO_END` if and only if the key is empty: it is the key of the empty path,
-/// whose range contains every byte string and has no end. Returns `UNIX_PATH_NOT_A_KEY` if and only
-/// if the bytes are the key of no path.
+/// Returns `UNIX_PATH_NO_END` if and only if the key is empty. The empty key is the key of the
+/// empty path; its range contains every byte string and has no end. Returns `UNIX_PATH_NOT_A_KEY`
+/// if and only if the bytes are the key of no path.
 ///
 /// For the key of `a`, 61 00, the end is 61 01, of 2 bytes.
 #[unsafe(no_mangle)]

@@ -1,5 +1,5 @@
 //! A fast step over the last component in the rest of a walk. It applies if neither the last byte
-//! nor the byte before the last slash is a slash or a dot: the last component is then a name.
+//! nor the byte before the last slash is a slash or a dot. Then the last component is a name.
 ghost use Rattle.std.specs.Prelude.{◌≡◌, ◌<◌, ◌==◌, false, length, IfSome, IsTrue};
 ghost use Rattle.unix_path.specs.Parts.{dot, slash};
 ghost use Rattle.unix_path_c.specs.Steps.{EndsInName};
@@ -15,9 +15,9 @@ fn is_ordinary(byte: u8) -> bool
     byte != b'/' && byte != b'.'
 }
 
-// Returns two indices: where the rest before the last component ends, and where the last component,
-// a name, begins. Returns `None` if the last byte, or the byte before the last slash, is a slash or
-// a dot.
+// Returns two indices: the end of the rest before the last component, and the beginning of the last
+// component, which is a name. Returns `None` if the last byte, or the byte before the last slash,
+// is a slash or a dot.
 #[inline(always)]
 pub(crate) fn last_name(bytes: &[u8]) -> Option<(usize, usize)>
     requires { 0 < length bytes.now }

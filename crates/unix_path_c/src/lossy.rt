@@ -9,7 +9,7 @@ ghost use Rattle.path_runs.specs.Buffer.{buffer_after};
 use crate::output::{len_or_too_long, write_both};
 use unix_bytes::lossy::Utf8Lossy;
 
-// Returns what replaces these invalid bytes: U+FFFD, or nothing if there are none.
+// Returns the replacement for the invalid bytes of a chunk: U+FFFD, or no bytes if there are none.
 #[inline]
 fn replacement_for(broken: &[u8]) -> &'static [u8]
     ensures { result.now ≡ replacement_for broken.now }
@@ -20,7 +20,7 @@ fn replacement_for(broken: &[u8]) -> &'static [u8]
     b"\xEF\xBF\xBD"
 }
 
-// Returns the length of the lossy string, or `usize::MAX` if it is greater.
+// Returns the length of the lossy string, or `usize::MAX` if the length is greater than that.
 #[inline]
 fn lossy_len(path: &[u8]) -> usize
     ensures { result ≡ saturated_size (length (lossy_of path.now)) }
@@ -35,7 +35,7 @@ fn lossy_len(path: &[u8]) -> usize
     len
 }
 
-// Writes the lossy string to the beginning of the buffer.
+// Writes the lossy string to the beginning of the buffer, into which it fits.
 #[inline]
 fn write_lossy(path: &[u8], out: &mut [u8])
     requires { length (lossy_of path.now) ≤ length out.old }
@@ -50,8 +50,9 @@ fn write_lossy(path: &[u8], out: &mut [u8])
 
 /// Writes the lossy string of a path to `out` if it fits, and returns its length.
 ///
-/// It is the path itself if the path is valid UTF-8 (RFC 3629, section 4). Otherwise one U+FFFD, of
-/// 3 bytes, replaces the invalid bytes of each chunk. The length is at most `3 * path.len()`.
+/// The lossy string is the path itself if the path is valid UTF-8 (RFC 3629, section 4). Otherwise
+/// one U+FFFD, of 3 bytes, replaces the invalid bytes of each chunk (see `unix_path_next_chunk`).
+/// The length is at most `3 * path.len()`.
 ///
 /// Returns `UNIX_PATH_TOO_LONG` if and only if the lossy string has more than `PTRDIFF_MAX` bytes,
 /// which no buffer has. Only a path with more than `PTRDIFF_MAX / 3` bytes can have such a lossy

@@ -1,4 +1,4 @@
-//! Writes runs of bytes into a buffer, one after the other, and computes their lengths.
+//! Helpers of the calls that write a result to `out`.
 ghost use Rattle.std.specs.Prelude.{◌≡◌, ◌≤◌, ◌+◌, length};
 ghost use Rattle.unix_path.specs.Scan.{separator_bytes};
 ghost use Rattle.path_runs.specs.Overlay.{overlay};
@@ -6,11 +6,11 @@ ghost use Rattle.unix_path_c.specs.SaturatedSize.{buffer_size};
 
 use unix_bytes::buffers::write_at;
 
-// The error code for a length that no buffer has. It is one more than the greatest length of a
-// buffer.
+// The error code for a result that is longer than any buffer. It is one more than the greatest
+// length of a buffer.
 const TOO_LONG: usize = 1 << 63;
 
-// Returns the length, or `TOO_LONG` if no buffer has that length.
+// Returns the length, or `TOO_LONG` if the length is greater than that of any buffer.
 #[inline]
 pub(crate) fn len_or_too_long(len: usize) -> usize
     ensures { result ≡ buffer_size len }
@@ -40,8 +40,8 @@ pub(crate) fn separator_len(separator: Option<u8>) -> usize
     }
 }
 
-// Overwrites bytes with `first` and then `second`, beginning at index `at`. Returns the index just
-// after the last byte of `second`.
+// Writes `first` and then `second` over the bytes of `out` from index `at` on. Returns the index
+// just after the last byte written.
 #[inline]
 pub(crate) fn write_both(out: &mut [u8], at: usize, first: &[u8], second: &[u8]) -> usize
     requires { at + length first.now + length second.now ≤ length out.old }

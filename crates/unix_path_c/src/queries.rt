@@ -1,4 +1,4 @@
-//! Queries about a path, or about two.
+//! Queries about one path or two paths.
 ghost use Rattle.std.specs.Prelude.{◌≡◌, ◌↔◌, ◌≤◌, ◌⊎◌, ℕ, IsTrue, List, [], ◌∷◌, length};
 ghost use Rattle.std.specs.Prelude.{pos, negsuc, true, false};
 ghost use Rattle.std.specs.Ordering.{is_eq};
@@ -101,9 +101,9 @@ pub extern "C" fn unix_path_compare(a: &[u8], b: &[u8]) -> i32
 /// Returns a hash of the path's components, which is the same on every machine and in every run.
 /// Equal paths have the same hash.
 ///
-/// It is SipHash-1-3 with both keys 0, so whoever chooses the paths can find many with the same
-/// hash. Like Rust's `DefaultHasher::new()` fed with a `Path`, except that this library defines
-/// what a path feeds.
+/// It is SipHash-1-3 with both keys 0, so an attacker who chooses the paths can find many with the
+/// same hash. Rust's `DefaultHasher::new()` computes the same function, but this library defines
+/// which bytes of a path are hashed, so Rust's hash of a `Path` may differ.
 ///
 /// For `a//b` and `a/b` it is the same.
 #[tactic(auto, unfolding(crate::specs::Queries::path_hash))]
@@ -118,8 +118,8 @@ pub extern "C" fn unix_path_hash(path: &[u8]) -> u64
     state.finish()
 }
 
-/// Returns true if and only if the path is valid UTF-8 (RFC 3629). Like Rust's `Path::to_str`,
-/// which returns the string.
+/// Returns true if and only if the path is valid UTF-8 (RFC 3629). Rust's `Path::to_str` makes the
+/// same test, and returns the string.
 ///
 /// For the bytes 61 C3 A9 it is true, and for 61 FF it is false.
 #[unsafe(no_mangle)]
@@ -129,8 +129,8 @@ pub extern "C" fn unix_path_is_utf8(path: &[u8]) -> bool
     Path::from_bytes(path).to_str().is_some()
 }
 
-/// Returns true if and only if the path escapes: it has a root, or has more `..` than names in some
-/// prefix, even if later names come down again.
+/// Returns true if and only if the path escapes: it has a root, or some prefix of its components
+/// has more `..` than names, even if later names come down again.
 ///
 /// Purely lexical: if a component may be a symbolic link, only the system knows where `..` leads.
 ///
@@ -142,11 +142,9 @@ pub extern "C" fn unix_path_escapes(path: &[u8]) -> bool
     escapes(Path::from_bytes(path))
 }
 
-/// Returns 0 if a path from outside is a request that stays beneath a root, and otherwise the
-/// reason why not: 1 if it has a root, otherwise 2 if it goes above where it starts, otherwise 3 if
-/// it has a NUL byte.
-///
-/// If it is 0, `unix_path_join_beneath` joins the path.
+/// Returns 0 if a path from outside can be joined by `unix_path_join_beneath`, and otherwise the
+/// first reason that applies: 1 if it has a root, 2 if it goes above where it starts, 3 if it has a
+/// NUL byte.
 ///
 /// For `a/../b` it is 0, for `/../a` it is 1, for `a/../..` it is 2, and for `a\0.png` it is 3.
 #[unsafe(no_mangle)]
@@ -167,9 +165,9 @@ pub extern "C" fn unix_path_check_request(path: &[u8]) -> i32
     }
 }
 
-/// Returns true if and only if a path from outside has no name after it is resolved as
-/// `unix_path_join_in_root` does. If such a path has no NUL, its join is the root itself. Like
-/// `path_within`'s `Request::is_root`.
+/// Returns true if and only if a path from outside has no name after it is resolved in the way of
+/// `unix_path_join_in_root`. If such a path has no NUL, its join is the root itself. The test is
+/// like `path_within`'s `Request::is_root`.
 ///
 /// For `a/..`, `/`, `..` and the empty path it is true; for `.foo` and `a/../b` it is false.
 #[unsafe(no_mangle)]
@@ -183,7 +181,7 @@ pub extern "C" fn unix_path_request_is_root(path: &[u8]) -> bool
 /// it.
 ///
 /// A system call then requires the name to be a directory. `unix_path_join_beneath` and
-/// `unix_path_join_in_root` drop what follows the names. Like `path_within`'s
+/// `unix_path_join_in_root` drop the slash or `/.`. The test is like `path_within`'s
 /// `Request::ends_in_slash`.
 ///
 /// For `a/` and `a/.` it is true; for `a`, `a/..` and `/` it is false.

@@ -21,13 +21,13 @@ const NO_RELATIVE_PATH: usize = usize::MAX - 7;
 /// at most `3 * (from.len() + 1) / 2 + to.len()`.
 ///
 /// Returns `UNIX_PATH_NO_RELATIVE_PATH` if and only if one path has a root and the other has none,
-/// or the rest of `from` has a `..`: then no path without a root leads there. Returns
+/// or the rest of `from` has a `..`. Then no path without a root leads from `from` to `to`. Returns
 /// `UNIX_PATH_TOO_LONG` if the relative path has more than `PTRDIFF_MAX` bytes, which no buffer
 /// has.
 ///
 /// Purely lexical: if a component may be a symbolic link, only the system knows where `..` leads. A
-/// result of no bytes represents the current directory. Like Python's `PurePath.relative_to` with
-/// `walk_up`, which does not resolve.
+/// result of no bytes represents the current directory. Python's `PurePath.relative_to` with
+/// `walk_up` does the same without resolving.
 ///
 /// From `/a/b/c` to `/a/d` it is `../../d`; from `../x` to `y` there is none.
 #[unsafe(no_mangle)]

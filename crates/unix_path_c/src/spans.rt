@@ -1,5 +1,5 @@
-//! The spans of a path's parent, file name, stem, extension and file prefix, and of what follows a
-//! base.
+//! The spans of a path's parent, file name, stem, extension and file prefix, and of the rest of a
+//! path after a base.
 ghost use Rattle.std.specs.Prelude.{◌≡◌, ◌↔◌, ◌+◌, ◌-◌, ◌≤◌, IsTrue, IfSome, Some, is_some};
 ghost use Rattle.std.specs.Prelude.{length, option_map};
 ghost use Rattle.std.specs.Bool.{OnTrue, OnFalse};
@@ -26,7 +26,7 @@ pub struct Span {
     pub length: usize,
 }
 
-// Returns the span of these bytes, which end at index `end`.
+// Returns the span of `bytes`, which end at index `end` of the path.
 #[inline]
 fn span_ending_at(end: usize, bytes: &[u8]) -> Span
     requires { length bytes.now ≤ end }
@@ -107,8 +107,8 @@ pub extern "C" fn unix_path_file_name(path: &[u8], span: &mut Span) -> bool
 
 /// Writes the span of the file stem to `span`. Returns false if there is no file name.
 ///
-/// The stem is the file name up to its last dot. If there is no dot, or the last dot is the first
-/// byte, it is the whole file name. It starts where the file name starts.
+/// The stem is the file name up to its last dot. If there is no dot, or if the last dot is the file
+/// name's first byte, the stem is the whole file name. It starts where the file name starts.
 ///
 /// The stem of `a/foo.tar.gz` starts at 2 and has 7 bytes: `foo.tar`.
 #[unsafe(no_mangle)]
@@ -161,7 +161,7 @@ pub extern "C" fn unix_path_extension(path: &[u8], span: &mut Span) -> bool
 /// Writes the span of the file prefix to `span`. Returns false if there is no file name.
 ///
 /// The file prefix is the file name up to the first dot after its first byte. If there is no such
-/// dot, it is the whole file name. It starts where the file name starts.
+/// dot, the file prefix is the whole file name. It starts where the file name starts.
 ///
 /// The file prefix of `a/foo.tar.gz` starts at 2 and has 3 bytes: `foo`.
 #[unsafe(no_mangle)]
@@ -187,15 +187,15 @@ pub extern "C" fn unix_path_file_prefix(path: &[u8], span: &mut Span) -> bool
     true
 }
 
-/// Writes the span of what follows `base` in the path to `span`. Returns false if the path does not
-/// start with the components of `base`.
+/// Writes the span of the rest of the path after `base` to `span`. Returns false if the path does
+/// not start with the components of `base`.
 ///
 /// Only whole components match: `foo/bar` does not start with `foo/ba`. The span ends where the
-/// path's last component ends. If nothing follows the base, the span is empty. The empty slice that
-/// Rust's `Path::strip_prefix` then returns may start later: for `a/b/` and the base `a/b` the
+/// path's last component ends. If no component follows the base, the span is empty. The empty slice
+/// that Rust's `Path::strip_prefix` then returns may start later: for `a/b/` and the base `a/b` the
 /// slice starts at 4, and the span at 3.
 ///
-/// What follows may escape: for `/dest/../etc` and the base `/dest` it is `../etc`. To keep a path
+/// The rest may escape: for `/dest/../etc` and the base `/dest` it is `../etc`. To keep a path
 /// below a directory, use `unix_path_join_beneath`.
 ///
 /// For `/a//b/` and the base `/a` the span starts at 4 and has 1 byte: `b`.

@@ -1,8 +1,8 @@
 //! The version of the library.
 ghost use Rattle.std.specs.Prelude.{◌≡◌};
 
-/// Returns the version of the library that is called: 65,536 times its major number, plus 256 times
-/// its minor number, plus its patch number.
+/// Returns the version of the loaded library: 65,536 times its major number, plus 256 times its
+/// minor number, plus its patch number.
 ///
 /// For version 1.1.0 it is 0x010100.
 #[unsafe(no_mangle)]

@@ -18,8 +18,8 @@ use unix_path::{Component, Path};
 /// A walk over the components of a path, from both ends: the rest lies between two indices.
 ///
 /// The caller keeps the walk, and passes it with the bytes of the same path. A walk has ended if
-/// its indices are equal, out of order or past the path's end. A copy of a walk goes on
-/// independently. Like Rust's `Components`.
+/// its indices are equal, out of order or past the path's end. A copy of a walk is an independent
+/// walk. A walk is like Rust's `Components`.
 ///
 /// For `/tmp//foo/` a new walk is from 0 to 9.
 #[derive(Clone, Copy)]
@@ -31,7 +31,7 @@ pub struct Walk {
     pub back: usize,
 }
 
-/// A component of a path: where it is, and its kind. Like Rust's `Component`.
+/// A component of a path: its position and its kind. It is like Rust's `Component`.
 ///
 /// The component `foo` of `/tmp//foo/` starts at 6, and has 3 bytes and the kind 3.
 #[derive(Clone, Copy)]
@@ -71,6 +71,7 @@ fn rest_of<'a>(path: &'a [u8], walk: &Walk) -> Path<'a>
 }
 
 // Removes the first component, of any kind, from the rest of a walk, and writes it to `part`.
+// Returns false if no component remains.
 // Returns false if no component remains. Not inlined, so that most steps stay small.
 #[inline(never)]
 fn take_first(path: &[u8], walk: &mut Walk, part: &mut Part) -> bool
@@ -98,6 +99,7 @@ fn take_first(path: &[u8], walk: &mut Walk, part: &mut Part) -> bool
 }
 
 // Removes the last component, of any kind, from the rest of a walk, and writes it to `part`.
+// Returns false if no component remains.
 // Returns false if no component remains. Not inlined, so that most steps stay small.
 #[inline(never)]
 fn take_last(path: &[u8], walk: &mut Walk, part: &mut Part) -> bool

@@ -26,12 +26,13 @@ const NUL_IN_REQUEST: usize = usize::MAX - 3;
 /// Writes the resolved path to `out` if it fits, and returns its length. Each `..` is dropped
 /// together with the name before it.
 ///
-/// The result is canonical: `.` is dropped too, and so is `..` after the root. Without a root, a
-/// `..` with no name before it stays at the beginning. The result is never longer than the path.
+/// The result is canonical: each `.` is dropped too, and so is each `..` directly after the root.
+/// If the path has no root, a `..` that finds no name to drop stays, at the beginning of the
+/// result. The result is never longer than the path.
 ///
 /// Purely lexical: if a component before a `..` may be a symbolic link, only the system knows where
-/// that `..` leads. A result of no bytes represents the current directory. Like Go's `path.Clean`,
-/// which returns `.` where this call returns 0.
+/// that `..` leads. A result of no bytes represents the current directory. Go's `path.Clean` then
+/// returns `.`, and otherwise the same path.
 ///
 /// For `a/../..//b/.` it is `../b`, for `/../a` it is `/a`, and for `a/..` the empty path.
 #[tactic(auto, using(crate::proofs::lemmas::buffers::BoundLemmas::bounds))]
@@ -47,18 +48,18 @@ pub extern "C" fn unix_path_resolved(path: &[u8], out: &mut [u8]) -> usize
 /// Joins the root and the request, both verbatim: writes the join to `out` if it fits, and returns
 /// its length. A request that has a root, a `..` or a NUL is refused.
 ///
-/// Meant for a root that is a symbolic link or may contain some: each `..` of the root stays.
-/// Lexically, the request only goes down from the root. A link below the root is followed wherever
-/// it leads.
+/// It is for a root whose components may be symbolic links: each `..` of the root stays. Lexically,
+/// the request only goes down from the root. The system follows a link below the root wherever it
+/// leads.
 ///
 /// Returns `UNIX_PATH_ESCAPES` if and only if the request has a root or any `..`. Otherwise returns
 /// `UNIX_PATH_NUL_IN_REQUEST` if and only if the request has a NUL byte, at which a system call
-/// would cut the join. Otherwise the length is at most `root.len() + 1 + request.len()`, or the
+/// would end the join. Otherwise the length is at most `root.len() + 1 + request.len()`, or the
 /// call returns `UNIX_PATH_TOO_LONG` if the join has more than `PTRDIFF_MAX` bytes, which no buffer
 /// has.
 ///
 /// A trailing slash of the request stays, the root may have a NUL, and the join may be the root
-/// itself with a trailing slash. Like `path_within`'s `join_verbatim`.
+/// itself with a trailing slash. The join is that of `path_within`'s `join_verbatim`.
 ///
 /// `/srv/../www` with `./a` is `/srv/../www/./a`. With `a/../b` the result is `UNIX_PATH_ESCAPES`,
 /// and with `..\0/a` it is `UNIX_PATH_NUL_IN_REQUEST`.
@@ -90,8 +91,8 @@ pub extern "C" fn unix_path_join_verbatim(root: &[u8], request: &[u8], out: &mut
     len_or_too_long(unix_path_join(root, request, out))
 }
 
-// Writes the root's bytes and the request's names to the beginning of `out` if they fit, and
-// returns their length, or `TOO_LONG` if no buffer has that length.
+// Writes the join of the root and the request to the beginning of `out` if the join fits. Returns
+// the length of the join, or `TOO_LONG` if the length is greater than that of any buffer.
 #[inline]
 fn write_below(root: &[u8], request: Request<'_>, out: &mut [u8]) -> usize
     ensures answers { IsLength result ⊎ (result ≡ too_long) }
@@ -117,11 +118,11 @@ fn write_below(root: &[u8], request: Request<'_>, out: &mut [u8]) -> usize
 ///
 /// Returns `UNIX_PATH_ESCAPES` if and only if the request escapes: it has a root, or goes above
 /// where it starts. Otherwise returns `UNIX_PATH_NUL_IN_REQUEST` if and only if the request has a
-/// NUL byte, at which a system call would cut the join.
+/// NUL byte, at which a system call would end the join.
 ///
 /// Purely lexical: if a component below the root may be a symbolic link, the system has to refuse
 /// links. If the request has no name, the join is the root itself. A trailing slash of the request
-/// is dropped. Like `path_within`'s `Request::beneath`, joined to `Root::verbatim`.
+/// is dropped. In `path_within` it is a `Request::beneath` that is joined to a `Root::verbatim`.
 ///
 /// `/srv/www` with `a/../b` is `/srv/www/b`; `/../a` and `a/../..` are refused.
 #[tactic(auto, using(crate::proofs::lemmas::buffers::BoundLemmas::bounds))]
@@ -153,11 +154,13 @@ pub extern "C" fn unix_path_join_beneath(root: &[u8], request: &[u8], out: &mut 
     }
 }
 
-/// Joins a request that is read as in a chroot to the root: like `unix_path_join_beneath`, except
-/// that leading slashes are dropped, and a `..` at the root stays there.
+/// Joins a request, which is read as in a chroot, to the root. This is `unix_path_join_beneath`,
+/// except that leading slashes of the request are dropped, and that a `..` at the root stays at the
+/// root.
 ///
-/// Meant for the decoded paths of URLs and for archives. Returns `UNIX_PATH_NUL_IN_REQUEST` if and
-/// only if the request has a NUL byte. Like `path_within`'s `Request::in_root`, joined to
+/// It is for decoded paths of URLs, and for other requests that are read as in a chroot; for
+/// entries of archives use `unix_path_join_beneath`. Returns `UNIX_PATH_NUL_IN_REQUEST` if and only
+/// if the request has a NUL byte. In `path_within` it is a `Request::in_root` that is joined to a
 /// `Root::verbatim`.
 ///
 /// `/srv/www` with `/../a` is `/srv/www/a`.

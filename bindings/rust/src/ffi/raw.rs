@@ -14,7 +14,7 @@ pub struct Walk {
     pub(super) back: usize,
 }
 
-/// A component of a path: where it is, and its kind. Like Rust's `Component`.
+/// A component of a path: its position and its kind. It is like Rust's `Component`.
 #[repr(C)]
 #[derive(Clone, Copy, Debug)]
 pub struct Part {
@@ -36,7 +36,7 @@ pub struct Span {
     pub(super) length: usize,
 }
 
-/// A chunk of a path: valid UTF-8 and the invalid bytes after it. Like Rust's `Utf8Chunk`.
+/// A chunk of a path: valid UTF-8 and the invalid bytes after it. It is like Rust's `Utf8Chunk`.
 #[repr(C)]
 #[derive(Clone, Copy, Debug)]
 pub struct Chunk {
@@ -45,7 +45,7 @@ pub struct Chunk {
     /// The number of bytes of valid UTF-8. It is 0 if the chunk begins with invalid bytes.
     pub(super) valid_length: usize,
     /// The number of invalid bytes after the valid ones, at most 3: an incomplete UTF-8 sequence,
-    /// or a single byte with which no UTF-8 sequence begins. Only the last chunk can have 0.
+    /// or a single byte that begins no UTF-8 sequence. It can be 0 only in the last chunk.
     pub(super) broken_length: usize,
 }
 
@@ -62,12 +62,12 @@ impl Part {
 pub mod errors {
     /// The error code if an extension has a slash.
     pub const SEPARATOR: usize = usize::MAX - 6;
-    /// The error code if bytes are the key of no path.
+    /// The error code if the bytes are the key of no path.
     pub const NOT_A_KEY: usize = usize::MAX - 4;
     /// The error code if the range of a key has no end.
     pub const NO_END: usize = usize::MAX - 5;
-    /// The error code for a length that no buffer has. It is one more than the greatest length of a
-    /// buffer.
+    /// The error code for a result that is longer than any buffer. It is one more than the greatest
+    /// length of a buffer.
     pub const TOO_LONG: usize = 1 << 63;
     /// The error code if there is no relative path.
     pub const NO_RELATIVE_PATH: usize = usize::MAX - 7;

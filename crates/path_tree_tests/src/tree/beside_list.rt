@@ -21,7 +21,7 @@ fn path_from(alloc: Global, random: &mut Random) -> Result<PathBuf, AllocError> 
     Path::from_bytes(&bytes).to_path_buf(alloc)
 }
 
-// Returns the component that follows the base in the path, if one does.
+// Returns the path's first component after the base, if there is one.
 fn first_behind<'a>(path: Path<'a>, base: Path<'_>) -> Option<Component<'a>> {
     match path.strip_prefix(base) {
         Ok(rest) => rest.components().next(),
@@ -47,7 +47,7 @@ impl Listed {
         }
     }
 
-    // Returns the number of paths that start with this one.
+    // Returns the number of paths that start with the base.
     fn count_under(&self, base: Path<'_>) -> usize {
         let mut count = 0usize;
         for (path, _) in &self.files {
@@ -76,8 +76,8 @@ impl Listed {
         count
     }
 
-    // Returns the rest of this path after the longest of the paths that it starts with, and the
-    // value at that path.
+    // Finds the longest listed path that this path starts with. Returns the rest of this path after
+    // it, and its value.
     fn longest_prefix<'a>(&self, path: Path<'a>) -> Option<(Path<'a>, u32)> {
         let mut most = 0;
         let mut found = None;
@@ -117,7 +117,7 @@ impl Listed {
         }
     }
 
-    // Removes the paths that start with this one, and returns the number of paths removed.
+    // Removes the paths that start with the base, and returns the number of paths removed.
     fn remove_under(&mut self, base: Path<'_>) -> usize {
         let before = self.files.len();
         self.files
@@ -177,8 +177,8 @@ fn has_all(tree: &PathTree<u32>, listed: &Listed) -> Result<bool, AllocError> {
     Ok(tree.len() == listed.files.len())
 }
 
-// Extends the tree and the list by the value at the path, and by another value at a random path.
-// Returns true if both then have the same files.
+// Extends the tree and the list by two entries: the value at the path, and another value at a
+// random path. Returns true if both then have the same files.
 fn extends_alike(
     alloc: Global,
     random: &mut Random,
@@ -249,8 +249,9 @@ fn changes_alike(
     Ok(tree.changed(others)?.len() == count)
 }
 
-// Returns true if the tree has as many children of the base as the list, each of them is the base
-// and one more component, with the value at that path, and each is a prefix of some file's path.
+// Returns true if the base has as many children in the tree as in the list, and each child is
+// right: it is the base and one more component, some file's path starts with it, and it has the
+// value that the list has at this path, if any.
 fn has_children(
     alloc: Global,
     tree: &PathTree<u32>,
@@ -301,8 +302,8 @@ fn answers_alike(
     })
 }
 
-// Calls a tree and a list in the same way. Returns the number of such pairs of calls before the
-// first pair whose results differ, or that leaves different numbers of files.
+// Makes the same random calls of a tree and of a list. Returns the number of pairs of calls before
+// the first pair whose results differ, or that leaves different numbers of files.
 fn calls_alike(alloc: Global, seed: u64) -> Result<u32, AllocError> {
     let mut random = Random::new(seed);
     let mut tree = PathTree::new(alloc);

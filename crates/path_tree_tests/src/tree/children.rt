@@ -1,12 +1,12 @@
-//! The children of bases in trees, by hand.
+//! The children of bases in trees, compared with a table.
 use super::tree_of;
 use path_keys::PathKey;
 use std::alloc::{AllocError, Global};
 use std::test::Fail;
 use unix_path::Path;
 
-// Paths of a tree, a base, and its children, each with its position among the paths, counted from
-// 1, if it is one of them.
+// Paths of a tree, a base, and the base's children. If a child is one of the paths, it has its
+// position among the paths, counted from 1.
 type Row = (
     &'static [&'static str],
     &'static str,

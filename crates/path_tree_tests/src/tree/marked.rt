@@ -1,12 +1,12 @@
-//! The nearest entries of many paths in a tree with a Bloom filter, compared with a search by
-//! numbers.
+//! The nearest entries of many paths in a tree with a Bloom filter, compared with a search that
+//! represents each path by a number.
 use path_keys::PathKey;
 use path_tree::PathTree;
 use std::alloc::{AllocError, Global};
 use std::test::Fail;
 use unix_path::{Path, PathBuf};
 
-// Enough files that a Bloom filter is created, and rebuilt.
+// The number of files: enough that a Bloom filter is created, and rebuilt.
 const FILES: u64 = 700;
 
 // Returns the path of a number: a root, and a name for each of its digits to the base 5. The path's
@@ -30,8 +30,8 @@ fn stands(number: u64) -> bool {
     number < FILES && number % 3 != 0 && number % 7 != 0
 }
 
-// Returns the number whose path is nearest, or 0 if there is none, and the number of names after
-// that path.
+// Returns the number of the nearest entry's path, or 0 if there is none, and the number of names
+// after that path.
 fn nearest_number(number: u64) -> (u64, usize) {
     let mut near = number;
     let mut left = 0usize;
@@ -44,7 +44,8 @@ fn nearest_number(number: u64) -> (u64, usize) {
     (near, left)
 }
 
-// Returns a tree of the paths of these numbers, some of which were in it only temporarily.
+// Returns a tree of the paths of the numbers for which `stands` is true. The paths of some other
+// numbers have been inserted and removed again.
 fn filled(alloc: Global) -> Result<PathTree<u64>, AllocError> {
     let mut tree = PathTree::new(alloc);
     for number in 1..FILES {

@@ -1,4 +1,4 @@
-//! Moves of entries from one base to another, by hand.
+//! Moves of entries from one base to another, compared with a table.
 use super::tree_of;
 use path_keys::PathKey;
 use path_tree::PathTree;
@@ -6,9 +6,9 @@ use std::alloc::{AllocError, Global};
 use std::test::Fail;
 use unix_path::Path;
 
-// Paths of a tree, whose values are their positions, counted from 1; the source and the target of a
-// move; and its result: the number of entries moved and the entries that the tree then has, or the
-// text of the error.
+// Paths of a tree, whose values are their positions, counted from 1. Then the source and the target
+// of a move. Then its result: the number of entries moved and the entries that the tree then has,
+// or the text of the error.
 type Row = (
     &'static [&'static str],
     &'static str,
@@ -72,8 +72,8 @@ fn has_entries(
     Ok(tree.len() == want.len())
 }
 
-// Returns true if the row's tree is moved as the row says, or if the move fails as it says and the
-// tree is unchanged.
+// Returns true if the move has the row's result: if it moves the row's entries, or if it fails with
+// the row's error and leaves the tree unchanged.
 fn is_moved(alloc: Global, row: &Row) -> Result<bool, AllocError> {
     let mut tree = tree_of(alloc, row.0)?;
     let from = PathKey::from_path(alloc, Path::from_text(row.1))?;

@@ -1,11 +1,11 @@
-//! The nearest entries of paths, by hand, and of a path with a long key.
+//! The nearest entries of paths, compared with a table, and of a path with a long key.
 use super::{long_name, tree_of};
 use std::alloc::{AllocError, Global};
 use std::test::Fail;
 use unix_path::Path;
 
-// The tree's paths, a path, and its rest after its nearest entry, with the position of that entry
-// among the paths, counted from 1.
+// The tree's paths, a path, and, if it has a nearest entry, the rest of the path after this entry
+// and the entry's position among the tree's paths, counted from 1.
 type Row = (
     &'static [&'static str],
     &'static str,
@@ -52,7 +52,7 @@ fn what_is_nearest(rt: HostRuntime) -> Result<(), Fail> {
     Ok(())
 }
 
-// Tests a path whose key is longer than a key on the stack may be.
+// Tests a path whose key is too long for the stack.
 #[test]
 fn what_is_nearest_to_a_long_path(rt: HostRuntime) -> Result<(), Fail> {
     let alloc = rt.alloc();

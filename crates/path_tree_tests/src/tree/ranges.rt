@@ -1,4 +1,4 @@
-//! The entries under bases in trees, by hand, and the first and last entries.
+//! The entries under bases in trees, compared with tables, and the first and last entries.
 use super::tree_of;
 use path_keys::PathKey;
 use path_tree::PathTree;
@@ -31,7 +31,8 @@ fn is_key_of(alloc: Global, key: &[u8], path: &str) -> Result<bool, AllocError> 
     Ok(PathKey::from_path(alloc, Path::from_text(path))?.as_bytes() == key)
 }
 
-// Returns true if the tree of the row's paths has the entries in the row under the base.
+// Returns true if the entries under the row's base, in the tree of the row's paths, are those of
+// the row.
 fn has_under(alloc: Global, row: &Row) -> Result<bool, AllocError> {
     let tree = tree_of(alloc, row.0)?;
     let base = PathKey::from_path(alloc, Path::from_text(row.1))?;
@@ -56,8 +57,8 @@ fn what_is_under_a_base(rt: HostRuntime) -> Result<(), Fail> {
     Ok(())
 }
 
-// Returns true if as many entries under the base are removed from the tree of the row's paths as
-// the row says, and the tree then has all paths except these.
+// Removes the entries under the row's base from the tree of the row's paths. Returns true if as
+// many are removed as the row has, and the tree then has all other paths.
 fn removes_under(alloc: Global, row: &Row) -> Result<bool, AllocError> {
     let mut tree = tree_of(alloc, row.0)?;
     let base = Path::from_text(row.1);
@@ -118,7 +119,7 @@ fn entries_in_path_order(rt: HostRuntime) -> Result<(), Fail> {
     Ok(())
 }
 
-// Returns true if these are the entries of the first tree that the other lacks.
+// Returns true if these are the entries of the first tree whose paths the second tree lacks.
 fn lacks(
     tree: &PathTree<u32>,
     other: &PathTree<u32>,
@@ -136,7 +137,7 @@ fn what_another_tree_lacks(rt: HostRuntime) -> Result<(), Fail> {
     Ok(())
 }
 
-// Returns true if these are the entries that the trees have with different values.
+// Returns true if these are the entries that both trees have, but with different values.
 fn differ(
     tree: &PathTree<u32>,
     other: &PathTree<u32>,

@@ -1,5 +1,5 @@
-//! Trees of strictly increasing paths, by hand, and compared with the same paths inserted one by
-//! one.
+//! Trees created from strictly increasing paths, for the rows of a table, and compared with trees
+//! into which the same paths are inserted one by one.
 use super::has_at;
 use path_tree::{PathTree, SortedError};
 use std::alloc::{AllocError, Global};
@@ -34,7 +34,8 @@ fn with_places(
     Ok(items)
 }
 
-// Returns true if a tree of all the paths is created, or the paths are rejected, as the row says.
+// Returns true if a tree of all the paths is created if they `rise`, and otherwise the paths are
+// rejected.
 fn is_made(alloc: Global, paths: &[&'static str], rise: bool) -> Result<bool, AllocError> {
     let items = with_places(alloc, paths)?;
     match PathTree::from_sorted(alloc, items.iter().copied()) {

@@ -1,4 +1,4 @@
-//! Callers of trees that need no line of proof.
+//! Functions that call trees and whose contracts are proved without a line of proof.
 ghost use Rattle.std.specs.Prelude.{◌≡◌, IfOk};
 ghost use Rattle.unix_path.specs.Parts.{SameValues};
 

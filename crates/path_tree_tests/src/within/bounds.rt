@@ -1,5 +1,5 @@
 //! Callers of the laws that bound the length of a result. A law that is called in a body is a fact
-//! there, and no function needs a proof.
+//! there, so no function here needs a line of proof.
 ghost use Rattle.std.specs.Prelude.{◌≤◌, ◌+◌, ◌*◌, IfOk, length};
 ghost use Rattle.unix_bytes.specs.Text.{text_bytes};
 ghost use Rattle.unix_path.specs.Buffers.{path_bytes};

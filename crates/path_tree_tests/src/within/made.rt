@@ -12,16 +12,16 @@ use unix_path::Path;
 // The number of strings of at most 5 letters over an alphabet of three.
 const SHORTER_PATHS: usize = 364;
 
-// The number of strings of at most 4 letters over an alphabet of three, and of at most 3 letters
-// over one of four.
+// The number of strings of at most 4 letters over an alphabet of three.
 const SHORTER_STRINGS: usize = 121;
 
+// The number of strings of at most 3 letters over an alphabet of four.
 const SHORTER_WITH_NULS: usize = 85;
 
 const RANDOM_PAIRS: u32 = 10_000;
 
-// Returns true if the path is written resolved, as these bytes, to a buffer of their length, but
-// not to a buffer that is one byte shorter.
+// Returns true if `write_resolved` writes the bytes `want` to a buffer of their length, but nothing
+// to a buffer that is one byte shorter.
 fn is_written(path: Path<'_>, want: &[u8]) -> bool {
     let mut buffer = [b'#'; 65];
     let len = want.len();
@@ -35,15 +35,16 @@ fn is_written(path: Path<'_>, want: &[u8]) -> bool {
     needed == len && written == len && is_untouched && is_exact
 }
 
-// Returns true if the path, of at most 64 bytes, is resolved to the path that is written.
+// Returns true if `resolved` and `write_resolved` have the same result for the path, of at most 64
+// bytes.
 fn is_resolved(alloc: Global, path: &[u8]) -> Result<bool, AllocError> {
     let path = Path::from_bytes(path);
     let made = resolved(alloc, path)?;
     Ok(is_written(path, made.as_path().bytes))
 }
 
-// Returns true if the relative path is written, as these bytes, to a buffer of their length, but
-// not to a buffer that is one byte shorter.
+// Returns true if `write_relative_path` writes the bytes `want` to a buffer of their length, but
+// nothing to a buffer that is one byte shorter.
 fn is_relative_path_written(from: Path<'_>, to: Path<'_>, want: &[u8]) -> bool {
     let mut buffer = [b'#'; 163];
     let len = want.len();
@@ -57,8 +58,8 @@ fn is_relative_path_written(from: Path<'_>, to: Path<'_>, want: &[u8]) -> bool {
     needed == Some(len) && written == Some(len) && is_untouched && is_exact
 }
 
-// Returns true if the relative path is the path that is written, or if there is none and nothing is
-// written.
+// Returns true if `relative_path` and `write_relative_path` have the same result, or if both find
+// no relative path and nothing is written.
 fn is_led(alloc: Global, from: Path<'_>, to: Path<'_>) -> Result<bool, AllocError> {
     match relative_path(alloc, from, to)? {
         Some(made) => Ok(is_relative_path_written(from, to, made.as_path().bytes)),
@@ -69,8 +70,8 @@ fn is_led(alloc: Global, from: Path<'_>, to: Path<'_>) -> Result<bool, AllocErro
     }
 }
 
-// Returns true if the join within is the whole join resolved, or if it is rejected and the request
-// escapes.
+// Returns true if `join_within` returns the path `whole`, which is the join, resolved, or if the
+// request escapes and is refused.
 fn is_joined_within(
     alloc: Global,
     root: Path<'_>,
@@ -86,8 +87,8 @@ fn is_joined_within(
     }
 }
 
-// Returns true if the verbatim join is the whole join, or if it is rejected because the request has
-// a root, a `..` or a NUL.
+// Returns true if `join_verbatim` returns the path `whole`, which is the join, or if the request
+// has a root, a `..` or a NUL and is refused with the right error.
 fn is_joined_verbatim(alloc: Global, root: Path<'_>, request: Path<'_>, whole: Path<'_>) -> bool {
     let escapes = has_root_or_parent_dir(request);
     let is_cut = has_nul(request.bytes);
@@ -99,7 +100,8 @@ fn is_joined_verbatim(alloc: Global, root: Path<'_>, request: Path<'_>, whole: P
     }
 }
 
-// Returns true if both joins of the two paths, and the relative path between them, are right.
+// Returns true if both joins of the two paths, and the relative path from the first to the second,
+// are right.
 fn is_made(alloc: Global, first: &[u8], second: &[u8]) -> Result<bool, AllocError> {
     let (a, b) = (Path::from_bytes(first), Path::from_bytes(second));
     let whole = a.join(alloc, b)?;

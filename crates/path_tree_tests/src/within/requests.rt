@@ -1,12 +1,11 @@
-//! Rows of requests, and of paths without their roots.
+//! Tables of requests, and of paths that are stripped of their roots.
 use path_within::{Request, Root, StripError};
 use std::alloc::{AllocError, Global};
 use std::test::Fail;
 use unix_bytes::bytes::UnixStr;
 use unix_path::Path;
 
-// The properties of a request: its path, its file name, whether it has no name, and whether it ends
-// in a slash.
+// A request: its path, its file name, whether it has no name, and whether it ends in a slash.
 type Row = (&'static str, Option<&'static str>, bool, bool);
 
 static REQUESTS: [Row; 14] = [
@@ -44,7 +43,7 @@ static STRIPPED: [(&'static str, &'static str, Result<&'static str, StripError>)
     ("/srv/../x", "/srv/../x/a", Ok("a")),
 ];
 
-// Returns true if the request of the row has these properties.
+// Returns true if the request of the row's path has the row's properties.
 fn is_request(row: &Row) -> bool {
     let Ok(request) = Request::beneath(Path::from_text(row.0)) else {
         return false;

@@ -1,5 +1,5 @@
-//! Joins of requests below roots, as new paths, in a reused buffer and written to slices, and the
-//! rests of these joins: for all short strings and for random ones.
+//! Joins of requests below roots, for all short strings and for random ones: as new paths, in a
+//! reused buffer and written to slices. Also the rests of these joins after their roots.
 use path_within::within::has_root_or_parent_dir;
 use path_within::{Request, Root, StripError, has_nul};
 use std::alloc::{AllocError, Global};
@@ -29,8 +29,8 @@ fn names_of(alloc: Global, request: Request<'_>) -> Result<Vec<u8>, AllocError> 
     Ok(names)
 }
 
-// Returns true if the request has these names, and ends in a slash if and only if filler follows
-// its last component and that is a name.
+// Returns true if the request has these names, and ends in a slash if and only if its last
+// component is a name and filler follows it.
 fn has_names(request: Request<'_>, names: &[u8]) -> bool {
     let path = request.as_path();
     let ends_in_slash = match path.file_name() {
@@ -71,8 +71,8 @@ fn is_stripped(
     }
 }
 
-// Returns true if the request's joins, new, in the buffer and written, are the same, and their rest
-// after the root has the request's names.
+// Returns true if the new join, the join in the buffer and the join written to a slice are the
+// same, and the rest of the join after the root has the request's names.
 fn is_joined(
     alloc: Global,
     root: &Root,
@@ -91,8 +91,8 @@ fn is_joined(
     )
 }
 
-// Returns true if the root strips from the path what `strip_prefix` strips, or rejects the rest as
-// it should.
+// Returns true if `strip` and `contains` of the root are right for the path: `strip` returns the
+// same rest as `strip_prefix`, or refuses the path with the right error.
 fn is_told(root: &Root, path: Path<'_>) -> bool {
     let is_told = match (root.strip(path), path.strip_prefix(root.as_path())) {
         (Ok(request), Ok(left)) => {
@@ -108,8 +108,8 @@ fn is_told(root: &Root, path: Path<'_>) -> bool {
     is_told && root.contains(path) == root.strip(path).is_ok()
 }
 
-// Returns true if the path is joined below the root, unless it is refused as a request, and if the
-// root strips the path and its join as it should.
+// Returns true if the path, unless it is refused as a request, is joined below the root, and if
+// `strip` is right for the path and for the plain join of the root and the path.
 fn is_read(
     alloc: Global,
     root: &Root,
@@ -131,8 +131,8 @@ fn is_read(
     Ok(is_new && is_below && is_told(root, path) && is_told(root, whole.as_path()))
 }
 
-// Returns the first of these strings that is wrong below the root, if there is one, or `want` if
-// these are not the root's bytes.
+// Returns the first of the strings for which `is_read` is false, if there is one. Returns `want` if
+// it is not the root's bytes.
 fn first_wrong<'a>(
     alloc: Global,
     root: &Root,

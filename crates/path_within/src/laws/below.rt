@@ -6,7 +6,8 @@ ghost use Rattle.path_within.specs.BelowLaws.{BelowWithin, DownIsJoined, DownIsJ
 /// A request represents only names. If its path does not escape, these names are what the path
 /// resolves to.
 ///
-/// Leading slashes of the path do not change the names, and the names represent themselves.
+/// Leading slashes of the path do not change the names. Used as a request again, the names
+/// represent the same names.
 ///
 /// `/a/../../b` represents `b`, and so do `a/../../b` and `b`.
 pub fn requests_are_names()
@@ -18,10 +19,10 @@ pub fn requests_are_names()
 
 /// The join of a root and a request is below the root, whatever the root is.
 ///
-/// Its bytes begin with the root's bytes. Its components are the root's own components and then the
-/// request's names, so that without the root the request's names remain. With a resolved root and a
-/// request that does not escape, it is the resolved join of both. Purely lexical: symbolic links
-/// are not followed.
+/// The join's bytes begin with the root's bytes. Its components are the root's own components and
+/// then the request's names. Without the root, the join has only the request's names. If the root
+/// is resolved and the request does not escape, the join is the resolved join of both. Purely
+/// lexical: symbolic links are not followed.
 ///
 /// Below `/srv/..` the request `a/../b` is `/srv/../b`, which is `/srv/..` and then `b`.
 pub fn joins_stay_below()
@@ -31,8 +32,7 @@ pub fn joins_stay_below()
     ensures within { BelowWithin }
 {}
 
-/// A path that goes down from a root is equal to a join: the root, joined with the rest of the path
-/// as the request.
+/// A path that goes down from a root is equal to the join of the root and the rest of the path.
 ///
 /// A path goes down from a root if it starts with the root's components, and the rest has neither a
 /// root nor a `..`. If the root is empty, the path and the join are equal except for a leading `.`

@@ -2,8 +2,8 @@
 ghost use Rattle.path_within.specs.RelativePathLaws.{RelativePathReadsBack, RelativePathLeads};
 ghost use Rattle.path_within.specs.RelativePathLaws.{NoRelativePath, RelativePathIsShort};
 
-/// A path joined with its relative path to a second path resolves to what the second path resolves
-/// to.
+/// If there is a relative path from one path to another, the first path joined with it resolves to
+/// the same bytes as the second path.
 ///
 /// Parsed as a path, the bytes of a relative path have its components. If there is no relative
 /// path, no path without a root leads from the first path to the second. Purely lexical: symbolic

@@ -6,7 +6,7 @@ ghost use Rattle.path_within.specs.ResolvedLaws.{ResolvedIsShort, ResolvedJoinIs
 /// A resolved path has no `.`, no `..` after a name or the root, and a root only as its first
 /// component.
 ///
-/// Its bytes have the resolved components, and resolving it again changes no byte.
+/// Parsed as a path, its bytes have the resolved components. Resolving it again changes no byte.
 ///
 /// `a/../..//b/.` resolves to `../b`, which has the components `..` and `b` and resolves to itself.
 pub fn resolved_is_normal()
@@ -24,8 +24,8 @@ pub fn resolved_congruent()
 
 /// Resolving the first path of a join beforehand does not change what the join resolves to.
 ///
-/// A `..` of the second path may drop names of the first. Not guaranteed: the same for the second
-/// path.
+/// A `..` of the second path may drop names of the first. The law does not say that the second path
+/// may be resolved beforehand.
 ///
 /// `a/./b` joined with `../c` resolves to `a/c`, and so does `a/b` joined with `../c`.
 pub fn resolved_of_join()

@@ -6,9 +6,9 @@ ghost use Rattle.path_within.specs.ResolvedLaws.{VerbatimStripped};
 
 /// The resolved join with a request that does not escape starts with the resolved root.
 ///
-/// Its components are those of the resolved root and then those of the resolved request, which are
-/// only names. Without the resolved root it is equal to the resolved request. Purely lexical:
-/// symbolic links are not followed.
+/// The components of the resolved join are those of the resolved root and then those of the
+/// resolved request, which are only names. Without the resolved root, the resolved join is equal to
+/// the resolved request. Purely lexical: symbolic links are not followed.
 ///
 /// `/srv/./www` joined with `a/../b` resolves to `/srv/www/b`, which is `/srv/www` and then `b`.
 pub fn stays_within()

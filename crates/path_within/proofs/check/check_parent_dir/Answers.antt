@@ -15,7 +15,7 @@ returns-then-is_names_only-clause-refused c =
     (sym c.has_root.ensures.value ∙ c.if-has_root.false) in
     (λ no. absurd (cc), λ refused. absurd (let no : true ≡ false = sym refused ∙ down in cc))
 
--- the walk finds whether a component is the root or `..`
+-- `any` returns true if and only if a component is the root or `..`
 found : (c : After-any) → c.any.result ≡ has_root_or_parent_dir (values c.args.path.bytes.now)
 found c = any_from_yields_List is_root_or_parent_dir _ _ c.any.result c.any.ensures.ran
     (Components-yields c.components-parts.result) (λ x r q k. search (rules, tests))

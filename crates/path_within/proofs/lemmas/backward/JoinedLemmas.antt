@@ -20,8 +20,8 @@ use Rattle.path_within.specs.WrittenBytes.{root_prefix, slashed_len}
 use Rattle.path_within.proofs.lemmas.below.BelowLemmas.{below_of-nil, below_of-some}
 use Rattle.path_within.proofs.lemmas.below.BoundLemmas.{length-slashed_bytes, slashed_len-cons}
 
--- the length of a join: the root and the names, with a slash for each name, except for the first if
--- the root needs no separator
+-- the length of a join is the length of the root plus that of the names, with a slash for each
+-- name, except the first if the root needs no separator
 pub length-joined : (root : List ℕ) (vs : List Value) → AllByRecursion IsUnslashedValue vs
     → 0 < slashed_len vs
     → length (below_of root vs) + from_bool (needs_no_separator root) ≡ length root + slashed_len vs
@@ -46,8 +46,8 @@ pub length-nameless : (root : List ℕ) (vs : List Value) → slashed_len vs ≡
 length-nameless root [] e = ap length (below_of-nil root refl)
 length-nameless root (v ∷ vs) e = absurd (omega (arith, e, slashed_len-cons v vs))
 
--- a join is at most one byte shorter than its names with a slash for each, and no shorter than the
--- root
+-- a join is at most one byte shorter than its names with a slash for each, and at least as long as
+-- the root
 pub joined_fits : (root : List ℕ) (vs : List Value) → AllByRecursion IsUnslashedValue vs
     → (slashed_len vs ≤ 1 + length (below_of root vs)) × (length root ≤ length (below_of root vs))
 joined_fits root [] h =
@@ -60,7 +60,7 @@ joined_fits root (v ∷ vs) h =
     (λ e. (omega (arith, all, ap from_bool e), omega (arith, all, ap from_bool e)))
 
 -- if names are written to the end of a buffer of the join's length, and then the root to its
--- beginning, the buffer has the join
+-- beginning, the buffer contains the join
 pub joined : {out new : List ℕ} {start : ℕ} (root : List ℕ) (vs : List Value)
     → AllByRecursion IsUnslashedValue vs → Puts vs (1 + length out) out start new
     → length new ≡ length out → length out ≡ length (below_of root vs)

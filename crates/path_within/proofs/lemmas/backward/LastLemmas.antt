@@ -1,4 +1,4 @@
--- The last name that remains of components, found from the end.
+-- The last name that remains of components after resolving, found from the end.
 use Rattle.std.proofs.Common.{◌≡◌, ℕ, suc, zero, ◌+◌, ◌≤◌, List, [], ◌∷◌, ◌++◌, length, refl, sym}
 use Rattle.std.proofs.Common.{ap, ap₂, ◌∙◌, arith, length-append}
 use Rattle.std.proofs.lemmas.Grind.{reverse_onto}
@@ -21,8 +21,8 @@ pub record Leaves (n : ℕ) (vs all : List Value) : Type 0 where
   pub stack : (ks : List Value) → push_parent_dirs n (resolve_onto ks vs) ≡ resolve_onto ks all
   pub space : n + length vs ≤ length all
 
--- what is true of ws if v was taken from the end of `all`, ws remain before v, and n of the `..`
--- taken before v have not dropped a name yet
+-- the statement about ws, the components before v, after v was taken from the end of `all`; n of
+-- the `..` taken before v have not dropped a name yet
 abbrev pub Taken : ℕ → Value → List Value → List Value → Type 0
 Taken n RootDir ws all = HasParentDirs 0 all
 Taken n CurDir ws all = Leaves n ws all
@@ -30,12 +30,12 @@ Taken n ParentDir ws all = Leaves (suc n) ws all
 Taken zero (Normal name) ws all = TakesName name all ws
 Taken (suc n) (Normal name) ws all = Leaves n ws all
 
--- `..` leaves the root unchanged
+-- pushing `..` onto a stack of only the root changes nothing
 push_parent_dirs-root : (n : ℕ) → push_parent_dirs n (RootDir ∷ []) ≡ RootDir ∷ []
 push_parent_dirs-root zero = refl
 push_parent_dirs-root (suc n) = push_parent_dirs-root n
 
--- `..` are all put on top of a stack of only `..`
+-- pushing n times `..` onto a stack of only `..` adds n to its number of `..`
 parent_dir_count-push_parent_dirs : (n : ℕ) (us : List Value) → AllParentDirs us
     → parent_dir_count (push_parent_dirs n us) ≡ n + parent_dir_count us
 parent_dir_count-push_parent_dirs zero us h = omega arith
@@ -43,7 +43,8 @@ parent_dir_count-push_parent_dirs (suc n) us h =
     ap (λ us. parent_dir_count (push_parent_dirs n us)) (push_parent_dir_grows us h)
     ∙ (let more = parent_dir_count-push_parent_dirs n (ParentDir ∷ us) h in omega arith)
 
--- one more component is taken from the end
+-- if n of the `..` taken so far have not dropped a name yet, and v is the last of the remaining
+-- components vs, `Taken` is true after v is taken
 pub taken : {n : ℕ} {vs all : List Value} {v w : Value} (m : ℕ) (ws : List Value) → Leaves n vs all
     → n ≡ m → vs ≡ ws ++ v ∷ [] → v ≡ w → Taken m w ws all
 unfolding remaining_parent_dirs

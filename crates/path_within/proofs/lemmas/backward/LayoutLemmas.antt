@@ -49,7 +49,7 @@ length-le-slashed_len [] = omega arith
 length-le-slashed_len (v ∷ vs) =
     omega (arith, slashed_len-cons v vs, length-le-slashed_len vs)
 
--- a suffix of names is names
+-- a suffix of a list of names has only names
 pub names_rest : (n : ℕ) (vs : List Value) → AllNames vs → AllNames (drop n vs)
 names_rest n vs h = names_all (drop n vs) (names_drop n vs (list_all-names vs h))
 
@@ -57,13 +57,14 @@ pub are_last_names : (n : ℕ) (vs : List Value) → AllNames (last_names n vs)
 are_last_names n vs =
     names_rest (length (names_below vs) - n) (names_below vs) (AllNames-names_below vs)
 
--- names after names are names
+-- two lists of names, one after the other, have only names
 pub names_append : (vs ws : List Value) → AllNames vs → AllNames ws → AllNames (vs ++ ws)
 names_append [] ws h k = k
 names_append (Normal name ∷ vs) ws h k = names_append vs ws h k
 names_append (v ∷ vs) ws h k = absurd h
 
--- after one more name, the last n names are the last n - 1 names before it, and then that name
+-- if one more name remains of vs than of ws, the last n names of vs are the last n - 1 names of ws
+-- and then that name
 pub last_names-push : (n : ℕ) (vs ws : List Value) (name : List ℕ) → 0 < n
     → names_below vs ≡ names_below ws ++ Normal name ∷ []
     → last_names n vs ≡ last_names (n - 1) ws ++ Normal name ∷ []
@@ -77,7 +78,7 @@ last_names-push n vs ws name some e =
     )) e
     ∙ drop-append-le (length names - (n - 1)) names (Normal name ∷ []) (omega arith)
 
--- names that are verbatim are one byte shorter than with a slash for each
+-- bytes that are names verbatim are one byte shorter than the names with a slash for each
 pub length-verbatim : {s : List ℕ} {vs : List Value} → AreVerbatim s vs
     → 1 + length s ≡ slashed_len vs
 length-verbatim {s} {vs} h = by vs h.some h.is
@@ -87,7 +88,7 @@ length-verbatim {s} {vs} h = by vs h.some h.is
     by (v ∷ vs) some is =
         omega (arith, ap length is, length-slashed_bytes (v ∷ vs), slashed_len-cons v vs)
 
--- if n is greater than the length of the path, the last n names are all its names
+-- if n is greater than the length of the path, its last n resolved names are all of them
 pub all_names : (s : List ℕ) (n : ℕ) → 1 + length s ≤ n
     → last_names n (values s) ≡ names_below (values s)
 all_names s n l =
@@ -98,14 +99,14 @@ all_names s n l =
     ) in
     ap (λ k. drop k (names_below (values s))) none
 
--- the canonical form of `..` and then names is their bytes, with slashes between them
+-- the canonical form of n times `..` and then names is their bytes, with slashes between them
 pub spelling_of-parent_dir_run : (n : ℕ) (vs : List Value) → AllNames vs
     → spelling_of (replicate n ParentDir ++ vs) ≡ slashed_bytes (replicate n ParentDir ++ vs)
 spelling_of-parent_dir_run n vs h =
     spelling_of-straight (replicate n ParentDir ++ vs) (straight n vs h)
 
--- with slashes between them, n times `..` and then names have 3 * n bytes and the length of the
--- names with a slash for each, less one byte
+-- n times `..` and then names, with slashes between them, have a length of 3 * n plus the length of
+-- the names with a slash for each, minus 1
 pub length-parent_dir_run : (n : ℕ) (vs : List Value)
     → length (slashed_bytes (replicate n ParentDir ++ vs)) ≡ (3 * n + slashed_len vs) - 1
 length-parent_dir_run n vs = omega (
@@ -114,8 +115,8 @@ length-parent_dir_run n vs = omega (
   slashed_len-parent_dir_run n vs,
 )
 
--- the names and the `..` of a path without a root, with a slash for each, are no longer than the
--- path and a slash
+-- the names and the `..` that remain of a path without a root, with a slash for each, are no longer
+-- than the path and a slash
 pub length-rootless : (s : List ℕ) → is_rooted s ≡ false
     → slashed_len (names_below (values s)) + 3 * remaining_parent_dirs (values s) ≤ 1 + length s
 length-rootless s r = omega (
@@ -125,8 +126,8 @@ length-rootless s r = omega (
   length-resolved s,
 )
 
--- a buffer that is filled from its end, first with names, then with the names before them, and then
--- with `..`, has the `..` and then all the names, with slashes between them
+-- if a buffer is filled from its end, first with names, then with the names before them, and then
+-- with `..`, it contains the `..` and then all the names, with slashes between them
 pub puts_layout : {ws vs : List Value} {mid end : ℕ} {out made more new : List ℕ}
     → Puts ws (1 + length out) out mid made → Puts vs mid made end more
     → ((n : ℕ) → end ≡ 3 * n → Puts (replicate n ParentDir) end more 0 new)
@@ -156,7 +157,8 @@ puts_layout {ws} {vs} {mid} {end} {out} {made} {more} {new} g h parent_dirs same
         ) in
         puts_all (puts_then (puts_then g h) (parent_dirs n at))
 
--- the last names, with a slash for each, are no longer than the path and a slash
+-- the last n resolved names of a path, with a slash for each, are no longer than the path and a
+-- slash
 pub last_names_fit : (n : ℕ) (s : List ℕ) → slashed_len (last_names n (values s)) ≤ 1 + length s
 last_names_fit n s =
     let names = names_below (values s) in
@@ -224,8 +226,8 @@ length-rootless_layout l r = omega (
 abbrev pub laid_out : Bool → ℕ → List Value → List Value
 laid_out r n vs = cond r (RootDir ∷ vs) (replicate n ParentDir ++ vs)
 
--- no `..` remains of s if a path t of names only represents the names of s and, where s has no
--- root, resolves to the same components as s
+-- if a path t of names only represents the names of s and, if s has no root, resolves to the same
+-- components as s, then no `..` remains of s
 pub no_parent_dirs : {t s : List ℕ} → RepresentsNames t s
     → (is_rooted s ≡ false → resolved_of (values t) ≡ resolved_of (values s))
     → is_names_only t ≡ true → 0 ≡ remaining_parent_dirs (values s)

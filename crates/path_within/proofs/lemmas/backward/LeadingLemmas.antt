@@ -1,4 +1,4 @@
--- What precedes the names of a resolved path: a root, or `..` any number of times.
+-- The components before the names of a resolved path: a root, or zero or more `..`.
 use Rattle.std.proofs.Common.{◌≡◌, ℕ, suc, zero, true, false, List, [], ◌∷◌, ◌++◌, reverse, refl}
 use Rattle.std.proofs.Common.{sym, ap, ap₂, ◌∙◌, add-one, Bool}
 use Rattle.std.proofs.Math.ListN.{replicate}
@@ -34,7 +34,8 @@ record LeavesParentDirs (stack below : List Value) : Type 0 where
   stack_is : stack ≡ names ++ replicate parent_dirs ParentDir
   below_is : below ≡ on_root names
 
--- `LeavesParentDirs` is still true of two such stacks after components without a root
+-- `LeavesParentDirs` is still true of two stacks after the same components without a root are
+-- resolved onto both
 leaves_parent_dirs : (n : ℕ) (ks vs : List Value) → AllNames ks → NoRoot vs
     → LeavesParentDirs (resolve_onto (ks ++ replicate n ParentDir) vs)
     (resolve_onto (on_root ks) vs)
@@ -105,7 +106,7 @@ abbrev pub root_if : Bool → List Value
 root_if true = RootDir ∷ []
 root_if false = []
 
--- the components of a path of names only are its root, if it has one, and its names
+-- the components of a path of names only are its root, if it has one, and its resolved names
 pub names_only_values : (s : List ℕ) → is_names_only s ≡ true
     → values s ≡ root_if (is_rooted s) ++ names_below (values s)
 names_only_values s h = by_test (is_rooted s)

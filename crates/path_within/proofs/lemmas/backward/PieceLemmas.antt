@@ -40,7 +40,7 @@ resolve_onto-inner ks s =
     resolve_onto-pieces ks (slice_split is_slash s)
     ∙ ap (resolve_onto ks) (sym (inner_values-pieces s))
 
--- the pieces have the path's names
+-- resolving the pieces of a path leaves the same names as resolving the path
 pub names_below-pieces : (s : List ℕ) → names_below (piece_values s) ≡ names_below (values s)
 names_below-pieces s =
     let found = names_on_stack (inner_values s) in
@@ -55,7 +55,7 @@ remaining_parent_dirs-pieces s r =
     ap parent_dir_count (resolve_onto-inner [] s ∙ ap (resolve_onto []) (sym (drop_dot-values s r))
     ∙ resolve_onto-drop_dot [] (values s))
 
--- there is at most one piece more than bytes
+-- a string has at most one more piece than bytes
 pub few_pieces : (s : List ℕ) → length (piece_values s) ≤ length s + 1
 few_pieces s = omega (
   arith,
@@ -64,7 +64,7 @@ few_pieces s = omega (
   count_by-le-length is_slash s,
 )
 
--- bytes without a slash are one piece
+-- splitting bytes without a slash at slashes results in one piece
 one_piece : (p : List ℕ) → position_or_len is_slash p ≡ length p → slice_split is_slash p ≡ p ∷ []
 one_piece [] e = refl
 one_piece (x ∷ p) e = by_test (is_slash x)
@@ -75,7 +75,7 @@ one_piece (x ∷ p) e = by_test (is_slash x)
     rw no (omega arith) in
     slice_split-cons_no is_slash x p no ∙ ap (onto_first x) (one_piece p (omega (arith, rest, e))))
 
--- up to its last slash, a string has all pieces except the last
+-- the bytes before the last slash of a string have all its pieces except the last
 pub last_piece : {u p : List ℕ} (s : List ℕ) (n : ℕ) → 0 < n → n ≤ length s
     → get_or s (n - 1) 0 ≡ slash
     → u ≡ take (n - 1) s → p ≡ drop n s → position_or_len is_slash p ≡ length p

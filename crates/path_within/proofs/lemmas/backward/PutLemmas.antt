@@ -35,7 +35,7 @@ puts_none {vs} {end} {out} e = record {
   bytes = λ ws h. h ∙ ap (λ vs. slash_each (vs ++ ws)) (sym e);
 }
 
--- first the components ws are written, and then those before them
+-- writing the components ws, and then the components vs before them, writes vs and then ws
 pub puts_then : {vs ws : List Value} {end mid start : ℕ} {out made new : List ℕ}
     → Puts ws end out mid made → Puts vs mid made start new → Puts (vs ++ ws) end out start new
 puts_then {vs} {ws} g h = record {
@@ -44,7 +44,7 @@ puts_then {vs} {ws} g h = record {
       ∙ ap slash_each (sym (append_assoc vs ws us));
 }
 
--- names that are verbatim are written in one piece
+-- writing a slash and then bytes that are names verbatim writes these names
 pub puts_verbatim : {end start : ℕ} {out new bytes : List ℕ} {vs : List Value}
     → AreVerbatim bytes vs → start + (1 + length bytes) ≡ end
     → drop start (slash ∷ new) ≡ slash ∷ bytes ++ drop end (slash ∷ out)
@@ -68,7 +68,7 @@ puts_verbatim {end} {start} {out} {new} {bytes} {vs} h e f = by vs h.some h.is
               ∙ ap (λ s. s ++ slash_each ws) each ∙ sym (slash_each-append (v ∷ vs) ws);
         }
 
--- a single component and its slash are written
+-- writing a slash and then the bytes of a component writes this component
 pub puts_value : {end start : ℕ} {out new : List ℕ} (v : Value)
     → start + (1 + length (value_bytes v)) ≡ end
     → drop start (slash ∷ new) ≡ slash ∷ value_bytes v ++ drop end (slash ∷ out)

@@ -25,11 +25,11 @@ use Rattle.path_within.proofs.lemmas.below.BoundLemmas.{slashed_len-cons}
 use Rattle.path_within.proofs.lemmas.stack.BetweenLemmas.{shared_count, shared_count-behind}
 use Rattle.std.proofs.Math.Seq.{drop-append-add}
 
--- some components have been taken from the end of each of two lists, so that `remaining_count`
--- remain of each; if the remaining components of both lists are equal, the lists begin with
--- `shared` equal components, and `len` is the length of the components that follow these in the
--- second list; `behind` is the length of the components taken from the second list; both lengths
--- have a slash for each component
+-- the state of comparing two lists from their ends: components have been taken from the end of each
+-- list, and `first` and `second`, `remaining_count` components each, remain; if `first` and
+-- `second` are equal, both lists begin with `shared` equal components, and `len` is the length of
+-- the second list's components after these; `behind` is the length of the components taken from the
+-- second list; both lengths have a slash for each component
 pub record Shares (all_first all_second first second : List Value)
     (remaining_count shared behind len : ℕ)
     : Type 0 where
@@ -43,8 +43,8 @@ pub record Shares (all_first all_second first second : List Value)
   pub behind_is : behind ≡ slashed_len second_taken
   pub len_is : len ≡ slashed_len (drop (shared_count first_taken second_taken) second_taken)
 
--- after the last remaining component is taken too, one more component is taken, and the length
--- grows by that component and a slash
+-- taking the last remaining component v too adds one to the number of components taken, and adds
+-- the length of v and a slash to their length
 pub takes_last : {all remaining vs : List Value} {count len : ℕ} (v : Value)
     → TakesLast all remaining count len → remaining ≡ vs ++ v ∷ []
     → TakesLast all vs (count + 1) (len + (1 + length (value_bytes v)))
@@ -55,8 +55,8 @@ takes_last {vs = vs} v h e = record {
   len_is = omega (arith, h.len_is, slashed_len-cons v h.taken);
 }
 
--- `Shares` before any components are compared, after the extra last components of the longer list
--- are taken
+-- `Shares` is true before any components are compared, after the extra last components of the
+-- longer list have been taken
 pub shares_first : {first second : List Value} {m n j k rest behind : ℕ} (v w : List Value)
     → m ≡ length v → n ≡ length w → TakesLast v first j rest → TakesLast w second k behind
     → j ≡ m - n → k ≡ n - m → Shares v w first second (min m n) (min m n) behind behind
@@ -80,8 +80,8 @@ shares_first {first} {second} v w e f g h a b =
       len_is = h.len_is ∙ ap (λ k. slashed_len (drop k h.taken)) (sym none);
     }
 
--- `Shares` after the last remaining component of each list is taken: if these two differ, only
--- components before them can be shared
+-- `Shares` is still true after the last remaining component of each list is taken; if these two
+-- components differ, only components before them can be shared
 pub shares_taken : {all_first all_second first second vs ws : List Value}
     {remaining_count shared behind len : ℕ} (b : Bool) (v w : Value)
     → Shares all_first all_second first second remaining_count shared behind len
@@ -159,8 +159,8 @@ same_first s t {x} {y} e f =
     let other = (subst ReadsAsItself f (ReadsAsItself-values t)).0 in
     by_bytes x y (λ same. let one : x ∷ [] ≡ y ∷ [] = sym own ∙ ap values same ∙ other in cc)
 
--- if two lists begin with the same component, the rests after what they share are the rests after
--- what their tails share
+-- if two lists begin with the same component, the rests of the lists after their common prefix are
+-- the rests of their tails after the common prefix of the tails
 pub drop_shared : {v w remaining other_remaining : List Value} {x y : Value} → v ≡ x ∷ remaining → w
     ≡ y ∷ other_remaining
     → same_value x y ≡ true
@@ -224,8 +224,8 @@ share_prefix s t n e first second = by_test (eqb n 0)
       second = cut.second ∙ ap (λ vs. map (λ (p : Part). p.value) cut.shared ++ vs) (own t second);
     })
 
--- if two paths have the same components up to n, dropping the shared components of their bytes from
--- n on leaves the same as dropping the shared components of the whole paths
+-- if two paths have the same components up to index n, the rests of the paths after their common
+-- prefix are the rests of their bytes from n on, after the common prefix of those bytes' components
 pub after_shared_end : {u v : List ℕ} (s t : List ℕ) {n : ℕ} → SharePrefix s t n → u ≡ drop n s
     → v ≡ drop n t
     → (drop (shared_count (values u) (values v)) (values u)

@@ -86,7 +86,7 @@ no_steps_parent_dirs f v w h =
 
 -- ---- two paths
 
--- what remains of a path without a root, `..` and then `names_below`, is `..` any number of times
+-- the `..` that remain of a path without a root, and then its `names_below`, are zero or more `..`
 -- and then only names
 rootless : (s : List ℕ) → is_rooted s ≡ false
     → ParentDirsThenNames
@@ -193,7 +193,7 @@ no_relative_path-parent_dir_run s t same l =
     ∙ no_steps_parent_dirs (replicate m ParentDir) (replicate (n - m - 1) ParentDir ++ v) w
     (AllNames-names_below (values t)))
 
--- of m + n names, the last m are the names after the first n
+-- if a path has m + n resolved names, the last m are the names after the first n
 pub last_others : (m n : ℕ) (s : List ℕ) → m + n ≡ length (names_below (values s))
     → last_names m (values s) ≡ drop n (names_below (values s))
 last_others m n s e = ap (λ k. drop k (names_below (values s)))

@@ -28,7 +28,7 @@ use Rattle.path_within.proofs.lemmas.names_only.NamesOnlyLemmas.{resolved-names_
 use Rattle.path_within.proofs.lemmas.stack.ResolveLemmas.{values-resolved}
 use Rattle.path_within.proofs.lemmas.below.WithinLemmas.{resolved_of-within}
 
--- the resolved components of a path, joined one after the other, make its resolved bytes
+-- joining the resolved components of a path, one after the other, results in its resolved bytes
 join_all_of-resolved : (s : List ℕ)
     → join_all_of [] (map value_bytes (resolved_of (values s))) ≡ resolved_bytes_of s
 join_all_of-resolved s =
@@ -50,8 +50,8 @@ below_of-within a b h =
     ∙ ap (λ ws. join_all_of (resolved_bytes_of a) (map value_bytes ws))
     (sym (names_below-resolved b h)))
 
--- a join with the rest of a path has the components of the root and then the components of the
--- rest, except a leading `.`
+-- if `rest` has neither a root nor a `..`, its join to `root` has the components of `root` and then
+-- the components of `rest`, except a leading `.` of `rest`
 values-down : (root rest : List ℕ) → has_root_or_parent_dir (values rest) ≡ false
     → values (below_of root (names_below (values rest))) ≡ values root ++ drop_dot (values rest)
 values-down root rest h =

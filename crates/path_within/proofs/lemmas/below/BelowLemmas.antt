@@ -1,4 +1,5 @@
--- The join of a root and the names of a path.
+-- The join of a root and the resolved names of a path, which are the names that remain of the path
+-- after resolving (`names_below`).
 use Rattle.std.proofs.Common.{◌≡◌, ℕ, ◌+◌, ◌≤◌, ◌<◌, true, false, List, [], ◌∷◌, ◌++◌, length, map}
 use Rattle.std.proofs.Common.{refl, sym, ap, subst, ◌∙◌, arith, append_assoc, append-nil}
 use Rattle.std.proofs.Common.{◌-◌, drop, take, length-append, take-append-drop}
@@ -32,19 +33,19 @@ use Rattle.path_within.proofs.lemmas.names_only.NamesOnlyLemmas.{names_only_has_
 use Rattle.path_within.proofs.lemmas.stack.ResolveLemmas.{values-resolved}
 use Rattle.path_within.proofs.lemmas.names_only.RequestLemmas.{names_down}
 
--- the bytes of the path b, resolved after a slash: they have the root and the names of b
+-- a slash and then the path b, resolved: these bytes have the root and the resolved names of b
 abbrev rooted : List ℕ → List ℕ
 rooted b = resolved_bytes_of (slash ∷ b)
 
 values-rooted : (b : List ℕ) → values (rooted b) ≡ RootDir ∷ names_below (values b)
 values-rooted b = values-resolved (slash ∷ b) ∙ resolved_of-slash b
 
--- each name's bytes are a path of only that name
+-- parsed as a path, the bytes of each resolved name of b have only that name
 ReadsAsItself-names_below : (b : List ℕ) → ReadsAsItself (names_below (values b))
 ReadsAsItself-names_below b
     = (subst ReadsAsItself (values-rooted b) (ReadsAsItself-values (rooted b))).1
 
--- none of a path's names begins or ends with a slash
+-- no resolved name of a path begins or ends with a slash
 unslashed_names : (b : List ℕ) → AllByRecursion IsUnslashedValue (names_below (values b))
 unslashed_names b = by (subst Shape (values-rooted b) (values-shape (rooted b)))
   where
@@ -60,7 +61,7 @@ pub below_of-nil : {vs : List Value} (root : List ℕ) → vs ≡ [] → below_o
 unfolding below_of
 below_of-nil root e = ap (λ vs. join_all_of root (map value_bytes vs)) e
 
--- none of a path's last n names begins or ends with a slash
+-- none of the last n resolved names of a path begins or ends with a slash
 pub unslashed_last : (n : ℕ) (b : List ℕ)
     → AllByRecursion IsUnslashedValue (last_names n (values b))
 unslashed_last n b =
@@ -77,7 +78,8 @@ below_of-some root [] h some = absurd (omega arith)
 below_of-some root (v ∷ vs) h some =
     join_all_of-some root (value_bytes v) (map value_bytes vs) (unslashed_bytes (v ∷ vs) h)
 
--- if bytes are the names, verbatim, the join is the root prefix and then these bytes
+-- if the bytes `names` are the resolved names of b, verbatim, the join is the root prefix and then
+-- these bytes
 pub below_of-verbatim : {names : List ℕ} (root b : List ℕ)
     → AreVerbatim names (names_below (values b))
     → root_prefix root ++ names ≡ below_of root (names_below (values b))
@@ -96,19 +98,19 @@ values-names root (Normal name ∷ vs) h k =
     ∙ append_assoc (values root) (Normal name ∷ []) vs
 values-names root (v ∷ vs) h k = absurd h
 
--- the components of a join are the root's own components and then the names
+-- the components of a join are the root's own components and then the resolved names of b
 pub values-below : (root b : List ℕ)
     → values (below_of root (names_below (values b))) ≡ values root ++ names_below (values b)
 values-below root b = values-names root (names_below (values b))
     (AllNames-names_below (values b)) (ReadsAsItself-names_below b)
 
--- a join without its root has the names as its components
+-- without its root, a join has only the resolved names of b as components
 pub values-stripped_below : (root b : List ℕ)
     → values (stripped_of (below_of root (names_below (values b))) root) ≡ names_below (values b)
 values-stripped_below root b = values-stripped_of (below_of root (names_below (values b))) root
     (names_below (values b)) (sym (values-below root b))
 
--- the join with the names of a path without a NUL is below its root
+-- if b has no NUL, the join of the root and the resolved names of b is below the root
 pub is_below : {s : List ℕ} (root b : List ℕ) → has_nul b ≡ false
     → s ≡ below_of root (names_below (values b)) → IsBelow root s
 is_below {s} root b h e =
@@ -125,8 +127,8 @@ is_below {s} root b h e =
 
 -- ---- bytes
 
--- a join begins with the root's bytes; with the bytes `more` after them, it is no longer than the
--- root prefix and b
+-- the join of the root and the resolved names of b is the root's bytes and then the bytes `more`;
+-- it is no longer than the root prefix and b together
 record AfterRoot (root b : List ℕ) : Type 0 where
   more : List ℕ
   is : root ++ more ≡ below_of root (names_below (values b))
@@ -155,12 +157,12 @@ after_root root b = by (names_below (values b)) refl
       );
     }
 
--- the bytes of a join with the names of a path begin with the root's bytes
+-- the join of the root and the resolved names of b begins with the root's bytes
 pub begins : {s : List ℕ} (root b : List ℕ) → s ≡ below_of root (names_below (values b))
     → IsPrefixOf root s
 begins root b e = let h = after_root root b in (h.more, h.is ∙ sym e)
 
--- the join is no longer than the root prefix and the path
+-- the join is no longer than the root prefix and the path together
 pub length-below : {s : List ℕ} (root b : List ℕ) → s ≡ root_prefix root ++ b
     → length (below_of root (names_below (values b))) ≤ length s
 length-below root b e = let h = after_root root b in omega (

@@ -21,14 +21,14 @@ use Rattle.path_within.proofs.lemmas.stack.ResolveLemmas.{resolve_onto-drop_dot}
 use Rattle.path_within.proofs.lemmas.below.NamesBelowLemmas.{names_on_stack, names_below-inner}
 use Rattle.path_within.proofs.lemmas.below.NamesBelowLemmas.{names_below-stack, resolved_of-slash}
 
--- one more component adds at most its own measure f to the sum of a stack's measures
+-- pushing the component v onto a stack adds at most f v to the stack's sum of f
 sum_by-push_component : (f : Value → ℕ) (ks : List Value) (v : Value)
     → sum_by f (push_component ks v) ≤ sum_by f ks + f v
 sum_by-push_component f [] v = grind (arith, sum_by-cons f v [])
 sum_by-push_component f (k ∷ ks) v =
     grind (arith, sum_by-cons f v [], sum_by-cons f v (k ∷ ks), sum_by-cons f k ks)
 
--- more components add at most the sum of their measures to the sum of a stack's measures
+-- resolving the components vs onto a stack adds at most their sum of f to the stack's sum of f
 sum_by-resolve_onto : (f : Value → ℕ) (ks vs : List Value)
     → sum_by f (resolve_onto ks vs) ≤ sum_by f ks + sum_by f vs
 sum_by-resolve_onto f ks [] = omega arith
@@ -42,7 +42,8 @@ sum_by-resolve_onto f ks (v ∷ vs) = omega (
 sum_by-reverse : (f : Value → ℕ) (vs : List Value) → sum_by f (reverse vs) ≡ sum_by f vs
 sum_by-reverse f vs = sum_by-IsPermutation f vs (reverse vs) (IsPermutation-reverse vs)
 
--- the sum of the measures of the names that remain is at most the sum over all components
+-- the sum of f over the names that remain after resolving is at most the sum of f over all
+-- components
 pub sum_by-names_below : (f : Value → ℕ) (vs : List Value)
     → sum_by f (names_below vs) ≤ sum_by f vs
 sum_by-names_below f vs =
@@ -56,8 +57,8 @@ sum_by-names_below f vs =
       sum_by-resolve_onto f (RootDir ∷ []) vs,
     )
 
--- the length of components with a slash for each is the first component's length, one more for its
--- slash, and the length of the components after it
+-- the length of components with a slash for each is the sum of the first component's length, one
+-- for its slash, and the length of the components after it, with a slash for each
 pub slashed_len-cons : (v : Value) (vs : List Value)
     → slashed_len (v ∷ vs) ≡ (1 + length (value_bytes v)) + slashed_len vs
 slashed_len-cons v vs = sum_by-cons (λ v. 1 + length (value_bytes v)) v vs
@@ -81,7 +82,7 @@ slashed_len-inner : (s : List ℕ) → slashed_len (inner_values s) ≤ 1 + leng
 slashed_len-inner s =
     omega (arith, length-slashed_bytes (inner_values s), slashed_bytes-lean s)
 
--- the names of a path, with a slash for each, are no longer than the path and a slash
+-- the resolved names of a path, with a slash for each, are no longer than the path and a slash
 pub slashed_len-names : (s : List ℕ) → slashed_len (names_below (values s)) ≤ 1 + length s
 slashed_len-names s = omega (
   arith,
@@ -90,21 +91,21 @@ slashed_len-names s = omega (
   slashed_len-inner s,
 )
 
--- the names of a path, with slashes only between them, are no longer than the path
+-- the resolved names of a path, with slashes only between them, are no longer than the path
 pub slashed_bytes-names : (s : List ℕ) → length (slashed_bytes (names_below (values s))) ≤ length s
 slashed_bytes-names s =
     omega (arith, length-slashed_bytes (names_below (values s)), slashed_len-names s)
 
--- components that have at most n + 1 bytes with a slash for each have at most n bytes in canonical
--- form
+-- if components have at most n + 1 bytes with a slash for each, their canonical form has at most n
+-- bytes
 spelling_of-fit : (vs : List Value) (n : ℕ) → slashed_len vs ≤ 1 + n → length (spelling_of vs) ≤ n
 unfolding spelling_of
 spelling_of-fit [] n l = omega arith
 spelling_of-fit (v ∷ vs) n l =
     grind (arith, slashed_len-cons v vs, length-slashed_bytes (v ∷ vs), length-slashed_bytes vs)
 
--- in canonical form, components are at least one byte shorter than with a slash for each, if there
--- are any
+-- if there are components, their canonical form is at least one byte shorter than the components
+-- with a slash for each
 pub length-spelling : (vs : List Value) → length (spelling_of vs) ≤ slashed_len vs - 1
 length-spelling vs = spelling_of-fit vs (slashed_len vs - 1) (omega arith)
 
@@ -141,11 +142,11 @@ length-resolved s = by_test (is_rooted s)
       slashed_bytes-names t,
     )
 
--- a join is at most one byte longer than both paths
+-- a join is at most one byte longer than both paths together
 pub length-join_of : (a b : List ℕ) → length (join_of a b) ≤ length a + 1 + length b
 length-join_of a b = grind (arith, push_cases)
 
--- a resolved join is at most one byte longer than both paths
+-- a resolved join is at most one byte longer than both paths together
 pub length-resolved_join : (a b : List ℕ)
     → length (resolved_bytes_of (join_of a b)) ≤ length a + 1 + length b
 length-resolved_join a b = omega (arith, length-resolved (join_of a b), length-join_of a b)

@@ -24,7 +24,7 @@ use Rattle.path_within.proofs.lemmas.stack.RelativePathLemmas.{resolve_onto-name
 abbrev pub on_root : List Value → List Value
 on_root ns = ns ++ RootDir ∷ []
 
--- a stack of names above the root still has only names above the root after more components
+-- resolving more components onto a stack of names above the root leaves only names above the root
 stack_keeps_root : (ks vs : List Value) → AllNames ks
     → (ns : List Value) × AllNames ns × (resolve_onto (on_root ks) vs ≡ on_root ns)
 stack_keeps_root ks [] h = (ks, h, refl)
@@ -65,26 +65,27 @@ pub names_below-names : (vs : List Value) → AllNames vs → names_below vs ≡
 names_below-names vs h = names_below-stack vs (reverse vs)
     (resolve_onto-names (RootDir ∷ []) vs h ∙ reverse_onto vs RootDir []) ∙ reverse-reverse vs
 
--- the names of a path that does not escape are what it resolves to
+-- if a path does not escape, it resolves to its `names_below`
 pub names_below-resolved : (b : List ℕ) → (Escapes (values b) → ⊥)
     → names_below (values b) ≡ resolved_of (values b)
 unfolding resolved_of
 names_below-resolved b h =
     names_below-stack (values b) (resolve_onto [] (values b)) (keeps_stack (RootDir ∷ []) b h).stack
 
--- the names are the same if a leading root or `.` of the components is dropped
+-- dropping a leading root or `.` of the components does not change their `names_below`
 names_below-drop_leading : (vs : List Value) → names_below (drop_leading vs) ≡ names_below vs
 unfolding names_below resolved_of
 names_below-drop_leading (RootDir ∷ vs) = refl
 names_below-drop_leading vs = refl
 
--- the names are the same if a leading `.` of the components is dropped
+-- dropping a leading `.` of the components does not change their `names_below`
 pub names_below-drop_dot : (vs : List Value) → names_below (drop_dot vs) ≡ names_below vs
 unfolding names_below resolved_of
 names_below-drop_dot (CurDir ∷ vs) = refl
 names_below-drop_dot vs = refl
 
--- the inner components of a path, without its root or leading `.`, have the path's names
+-- the inner components of a path, which are all except its root or leading `.`, have the same
+-- `names_below` as the path
 pub names_below-inner : (s : List ℕ) → names_below (inner_values s) ≡ names_below (values s)
 names_below-inner s =
     ap names_below (sym (drop_leading-values s)) ∙ names_below-drop_leading (values s)
@@ -92,12 +93,12 @@ names_below-inner s =
 pub values-slash : (t : List ℕ) → values (slash ∷ t) ≡ RootDir ∷ inner_values t
 values-slash t = values-rooted t ∙ ap (λ vs. RootDir ∷ vs) (sym (inner_values-pieces t))
 
--- a leading slash changes none of the names
+-- adding a leading slash to a path does not change its `names_below`
 pub names_below-slash : (t : List ℕ) → names_below (values (slash ∷ t)) ≡ names_below (values t)
 unfolding names_below resolved_of
 names_below-slash t = ap names_below (values-slash t) ∙ names_below-inner t
 
--- a path after a slash resolves to the root and the path's names
+-- a slash and then the path t resolve to the root and the `names_below` of t
 pub resolved_of-slash : (t : List ℕ)
     → resolved_of (values (slash ∷ t)) ≡ RootDir ∷ names_below (values t)
 resolved_of-slash t =

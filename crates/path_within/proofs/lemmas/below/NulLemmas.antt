@@ -1,4 +1,4 @@
--- A path has a NUL if and only if one of its names has one.
+-- A path has a NUL if and only if one of its components has one.
 use Rattle.std.proofs.Common.{◌≡◌, ℕ, Bool, false, cond, eqb, ltb, ◌||◌, List, [], ◌∷◌, refl, sym}
 use Rattle.std.proofs.Common.{ap, ◌∙◌, arith}
 use Rattle.std.specs.List.{count_by, join_with_byte, list_any, slice_split}
@@ -60,7 +60,7 @@ list_any-count p (v ∷ vs) = grind (
   list_any-count p vs,
 )
 
--- if no component has a NUL, no name that remains of them has one
+-- if no component has a NUL, no name that remains after resolving has one
 pub no_nul-below : (vs : List Value) → list_any nul_in vs ≡ false
     → list_any nul_in (names_below vs) ≡ false
 no_nul-below vs h =

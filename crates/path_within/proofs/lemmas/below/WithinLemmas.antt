@@ -1,4 +1,4 @@
--- Joins that stay within a root: what follows the root.
+-- Joins that stay within a root: the components after the root.
 use Rattle.std.proofs.Common.{◌≡◌, ℕ, List, [], ◌++◌, reverse, sym, ap, ap₂, ◌∙◌}
 use Rattle.std.proofs.lemmas.List.{reverse-append}
 use Rattle.unix_path.specs.Joins.{join_of}
@@ -10,8 +10,8 @@ use Rattle.path_within.proofs.lemmas.stack.EscapeLemmas.{keeps_stack}
 use Rattle.path_within.proofs.lemmas.stack.ResolveLemmas.{resolve_onto-join, values-resolved}
 use Rattle.path_within.proofs.lemmas.stack.StackLemmas.{names_reverse}
 
--- the components of a join with a request that does not escape resolve to the resolved components
--- of both
+-- if the request b does not escape, the join of a and b resolves to the resolved components of a
+-- and then those of b
 pub resolved_of-within : (a b : List ℕ) → (Escapes (values b) → ⊥)
     → resolved_of (values (join_of a b)) ≡ resolved_of (values a) ++ resolved_of (values b)
 unfolding resolved_of
@@ -25,7 +25,8 @@ pub names-within : (b : List ℕ) → (Escapes (values b) → ⊥) → AllNames 
 unfolding resolved_of
 names-within b h = names_reverse (resolve_onto [] (values b)) (keeps_stack [] b h).are_names
 
--- the resolved join with a request that does not escape has the resolved components of both
+-- if the request b does not escape, the resolved bytes of the join of a and b have the resolved
+-- components of a and then those of b
 pub values-within : (a b : List ℕ) → (Escapes (values b) → ⊥)
     → values (resolved_bytes_of (join_of a b))
     ≡ values (resolved_bytes_of a) ++ values (resolved_bytes_of b)

@@ -79,7 +79,7 @@ name_follows_unless_stop s k h = grind (
   get_or_past s (k + 1 + 1) 0,
 )
 
--- a path is one of names only if all its pieces are names, after the root if there is one
+-- if all pieces of a path after its root, if it has one, are names, it is a path of names only
 pub names_only_without_root : (s : List ℕ) (n : ℕ) → n ≡ from_bool (is_rooted s)
     → has_only_name_pieces (drop n s) ≡ true → is_names_only s ≡ true
 names_only_without_root s n e h =

@@ -18,7 +18,7 @@ use Rattle.path_within.proofs.lemmas.stack.StackLemmas.{names_normal}
 use Rattle.path_within.proofs.lemmas.stack.RelativePathLemmas.{list_all-names}
 use Rattle.path_within.proofs.lemmas.names_only.NormalLemmas.{resolved_if_normal}
 
--- pieces that are names count: none is empty or `.`
+-- pieces that are names count as components, because none is empty or `.`
 name_pieces_count : (ps : List (List ℕ)) → list_all is_name_piece ps ≡ true
     → list_all counts ps ≡ true
 name_pieces_count [] h = refl
@@ -35,7 +35,7 @@ name_pieces_no_dot : (ps : List (List ℕ)) → list_all is_name_piece ps ≡ tr
 name_pieces_no_dot [] h = refl
 name_pieces_no_dot (p ∷ ps) h = grind arith
 
--- a rooted path is resolved already if all pieces of t, the bytes after the root, are names
+-- if all pieces of t, the bytes after the root of s, are names, s is resolved already
 rooted_names_only : (s t : List ℕ) → has_only_name_pieces t ≡ true → is_rooted s ≡ true
     → t ≡ drop 1 s → resolved_bytes_of s ≡ s
 rooted_names_only s t h r e =
@@ -86,7 +86,8 @@ pub resolved_empty : (s : List ℕ) → s ≡ [] → resolved_bytes_of s ≡ s
 unfolding resolved_of spelling_of
 resolved_empty s e = rw e (ap (λ vs. spelling_of (resolved_of vs)) values-nil)
 
--- the path has only names, at least one, is in canonical form, and has as many components as pieces
+-- the path consists of one or more names, is in canonical form, and has as many components as
+-- pieces
 pub record HasNames (s : List ℕ) : Type 0 where
   pub some : s ≡ [] → ⊥
   pub names : AllNames (values s)

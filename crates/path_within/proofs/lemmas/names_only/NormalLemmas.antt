@@ -34,8 +34,8 @@ normal_if_resolved s e = subst IsNormal (resolved_values s e) (resolved_normal (
 pub canonical_if_resolved : (s : List ℕ) → resolved_bytes_of s ≡ s → s ≡ spelling_of (values s)
 canonical_if_resolved s e = sym e ∙ ap spelling_of (resolved_values s e)
 
--- if the first component is not `..`, components are `..` any number of times and then names if and
--- only if all are names
+-- if v is not `..`, the components v and vs are zero or more `..` and then names if and only if all
+-- of them are names
 pub straight_iff : (v : Value) (vs : List Value) → is_parent_dir v ≡ false
     → IsTrue (is_name v && list_all is_name vs) ↔ ParentDirsThenNames (v ∷ vs)
 straight_iff (Normal name) vs h = names_iff vs

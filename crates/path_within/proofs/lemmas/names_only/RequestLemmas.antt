@@ -35,7 +35,7 @@ pub request_stays : (b : List ℕ) → has_root_or_parent_dir (values b) ≡ fal
 request_stays b e h = both_ways (escapes_from 0 (values b)) (escapes_from-names_only 0 (values b) e)
     ((escapes_by_depth b).0 h)
 
--- inner components without a `..` are names
+-- inner components (`..` and names) without a `..` are names
 inner_names : (vs : List Value) → AllByRecursion IsInner vs → has_root_or_parent_dir vs ≡ false
     → AllNames vs
 inner_names [] h e = tt

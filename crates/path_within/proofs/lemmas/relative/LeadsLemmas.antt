@@ -21,13 +21,13 @@ use Rattle.path_within.proofs.lemmas.stack.RelativePathLemmas.{names_all, normal
 use Rattle.path_within.proofs.lemmas.stack.RelativePathLemmas.{resolved_of-normal}
 use Rattle.path_within.proofs.lemmas.stack.RelativePathLemmas.{parent_dirs_straight}
 
--- the canonical form of normal components has these components
+-- parsed as a path, the canonical form of normal components has these components
 pub values-spelling_of_normal : (vs : List Value) → IsNormal vs → ReadsAsItself vs
     → values (spelling_of vs) ≡ vs
 values-spelling_of_normal vs h k = subst (λ ws. values (spelling_of ws) ≡ ws)
     (resolved_of-normal vs h) (values-spelling_of_resolved vs k)
 
--- resolving a stack's components again in two steps, the lowest one first, leaves the same stack
+-- resolving a stack's components again, first the lowest n and then the rest, leaves the same stack
 resolve_onto-cut : (n : ℕ) (ks : List Value) → IsStack ks
     → resolve_onto (resolve_onto [] (take n (reverse ks))) (drop n (reverse ks)) ≡ ks
 resolve_onto-cut n ks h =
@@ -36,7 +36,7 @@ resolve_onto-cut n ks h =
     ∙ ap (resolve_onto []) (take-append-drop n vs)
     ∙ resolve_onto-stack ks h
 
--- the relative path leads from the stack ks to the stack js
+-- the relative path `steps` leads from the stack ks to the stack js
 record IsRelativePath (ks js steps : List Value) : Type 0 where
   pub straight : ParentDirsThenNames steps
   pub one : ReadsAsItself steps
@@ -48,7 +48,8 @@ ReadsAsItself-parent_dir_run [] vs h = h
 ReadsAsItself-parent_dir_run (x ∷ xs) vs h =
     (ValueReadsAsItself-dot_dot, ReadsAsItself-parent_dir_run xs vs h)
 
--- the relative path between two paths leads from the stack of one to the stack of the other
+-- the relative path from one path to another leads from the stack of the first to the stack of the
+-- second
 relative_path_is : (from to : List ℕ) (steps : List Value)
     → relative_path_of (values from) (values to) ≡ Some steps
     → IsRelativePath (resolve_onto [] (values from)) (resolve_onto [] (values to)) steps
@@ -77,13 +78,14 @@ relative_path_is from to steps e =
           ∙ resolve_onto-cut n js (IsStack-resolve_onto [] (values to) tt);
     }
 
--- the bytes of a relative path have its components
+-- parsed as a path, the bytes of a relative path have its components
 pub values-relative_path : (from to : List ℕ) (steps : List Value)
     → relative_path_of (values from) (values to) ≡ Some steps → values (spelling_of steps) ≡ steps
 values-relative_path from to steps e = let is = relative_path_is from to steps e in
     values-spelling_of_normal steps (straight_normal steps is.straight) is.one
 
--- a path joined with its relative path to another resolves to the same bytes as the other
+-- if there is a relative path from one path to another, the first path joined with it resolves to
+-- the same bytes as the second
 pub relative_path_leads : (from to : List ℕ) (steps : List Value)
     → relative_path_of (values from) (values to) ≡ Some steps
     → resolved_bytes_of (join_of from (spelling_of steps)) ≡ resolved_bytes_of to

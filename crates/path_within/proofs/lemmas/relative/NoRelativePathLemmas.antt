@@ -1,4 +1,4 @@
--- If there is no relative path, no path without a root leads there.
+-- If there is no relative path from one path to another, no path without a root leads there.
 use Rattle.std.proofs.Common.{◌≡◌, ◌⊎◌, ℕ, true, false, List, [], ◌∷◌, ◌++◌, reverse, None, refl}
 use Rattle.std.proofs.Common.{sym, ap, ap₂, subst, ◌∙◌, inl, inr, ⊎_elim}
 use Rattle.std.specs.List.{list_any}
@@ -44,13 +44,13 @@ on_pop_limit (Normal name ∷ ks) h = let more = on_pop_limit ks h in record {
 on_pop_limit ks h = record
     { top = []; pop_limit = ks; names = tt; is_pop_limit = inr refl; is = refl }
 
--- the stack ks is components without a root on top of the pop limit
+-- the stack ks is components without a root (`top`) on top of the pop limit
 record KeepsPopLimit (ks pop_limit : List Value) : Type 0 where
   pub top : List Value
   pub no_root : list_any is_root top ≡ false
   pub is : ks ≡ top ++ pop_limit
 
--- a `..` keeps the pop limit
+-- pushing a `..` onto components on top of a pop limit leaves the pop limit unchanged
 push_keeps_pop_limit : (top pop_limit : List Value) → IsPopLimit pop_limit → list_any is_root top
     ≡ false
     → KeepsPopLimit (push_parent_dir (top ++ pop_limit)) pop_limit
@@ -62,7 +62,7 @@ push_keeps_pop_limit (Normal name ∷ top) pop_limit h k =
     record { top = top; no_root = k; is = refl }
 push_keeps_pop_limit top pop_limit h k = record { top = ParentDir ∷ top; no_root = k; is = refl }
 
--- components without a root keep the pop limit
+-- resolving components without a root leaves the pop limit unchanged
 keeps_pop_limit : (top pop_limit vs : List Value) → IsPopLimit pop_limit → list_any is_root top
     ≡ false
     → NoRoot vs → KeepsPopLimit (resolve_onto (top ++ pop_limit) vs) pop_limit
@@ -91,8 +91,8 @@ some_relative_path ks vs h r none =
     (list_any-reverse keeps.top ∙ keeps.no_root)
     (sym (ap₂ steps_from v w) ∙ none)
 
--- if there is no relative path, no rootless path, joined to the first, resolves to the same bytes
--- as the other
+-- if there is no relative path from one path to another, the first path joined with a rootless path
+-- never resolves to the same bytes as the second
 pub no_relative_path : (from to b : List ℕ) → relative_path_of (values from) (values to) ≡ None
     → is_rooted b ≡ false → resolved_bytes_of (join_of from b) ≡ resolved_bytes_of to → ⊥
 unfolding relative_path_of resolved_of

@@ -36,14 +36,14 @@ take-shared (x ∷ v) (y ∷ w) = let n = shared_count v w in grind (
   same_value-Decides x y,
 )
 
--- a prefix that is put before two lists adds its length to the number of components they share
+-- putting the same prefix before two lists adds its length to the number of components they share
 pub shared_count-behind : (f x y : List Value)
     → shared_count (f ++ x) (f ++ y) ≡ length f + shared_count x y
 shared_count-behind [] x y = grind arith
 shared_count-behind (z ∷ f) x y =
     let same = (same_value-Decides z z).1 refl in rw same (grind (arith, shared_count-behind f x y))
 
--- the order makes no difference to whether a root is among components
+-- components contain a root if and only if they contain one in reverse order
 pub list_any-reverse : (vs : List Value) → list_any is_root (reverse vs) ≡ list_any is_root vs
 list_any-reverse [] = refl
 list_any-reverse (v ∷ vs) = grind (
@@ -53,7 +53,7 @@ list_any-reverse (v ∷ vs) = grind (
   list_any-reverse vs,
 )
 
--- a suffix of names is names
+-- a suffix of a list of names has only names
 pub names_drop : (n : ℕ) (vs : List Value) → list_all is_name vs ≡ true
     → list_all is_name (drop n vs) ≡ true
 names_drop n vs h = grind (arith, common_steps, list_all-append is_name (take n vs) (drop n vs))
@@ -62,7 +62,7 @@ no_root_drop : (n : ℕ) (vs : List Value) → list_any is_root vs ≡ false
     → list_any is_root (drop n vs) ≡ false
 no_root_drop n vs h = grind (arith, common_steps, list_any-append is_root (take n vs) (drop n vs))
 
--- from names after f there is a relative path to components without a root after f
+-- if x has only names and y has no root, there is a relative path from f and then x to f and then y
 pub some_steps : (f x y : List Value) → list_all is_name x ≡ true → list_any is_root y ≡ false
     → steps_from (f ++ x) (f ++ y) ≡ None → ⊥
 some_steps f x y h k none =
@@ -79,7 +79,7 @@ pub record AreSteps (v w steps : List Value) : Type 0 where
   pub no_root : list_any is_root w ≡ false
   pub steps_are : parent_dirs_for v ++ w ≡ steps
 
--- if there is a relative path, it leads from names to components without a root
+-- if `steps_between` finds a relative path from v to w, `AreSteps` is true of this path
 pub steps_between-is : (v w steps : List Value) → steps_between v w ≡ Some steps
     → AreSteps v w steps
 steps_between-is v w steps e =

@@ -1,4 +1,4 @@
--- Components that escape, determined by a depth that is counted from the first component on, and
+-- Components that escape, which is tested by counting the depth from the first component on, and
 -- the stack of components that do not escape.
 use Rattle.std.proofs.Common.{◌≡◌, ℕ, suc, zero, ◌+◌, ◌-◌, ◌<◌, Bool, true, false, cond, List, []}
 use Rattle.std.proofs.Common.{◌∷◌, ◌++◌, length, take, refl, sym, ap, ◌∙◌, arith, inl, inr, ⊎_elim}
@@ -29,13 +29,13 @@ abbrev pub GoesAboveFrom : ℕ → List Value → Type 0
 GoesAboveFrom n vs =
     (k : ℕ) × (n + count_by is_name (take k vs) < count_by is_parent_dir (take k vs))
 
--- a first component that passes adds one to the count
+-- a first component that passes p adds one to the count of components that pass p
 count_by-cons : (p : Value → Bool) (v : Value) (vs : List Value)
     → count_by p (v ∷ vs) ≡ cond (p v) 1 0 + count_by p vs
 count_by-cons p v vs = sum_by-cons (λ v. cond (p v) 1 0) v vs
 
--- if v moves the depth from n to m, components that go above from m go above from n with v before
--- them
+-- if v changes the depth from n to m and vs go above the start from depth m, then v and vs go above
+-- the start from depth n
 one_more : (n m : ℕ) (v : Value) (vs : List Value)
     → n + cond (is_name v) 1 0 ≡ m + cond (is_parent_dir v) 1 0
     → GoesAboveFrom m vs → GoesAboveFrom n (v ∷ vs)
@@ -43,7 +43,8 @@ one_more n m v vs e (k, h) =
     let names = count_by-cons is_name v (take k vs) in
     let parent_dirs = count_by-cons is_parent_dir v (take k vs) in (suc k, omega arith)
 
--- for components without a root that escape by depth, some prefix has more `..`
+-- if components without a root escape from depth n, some prefix has more `..` than n plus the
+-- number of its names
 escapes_from-goes : (n : ℕ) (vs : List Value) → NoRoot vs → escapes_from n vs ≡ true
     → GoesAboveFrom n vs
 escapes_from-goes n [] r e = absurd (let d : false ≡ true = e in cc)
@@ -57,7 +58,8 @@ escapes_from-goes zero (ParentDir ∷ vs) r e =
 escapes_from-goes (suc n) (ParentDir ∷ vs) r e =
     one_more (suc n) n ParentDir vs (omega arith) (escapes_from-goes n vs r e)
 
--- components of which some prefix has more `..` escape by depth
+-- if the first k components have more `..` than n plus the number of their names, the components
+-- escape from depth n
 goes-escapes_from : (n k : ℕ) (vs : List Value)
     → n + count_by is_name (take k vs) < count_by is_parent_dir (take k vs) → escapes_from n vs
     ≡ true
@@ -88,7 +90,7 @@ rootless-no_roots s r = by (values s) refl
         absurd (let no : true ≡ false = sym (ap root_first e) ∙ root_first-values s ∙ r in cc)
     by (v ∷ vs) e = inner-no_roots vs (inner-behind s v vs e)
 
--- a path escapes if and only if it escapes by depth, counted from 0
+-- a path escapes if and only if its components escape from depth 0
 pub escapes_by_depth : (s : List ℕ) → Escapes (values s) ↔ (escapes_from 0 (values s) ≡ true)
 escapes_by_depth s =
     let root = rooted-IsPrefixOf s (is_rooted s) refl in (
@@ -107,12 +109,12 @@ pub rootless-stays : (b : List ℕ) → (Escapes (values b) → ⊥) → is_root
 rootless-stays b h =
     false_from_ne_true (is_rooted b) (λ r. h (inl ((rooted-IsPrefixOf b (is_rooted b) refl).0 r)))
 
--- the stack `all` is the stack ks with only names on top
+-- the stack `all` is the stack ks with `names` on top, which are only names
 pub record Stays (ks all names : List Value) : Type 0 where
   pub stack : all ≡ names ++ ks
   pub are_names : AllNames names
 
--- components that do not escape after the names ns leave the stack below ns unchanged
+-- if vs do not escape after the names ns, resolving vs leaves the stack below ns unchanged
 stays : (ks ns vs : List Value) → AllNames ns → escapes_from (length ns) vs ≡ false
     → Stays ks (resolve_onto (ns ++ ks) vs) (resolve_onto ns vs)
 stays ks ns [] h e = record { stack = refl; are_names = h }
@@ -122,7 +124,7 @@ stays ks (Normal name ∷ ns) (ParentDir ∷ vs) h e = stays ks ns vs h e
 stays ks (n ∷ ns) (ParentDir ∷ vs) h e = absurd h
 stays ks ns (v ∷ vs) h e = absurd (let no : true ≡ false = e in cc)
 
--- a path that does not escape leaves a stack unchanged, and adds only names on top
+-- resolving a path that does not escape onto a stack only adds names on top of the stack
 pub keeps_stack : (ks : List Value) (b : List ℕ) → (Escapes (values b) → ⊥)
     → Stays ks (resolve_onto ks (values b)) (resolve_onto [] (values b))
 keeps_stack ks b h = stays ks [] (values b) tt

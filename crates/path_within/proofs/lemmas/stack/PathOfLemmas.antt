@@ -32,7 +32,7 @@ ValueReadsAsItself-dot = values-rootless (dot ∷ []) ((dot ∷ []) ∷ []) refl
 pub ValueReadsAsItself-dot_dot : ValueReadsAsItself ParentDir
 ValueReadsAsItself-dot_dot = values-rootless (dot ∷ dot ∷ []) ((dot ∷ dot ∷ []) ∷ []) refl refl
 
--- if the bytes of a component are a path of only that component, they are not empty
+-- if the bytes of a component, parsed as a path, have only that component, they are not empty
 pub one_has_bytes : (v : Value) → ValueReadsAsItself v → 0 < length (value_bytes v)
 one_has_bytes v one = by (value_bytes v) one
   where
@@ -44,7 +44,8 @@ piece_rootless : (p : List ℕ) → NoSlash p → is_rooted p ≡ false
 piece_rootless [] h = refl
 piece_rootless (x ∷ p) h = h.0
 
--- a piece that counts, neither empty nor `.`, is a path of only that piece's component
+-- the bytes of a piece that is neither empty nor `.`, parsed as a path, have only the piece's
+-- component
 pub ValueReadsAsItself-piece : HoldsOfPieces ValueReadsAsItself
 ValueReadsAsItself-piece p h e f =
     let alone : slice_split is_slash p ≡ p ∷ [] =
@@ -53,7 +54,7 @@ ValueReadsAsItself-piece p h e f =
     ap values (value_bytes-piece p) ∙ values-rootless p (p ∷ []) (piece_rootless p h) alone
     ∙ ap (λ c. cond c (CurDir ∷ []) [] ++ names_of (p ∷ [])) f ∙ single
 
--- the bytes of each component of a path are a path of only that component
+-- the bytes of each component of a path, parsed as a path, have only that component
 pub ReadsAsItself-values : (s : List ℕ) → ReadsAsItself (values s)
 ReadsAsItself-values s = values-hold ValueReadsAsItself ValueReadsAsItself-root
     ValueReadsAsItself-dot ValueReadsAsItself-piece s
@@ -77,7 +78,7 @@ ReadsAsItself-resolve_onto ks [] h k = h
 ReadsAsItself-resolve_onto ks (v ∷ vs) h k = ReadsAsItself-resolve_onto (push_component ks v) vs
     (ReadsAsItself-push_component ks v h k.0) k.1
 
--- a join with the bytes of an inner component adds that component
+-- joining the bytes of an inner component (`..` or a name) to a path adds that component
 values-join_of_value : (s : List ℕ) (v : Value) → IsInner v → ValueReadsAsItself v
     → values (join_of s (value_bytes v)) ≡ values s ++ v ∷ []
 values-join_of_value s v i e =
@@ -87,7 +88,8 @@ values-join_of_value s v i e =
     values-join_of_rootless s b rootless ∙ ap (append_values (values s)) e
     ∙ append_values-inner (values s) (v ∷ []) (i, tt)
 
--- an inner component, joined to the path of a stack, comes after the stack's components
+-- an inner component (`..` or a name), joined to the path of a stack, comes after the stack's
+-- components
 push_value : (ks : List Value) (v : Value) → IsInner v → ValueReadsAsItself v
     → values (path_of ks) ≡ reverse ks → values (path_of (v ∷ ks)) ≡ reverse (v ∷ ks)
 push_value ks v i e h = values-join_of_value (path_of ks) v i e

@@ -26,13 +26,13 @@ pub names_all : (vs : List Value) → list_all is_name vs ≡ true → AllNames 
 names_all [] e = tt
 names_all (v ∷ vs) e = grind (arith, names_all vs)
 
--- names are all put on top of a stack
+-- resolving names onto a stack puts all of them on top
 pub resolve_onto-names : (ks vs : List Value) → AllNames vs → resolve_onto ks vs ≡ reverse_aux vs ks
 resolve_onto-names ks [] h = refl
 resolve_onto-names ks (Normal name ∷ vs) h = resolve_onto-names (Normal name ∷ ks) vs h
 resolve_onto-names ks (v ∷ vs) h = absurd h
 
--- `..` and then names are all put on top of a stack of only `..`
+-- resolving zero or more `..` and then names onto a stack of only `..` puts all of them on top
 resolve_onto-straight : (us vs : List Value) → AllParentDirs us → ParentDirsThenNames vs
     → resolve_onto us vs ≡ reverse_aux vs us
 resolve_onto-straight us [] h k = refl
@@ -49,13 +49,13 @@ resolved_of-normal (RootDir ∷ vs) h =
     ap reverse (resolve_onto-names (RootDir ∷ []) vs h) ∙ reverse-reverse (RootDir ∷ vs)
 resolved_of-normal vs h = ap reverse (resolve_onto-straight [] vs tt h) ∙ reverse-reverse vs
 
--- a `..` before a list of `..` or after it makes the same list
+-- adding a `..` at the beginning of a list of `..` or at its end results in the same list
 parent_dirs_rotate : (vs : List Value) → ParentDir ∷ parent_dirs_for vs ≡ parent_dirs_for vs
     ++ ParentDir ∷ []
 parent_dirs_rotate [] = refl
 parent_dirs_rotate (v ∷ vs) = ap (λ us. ParentDir ∷ us) (parent_dirs_rotate vs)
 
--- as many `..` as names drop these names from the stack
+-- resolving names and then as many `..` onto a stack leaves the stack unchanged
 pub resolve_onto-parent_dir_run : (ks vs : List Value) → AllNames vs
     → resolve_onto (resolve_onto ks vs) (parent_dirs_for vs) ≡ ks
 resolve_onto-parent_dir_run ks [] h = refl
@@ -66,14 +66,14 @@ resolve_onto-parent_dir_run ks (Normal name ∷ vs) h =
     ∙ ap push_parent_dir (resolve_onto-parent_dir_run (Normal name ∷ ks) vs h)
 resolve_onto-parent_dir_run ks (v ∷ vs) h = absurd h
 
--- a suffix of `..` and then names is `..` and then names
+-- each suffix of zero or more `..` and then names is zero or more `..` and then names
 pub straight_drop : (n : ℕ) (vs : List Value) → ParentDirsThenNames vs
     → ParentDirsThenNames (drop n vs)
 straight_drop zero vs h = h
 straight_drop (suc n) [] h = h
 straight_drop (suc n) (v ∷ vs) h = straight_drop n vs (grind (arith, names_straight vs))
 
--- a suffix of normal components is `..` and then names if it has no root
+-- if a suffix of normal components has no root, it is zero or more `..` and then names
 pub normal_drop : (n : ℕ) (vs : List Value) → IsNormal vs → list_any is_root (drop n vs) ≡ false
     → ParentDirsThenNames (drop n vs)
 normal_drop zero [] h k = h
@@ -81,18 +81,18 @@ normal_drop zero (v ∷ vs) h k = grind arith
 normal_drop (suc n) [] h k = h
 normal_drop (suc n) (v ∷ vs) h k = straight_drop n vs (grind (arith, names_straight vs))
 
--- `..` before `..` and then names are `..` and then names
+-- putting more `..` before zero or more `..` and then names again results in `..` and then names
 pub parent_dirs_straight : (xs vs : List Value) → ParentDirsThenNames vs
     → ParentDirsThenNames (parent_dirs_for xs ++ vs)
 parent_dirs_straight [] vs h = h
 parent_dirs_straight (x ∷ xs) vs h = parent_dirs_straight xs vs h
 
--- `..` and then names have no root
+-- zero or more `..` and then names contain no root
 pub straight_rootless : (vs : List Value) → ParentDirsThenNames vs → list_any is_root vs ≡ false
 straight_rootless [] h = refl
 straight_rootless (v ∷ vs) h = grind (arith, straight_rootless vs, names_straight vs)
 
--- the canonical form of `..` and then names is their bytes, with slashes between them
+-- the canonical form of zero or more `..` and then names is their bytes, with slashes between them
 pub spelling_of-straight : (vs : List Value) → ParentDirsThenNames vs
     → spelling_of vs ≡ slashed_bytes vs
 unfolding spelling_of

@@ -18,7 +18,7 @@ use Rattle.path_within.proofs.lemmas.stack.PathOfLemmas.{ReadsAsItself-resolve_o
 use Rattle.path_within.proofs.lemmas.stack.PathOfLemmas.{ReadsAsItself-values}
 use Rattle.path_within.proofs.lemmas.stack.PathOfLemmas.{path_of-spelled, values-path_of}
 
--- the canonical form of resolved components has these components
+-- parsed as a path, the canonical form of resolved components has these components
 pub values-spelling_of_resolved : (vs : List Value) → ReadsAsItself vs
     → values (spelling_of (resolved_of vs)) ≡ resolved_of vs
 unfolding resolved_of
@@ -28,7 +28,7 @@ values-spelling_of_resolved vs h =
     let one = ReadsAsItself-resolve_onto [] vs tt h in
     ap values (sym (path_of-spelled ks stack one)) ∙ values-path_of ks stack one
 
--- a resolved path has the resolved components
+-- parsed as a path, the resolved bytes of s have the resolved components of s
 pub values-resolved : (s : List ℕ) → values (resolved_bytes_of s) ≡ resolved_of (values s)
 values-resolved s = values-spelling_of_resolved (values s) (ReadsAsItself-values s)
 
@@ -38,18 +38,19 @@ pub resolved_bytes_of-again : (s : List ℕ)
 resolved_bytes_of-again s =
     ap spelling_of (ap resolved_of (values-resolved s) ∙ resolved_of-resolved_of (values s))
 
--- the bytes of each component in a suffix of a path's components are a path of only that component
+-- in a suffix of a path's components, the bytes of each component, parsed as a path, have only that
+-- component
 pub ReadsAsItself-drop : (n : ℕ) (s : List ℕ) → ReadsAsItself (drop n (values s))
 ReadsAsItself-drop n s = AllByRecursion-end ValueReadsAsItself (take n (values s)) _
     (subst ReadsAsItself (sym (take-append-drop n (values s))) (ReadsAsItself-values s))
 
--- the bytes of each component in a suffix of a path's resolved components are a path of only that
--- component
+-- in a suffix of a path's resolved components, the bytes of each component, parsed as a path, have
+-- only that component
 pub ReadsAsItself-resolved : (n : ℕ) (s : List ℕ) → ReadsAsItself (drop n (resolved_of (values s)))
 ReadsAsItself-resolved n s = subst (λ vs. ReadsAsItself (drop n vs)) (values-resolved s)
     (ReadsAsItself-drop n (resolved_bytes_of s))
 
--- a leading `.` changes nothing on the stack
+-- dropping a leading `.` of the components does not change the stack after them
 pub resolve_onto-drop_dot : (ks vs : List Value) → resolve_onto ks (drop_dot vs)
     ≡ resolve_onto ks vs
 resolve_onto-drop_dot ks (CurDir ∷ vs) = refl
@@ -69,7 +70,8 @@ resolve_onto-rooted ks b r =
     let lead = ap values t.1 ∙ values-rooted t.0 in
     ap (resolve_onto []) lead ∙ sym (ap (resolve_onto ks) lead)
 
--- the stack of a join is the stack of the first path after the components of the second
+-- the stack of a join is the stack after the first path's components and then the second path's
+-- components
 pub resolve_onto-join : (a b : List ℕ)
     → resolve_onto [] (values (join_of a b)) ≡ resolve_onto (resolve_onto [] (values a)) (values b)
 resolve_onto-join a b = by_test (is_rooted b)
@@ -79,7 +81,8 @@ resolve_onto-join a b = by_test (is_rooted b)
     ∙ resolve_onto-append [] (values a) (values_added a b)
     ∙ resolve_onto-added (resolve_onto [] (values a)) a b)
 
--- the components of a join resolve as those of the first path and then those of the second
+-- the components of a join resolve to the same components as those of the first path and then those
+-- of the second
 pub resolved_of-both : (a b : List ℕ)
     → resolved_of (values (join_of a b)) ≡ resolved_of (values a ++ values b)
 unfolding resolved_of

@@ -1,4 +1,4 @@
--- Stacks: which components are on them, and that resolving these again changes nothing.
+-- Stacks: their components, and that resolving these components again leaves the same stack.
 use Rattle.std.proofs.Common.{◌≡◌, List, [], ◌∷◌, ◌++◌, reverse, refl, sym, ap, ◌∙◌}
 use mathlib.Core.List.{reverse_aux}
 use Rattle.unix_path.specs.Parts.{Value, RootDir, CurDir, ParentDir, Normal}
@@ -32,14 +32,14 @@ pub resolve_onto-append : (ks vs ws : List Value) → resolve_onto ks (vs ++ ws)
 resolve_onto-append ks [] ws = refl
 resolve_onto-append ks (v ∷ vs) ws = resolve_onto-append (push_component ks v) vs ws
 
--- a `..` is put on top of a stack of only `..`
+-- pushing a `..` onto a stack of only `..` puts it on top
 pub push_parent_dir_grows : (ks : List Value) → AllParentDirs ks → push_parent_dir ks ≡ ParentDir
     ∷ ks
 push_parent_dir_grows (RootDir ∷ ks) h = absurd h
 push_parent_dir_grows (Normal name ∷ ks) h = absurd h
 push_parent_dir_grows ks h = refl
 
--- the top of a stack is put on top of the components below it
+-- pushing the top v of a stack onto the components below it puts v on top again
 push_last : (v : Value) (ks : List Value) → IsStack (v ∷ ks) → push_component ks v ≡ v ∷ ks
 push_last RootDir ks h = ap (λ ks. RootDir ∷ ks) (sym h)
 push_last CurDir ks h = absurd h
@@ -69,7 +69,7 @@ pub names_straight : (vs : List Value) → AllNames vs → ParentDirsThenNames v
 names_straight (ParentDir ∷ vs) h = absurd h
 names_straight vs h = h
 
--- `..` and then names are normal
+-- zero or more `..` and then names are normal
 pub straight_normal : (vs : List Value) → ParentDirsThenNames vs → IsNormal vs
 straight_normal (RootDir ∷ vs) h = absurd h
 straight_normal vs h = h
@@ -78,7 +78,8 @@ straight_normal vs h = h
 pub names_normal : (vs : List Value) → AllNames vs → IsNormal vs
 names_normal vs h = straight_normal vs (names_straight vs h)
 
--- `..` before `..` and then names are `..` and then names
+-- putting the `..` of us before zero or more `..` and then names again results in `..` and then
+-- names
 parent_dirs_before : (us vs : List Value) → AllParentDirs us → ParentDirsThenNames vs
     → ParentDirsThenNames (reverse_aux us vs)
 parent_dirs_before [] vs h k = k

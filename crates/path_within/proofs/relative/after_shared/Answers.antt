@@ -40,7 +40,7 @@ loop-part-preserved c =
       second = both.1 ∙ c.loop-part.invariant.second;
     }
 
--- where the loop ends, the rests share no component
+-- when the loop ends, the rests of the two paths begin with no common component
 none : (c : After-as_path-in_default)
     → shared_count (cursor_values c.loop-part.rest) (cursor_values c.loop-part.other_rest) ≡ 0
 none c = elim c.in_default.branch [

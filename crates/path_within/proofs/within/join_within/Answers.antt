@@ -10,7 +10,7 @@ use Rattle.path_within.proofs.lemmas.below.WithinLemmas.{begins-within, resolved
 use Rattle.path_within.proofs.within.join_within.Goals as goal
 use Rattle.path_within.proofs.within.join_within.Goals.{Else-is_refused}
 
--- the request does not escape
+-- if the check does not refuse the request, the request does not escape
 stays : (c : Else-is_refused) → Escapes (values c.args.request.bytes.now) → ⊥
 stays c escapes =
     let yes = c.is_refused.ensures.1 (c.check_escape-check.ensures.refused.1 escapes) in

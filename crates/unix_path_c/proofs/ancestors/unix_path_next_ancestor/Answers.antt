@@ -5,7 +5,8 @@ use Rattle.unix_path_c.proofs.lemmas.walks.AncestorLemmas.{remaining_ancestors-p
 use Rattle.unix_path_c.proofs.ancestors.unix_path_next_ancestor.Goals as goal
 use Rattle.unix_path_c.proofs.ancestors.unix_path_next_ancestor.Goals.{In-Some, In-None}
 
--- if there is a parent, the remaining ancestors are this one and then the ancestors of the parent
+-- if the first `next` bytes have a parent, the remaining ancestors are these bytes and then the
+-- ancestors of the parent
 with_parent : (c : In-Some) → remaining_ancestors c.args.path.now c.args.next.now
     ≡ take c.args.next.now c.args.path.now
     ∷ remaining_ancestors c.args.path.now (length c.in-Some.parent.bytes.now)
@@ -19,7 +20,7 @@ pub returns-in-Some-clause-ended : goal.returns-in-Some-clause-ended
 returns-in-Some-clause-ended c =
     let step = with_parent c in (λ no. absurd (true≢false no), λ none. absurd (cc))
 
--- if there is no parent, no ancestor remains after this one
+-- if the first `next` bytes have no parent, they are the only remaining ancestor
 without_parent : (c : In-None) → remaining_ancestors c.args.path.now c.args.next.now
     ≡ take c.args.next.now c.args.path.now
     ∷ remaining_ancestors c.args.path.now 18446744073709551615

@@ -8,7 +8,7 @@ use Rattle.unix_path_c.proofs.keys.unix_path_from_key.Goals as goal
 is_read : (c : After-len_or_too_long) → IsKey c.args.key.now
 is_read c = c.in-Some.ensures.is_key.0 refl
 
--- the path is at most half as long again as the key
+-- the path is at most 3/2 times as long as the key
 has_len_bound : (c : After-len_or_too_long) → 2 * c.in-Some.len ≤ 3 * length c.args.key.now
 has_len_bound c = path_of_key_bound c.args.key.now c.in-Some.len (is_read c)
     c.in-Some.ensures.length

@@ -30,7 +30,7 @@ pub length-spelling_of : (s : List ℕ) → length (spelling_of (values s)) ≤ 
 length-spelling_of s = ⊎_elim (λ same. omega (arith, ap length same))
     (λ longer. omega (arith, longer)) (spelling_of-shortest s s refl)
 
--- what comes before a file name is never longer than the path
+-- a path without its file name is never longer than the path
 length-before_name_of : (s : List ℕ) → length (before_name_of s) ≤ length s
 unfolding before_name_of
 length-before_name_of s = by_test (is_some (file_name_of (values s)))
@@ -42,7 +42,7 @@ length-before_name_of s = by_test (is_some (file_name_of (values s)))
     ))
     (λ e. omega (arith, ap (λ c. length (cond c (rest s 0 1) s)) e))
 
--- a path with another file name is at most one byte longer than both together
+-- a path with another file name is at most one byte longer than the path and the name together
 pub length-with_name_of : (s name : List ℕ)
     → length (with_name_of s name) ≤ length s + 1 + length name
 length-with_name_of s name =
@@ -58,7 +58,7 @@ length-root_prefix root = by_test (needs_no_separator root)
       ap (λ c. length (root ++ cond c [] (slash ∷ []))) e,
     ))
 
--- a join below a root is at most one byte longer than both together
+-- a join below a root is at most one byte longer than the root and the request together
 pub length-below_of : (root s : List ℕ)
     → length (below_of root (names_below (values s))) ≤ length root + 1 + length s
 length-below_of root s =
@@ -69,7 +69,8 @@ length-below_of root s =
       length-root_prefix root,
     )
 
--- a path with an extension added at an index is at most one byte longer than both together
+-- a path with an extension added at an index is at most one byte longer than the path and the
+-- extension together
 added_fits : (s x : List ℕ) (end : Option ℕ)
     → length (added_extension_at s x end) ≤ length s + 1 + length x
 added_fits s x end = by_test (eqb (length x) 0) (λ e. rw e (omega arith)) (λ e. rw e (by end))
@@ -84,19 +85,21 @@ added_fits s x end = by_test (eqb (length x) 0) (λ e. rw e (omega arith)) (λ e
       length-take end s,
     )
 
--- a path with an added extension is at most one byte longer than both together
+-- a path with an added extension is at most one byte longer than the path and the extension
+-- together
 pub length-added_extension_of : (s x : List ℕ)
     → length (added_extension_of s x) ≤ length s + 1 + length x
 unfolding added_extension_of
 length-added_extension_of s x = added_fits s x (name_end_of s)
 
--- a dot before an extension is at most one byte
+-- the dot before an extension, or no dot if the extension is empty, is at most one byte
 length-dot_before : (x : List ℕ) → length (dot_before x) ≤ 1
 length-dot_before x = by_test (eqb (length x) 0)
     (λ e. omega (arith, ap (λ c. length {A = ℕ} (cond c [] (46 ∷ []))) e))
     (λ e. omega (arith, ap (λ c. length {A = ℕ} (cond c [] (46 ∷ []))) e))
 
--- a path with another extension after an index is at most one byte longer than both together
+-- a path whose bytes after an index are replaced by an extension is at most one byte longer than
+-- the path and the extension together
 extended_fits : (s x : List ℕ) (end : Option ℕ)
     → length (option_map_or (λ end. (take end s ++ dot_before x) ++ x) end s)
     ≤ length s + 1 + length x
@@ -109,7 +112,7 @@ extended_fits s x (Some end) = omega (
   length-dot_before x,
 )
 
--- a path with another extension is at most one byte longer than both together
+-- a path with another extension is at most one byte longer than the path and the extension together
 pub length-with_extension_of : (s x : List ℕ)
     → length (with_extension_of s x) ≤ length s + 1 + length x
 unfolding with_extension_of

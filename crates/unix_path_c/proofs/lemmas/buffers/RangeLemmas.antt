@@ -1,4 +1,4 @@
--- The end of a key's range, written to a buffer by way of the key.
+-- The end of a key's range, written to a buffer: first the key, and then its last byte is raised.
 use Rattle.std.proofs.Common.{◌≡◌, ◌<◌, ◌≤◌, ℕ, ◌+◌, ◌-◌, List, [], ◌++◌, length, drop, Some}
 use Rattle.std.proofs.Common.{slice_set, slice_index, sym, ap, ◌∙◌, subst, arith}
 use Rattle.std.proofs.lemmas.Bool.{cond-false, lt-leb}
@@ -20,13 +20,13 @@ raised_end key = slice_set key (length key - 1) (slice_index key (length key - 1
 length-raised_end : (key : List ℕ) → length (raised_end key) ≡ length key
 length-raised_end key = length-set key (length key - 1) (slice_index key (length key - 1) + 1)
 
--- the end of a key's range, of so many bytes, is written to the beginning of the buffer if it fits
+-- the end of the key's range has n bytes, and is written to the beginning of the buffer if it fits
 abbrev pub WritesEnd : List ℕ → ℕ → List ℕ → List ℕ → Type 0
 WritesEnd key n old new = (end : List ℕ) × IsRangeEnd key (Some end) × (length end ≡ n)
     × (new ≡ buffer_after end old)
 
--- the key at the beginning of a buffer becomes the end of its range if its last byte is raised
--- there
+-- if the key is at the beginning of a buffer, raising the key's last byte there by one turns it
+-- into the end of its range
 pub end_written : (key old new : List ℕ) → 0 < length key → length key ≤ length old
     → new ≡ overlay 0 key old → WritesEnd key (length key) old
     (slice_set new (length key - 1) (slice_index key (length key - 1) + 1))

@@ -1,9 +1,10 @@
--- Writing two runs of bytes one after the other.
+-- Writing the next two runs of bytes of a longer string to a buffer.
 use Rattle.std.proofs.Common.{◌≡◌, ℕ, ◌+◌, List, ◌++◌, length, refl, ◌∙◌, append_assoc}
 use Rattle.path_runs.specs.Overlay.{overlay}
 use Rattle.path_runs.proofs.lemmas.lists.WritingLemmas.{WritesOn, writes_stretch}
 
--- if the rest begins with two runs, writing them one after the other leaves what follows them
+-- if the rest that is still to be written begins with two runs, only the bytes after the two runs
+-- remain to be written after writing them one after the other
 pub writes_next : {whole old out left new : List ℕ} {at end : ℕ} (first second more : List ℕ)
     → WritesOn whole old at out left → left ≡ (first ++ second) ++ more
     → new ≡ overlay (at + length first) second (overlay at first out)

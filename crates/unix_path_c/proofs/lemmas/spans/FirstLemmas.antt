@@ -1,4 +1,4 @@
--- The first component of a string, and where the rest after it is.
+-- The first component of a string, and the position of the rest after it.
 use Rattle.std.proofs.Common.{◌≡◌, ℕ, ◌+◌, ◌-◌, ◌≤◌, ◌<◌, ltb, List, [], ◌∷◌, length, take, drop}
 use Rattle.std.proofs.Common.{map, sym, ap, ap₂, subst, ◌∙◌, arith, take_all, ltb-true, ltb-false}
 use Rattle.std.proofs.lemmas.List.{nil_from_length}
@@ -12,8 +12,8 @@ use Rattle.unix_path.proofs.lemmas.steps.SpanLemmas.{length-rest_whole, parts_en
 use Rattle.unix_path.proofs.lemmas.names.StemLemmas.{length-rest_whole-le}
 use Rattle.unix_path_c.proofs.lemmas.spans.FollowLemmas.{BeginsWith, Follow, begins_with}
 
--- v is the first component of s, whose components end at n: s begins with v's bytes, and the rest
--- after v is the last m of the n bytes
+-- v is the first component of s: s begins with v's bytes; if the last component ends at index n,
+-- the rest after v is the last m of the first n bytes
 pub record TakesFromFront (s : List ℕ) (v : Value) (n m : ℕ) : Type 0 where
   pub is : parts s ≡ record { start = 0; end = length (value_bytes v); value = v }
       ∷ map (part_at (n - m)) (parts (rest s 1 0))
@@ -29,12 +29,12 @@ some_bytes s some = by_test (ltb 0 (length s)) (λ e. ltb-true _ _ e)
     (λ e. absurd (some
     (ap values (nil_from_length s (omega (arith, ltb-false _ _ e))) ∙ values-nil)))
 
--- without one component at the beginning, the components after it remain
+-- dropping the first of several components leaves the components after it
 middle-first : (p : Part) (ps : List Part) → middle 1 0 (p ∷ ps) ≡ ps
 middle-first p ps = take_all (length (p ∷ ps) - (1 + 0)) ps (omega arith)
 
--- the components after the first one are the components of the rest after it, moved to where the
--- rest is
+-- the components after the first one are the components of the rest after it, with their indices in
+-- the whole string
 after_first : (s : List ℕ) (b : BeginsWith s) (h : Middle s 1 0)
     → b.more ≡ map (part_at h.at) (parts h.rest_bytes)
 after_first s b h =
@@ -42,7 +42,7 @@ after_first s b h =
     record { start = 0; end = length (value_bytes b.value); value = b.value } in
     sym (middle-first p b.more) ∙ ap (middle 1 0) (sym b.is) ∙ h.is
 
--- if the components of w are moved by `at` bytes, the last of them ends `at` bytes later
+-- if all components of w are moved by `at` bytes, the last of them ends `at` bytes later
 last_end-after_first : (p : Part) (at : ℕ) (w : List ℕ) (b : BeginsWith w)
     → last_end p (map (part_at at) (parts w)) ≡ parts_end (parts w) + at
 last_end-after_first p at w b =
@@ -51,7 +51,7 @@ last_end-after_first p at w b =
     ap (λ ps. last_end p (map (part_at at) ps)) b.is ∙ last_end-part_at at q b.more
     ∙ ap (λ ps. parts_end ps + at) (sym b.is)
 
--- `TakesFromFront` if the first component is the only one
+-- `TakesFromFront` is true if the first component is the only one
 takes_alone : (s : List ℕ) (b : BeginsWith s) (h : Middle s 1 0) → length h.rest_bytes ≡ 0
     → TakesFromFront s b.value (length (rest s 0 0)) (length (rest s 1 0))
 takes_alone s b h e =
@@ -76,7 +76,7 @@ takes_alone s b h e =
       in_range = length-rest_whole-le s;
     }
 
--- `TakesFromFront` if other components come after the first one
+-- `TakesFromFront` is true if other components come after the first one
 takes_more : (s : List ℕ) (b : BeginsWith s) (h : Middle s 1 0) → 0 < length h.rest_bytes
     → TakesFromFront s b.value (length (rest s 0 0)) (length (rest s 1 0))
 takes_more s b h l =
@@ -106,7 +106,7 @@ takes_more s b h l =
       in_range = length-rest_whole-le s;
     }
 
--- `TakesFromFront` for the first component of a string, by how the string begins
+-- `TakesFromFront` is true of the first component of a string that begins with this component
 takes_from_front-by : (s : List ℕ) (v : Value) (vs : List Value) (b : BeginsWith s)
     (h : Middle s 1 0)
     → values s ≡ v ∷ vs → TakesFromFront s v (length (rest s 0 0)) (length (rest s 1 0))
@@ -118,7 +118,7 @@ takes_from_front-by s v vs b h e =
     (by_test (ltb 0 (length h.rest_bytes)) (λ some. takes_more s b h (ltb-true _ _ some))
     (λ none. takes_alone s b h (omega (arith, ltb-false _ _ none))))
 
--- `TakesFromFront` for the first component of a string
+-- `TakesFromFront` is true of the first component of each string that has components
 pub takes_from_front : (s : List ℕ) (v : Value) (vs : List Value) → values s ≡ v ∷ vs
     → TakesFromFront s v (length (rest s 0 0)) (length (rest s 1 0))
 takes_from_front s v vs e = takes_from_front-by s v vs

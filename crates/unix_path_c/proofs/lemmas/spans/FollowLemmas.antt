@@ -19,7 +19,8 @@ Follow at [] = Unit {0}
 Follow at (p ∷ ps) =
     (at ≤ p.start) × (p.end ≡ p.start + length (value_bytes p.value)) × Follow p.end ps
 
--- components that begin at an index or later also begin at an earlier index or later
+-- if components begin at index b or later, one after another, and a is at most b, they begin at
+-- index a or later
 Follow-earlier : (a b : ℕ) (ps : List Part) → a ≤ b → Follow b ps → Follow a ps
 Follow-earlier a b [] l h = tt
 Follow-earlier a b (p ∷ ps) l h = (omega (arith, l, h.0), h.1, h.2)
@@ -43,7 +44,8 @@ Follow-inner : (at : ℕ) (s : List ℕ) → Follow at (inner_parts at s)
 unfolding inner_parts
 Follow-inner at s = Follow-pieces at (slice_split is_slash s)
 
--- a first piece ends where the bytes of its component end
+-- the first piece of a string, up to its first slash or its end, is as long as the component's
+-- bytes
 position_or_len-first_piece : (s : List ℕ)
     → position_or_len is_slash s ≡ length (value_bytes (first_value (first_piece s)))
 position_or_len-first_piece s =
@@ -102,13 +104,12 @@ Follow-parts s = by_test (ltb 0 (length s))
     subst (Follow 0) (sym b.is) (omega arith, omega arith, b.follow))
     (λ e. subst (Follow 0) (sym (parts-none s (omega (arith, ltb-false _ _ e)))) tt)
 
--- p begins where these components have ended, or later, and is as long as its bytes
+-- p begins where the components ps end, or later, and is as long as its bytes
 pub record EndsWith (ps : List Part) (p : Part) : Type 0 where
   pub before : parts_end ps ≤ p.start
   pub size : p.end ≡ p.start + length (value_bytes p.value)
 
--- the last of components that follow one another comes after the others, of which there is at least
--- one
+-- if components follow one another, and there are at least two, the last comes after the others
 ends_after : (q : Part) (ps : List Part) (p : Part) → Follow q.end (ps ++ p ∷ [])
     → EndsWith (q ∷ ps) p
 ends_after q [] p h = record { before = h.0; size = h.1 }
@@ -116,7 +117,7 @@ ends_after q (r ∷ ps) p h =
     let next = ends_after r ps p h.2 in
     record { before = next.before; size = next.size }
 
--- the last of components that follow one another comes after the others
+-- if components follow one another, the last comes after the others
 pub ends_with : (at : ℕ) (ps : List Part) (p : Part) → Follow at (ps ++ p ∷ []) → EndsWith ps p
 ends_with at [] p h = record { before = omega arith; size = h.1 }
 ends_with at (q ∷ ps) p h = ends_after q ps p h.2

@@ -1,4 +1,4 @@
--- The last component of a string, and where the rest before it is.
+-- The last component of a string, and the position of the rest before it.
 use Rattle.std.proofs.Common.{◌≡◌, ℕ, ◌+◌, ◌-◌, ◌≤◌, ltb, List, [], ◌∷◌, ◌++◌, length}
 use Rattle.std.proofs.Common.{None, take, drop, map, sym, ap, ap₂, subst, ◌∙◌, arith}
 use Rattle.std.proofs.Common.{ltb-true, ltb-false, length-append}
@@ -22,8 +22,8 @@ use Rattle.unix_path.proofs.lemmas.names.StemLemmas.{length-rest_whole-le}
 use Rattle.unix_path_c.proofs.lemmas.spans.FollowLemmas.{BeginsWith, Follow, Follow-parts}
 use Rattle.unix_path_c.proofs.lemmas.spans.FollowLemmas.{begins_with, ends_with}
 
--- v is the last component of s, whose components end at n: v's bytes end there, and the rest before
--- v is the first m bytes
+-- v is the last component of s: v's bytes end at index n, and the rest before v is the first m
+-- bytes
 pub record TakesFromBack (s : List ℕ) (v : Value) (n m : ℕ) : Type 0 where
   pub is : parts s ≡ parts (rest s 0 1)
       ++ record { start = n - length (value_bytes v); end = n; value = v } ∷ []
@@ -33,7 +33,7 @@ pub record TakesFromBack (s : List ℕ) (v : Value) (n m : ℕ) : Type 0 where
   pub fits : length (value_bytes v) ≤ n
   pub in_range : n ≤ length s
 
--- without the components before it, only the last component remains
+-- dropping all components before the last leaves only the last
 middle-last : (ps : List Part) (p : Part) → middle (length ps) 0 (ps ++ p ∷ []) ≡ p ∷ []
 middle-last ps p =
     let one : length (ps ++ p ∷ []) - (length ps + 0) ≡ 1 =
@@ -44,8 +44,8 @@ middle-last ps p =
 first_same : {p q : Part} {ps qs : List Part} → p ∷ ps ≡ q ∷ qs → p ≡ q
 first_same e = cc
 
--- if s contains w at index `at`, and p is the only component of w, moved by `at` bytes, s contains
--- the bytes of p at p's index
+-- if s contains w at index `at`, and w has only one component, which is p when it is moved by `at`
+-- bytes, then s contains the bytes of p at p's index
 bytes_at_only : (s : List ℕ) (p : Part) (at : ℕ) (w : List ℕ) (b : BeginsWith w)
     → take (length w) (drop at s) ≡ w → p ∷ [] ≡ map (part_at at) (parts w)
     → take (length (value_bytes p.value)) (drop p.start s) ≡ value_bytes p.value
@@ -89,7 +89,7 @@ parts_end-rest s =
     let h = middle_of s 0 1 in
     parts_end-whole (rest s 0 1) (subst EndsInPart (sym (rest-middle s 0 1 h)) h.ends)
 
--- `TakesFromBack` for the last component of a string, by the list of components
+-- `TakesFromBack` is true of the last of a string's components
 takes_last : (s : List ℕ) (ps : List Part) (p : Part) → parts s ≡ ps ++ p ∷ []
     → TakesFromBack s p.value (length (rest s 0 0)) (length (rest s 0 1))
 takes_last s ps p e =
@@ -112,7 +112,7 @@ takes_last s ps p e =
       in_range = length-rest_whole-le s;
     }
 
--- the last component of a string, with its index and the rest's
+-- `TakesFromBack` is true of the last component of each string that has components
 pub takes_from_back : (s : List ℕ) (v : Value) (vs : List Value) → values s ≡ vs ++ v ∷ []
     → TakesFromBack s v (length (rest s 0 0)) (length (rest s 0 1))
 unfolding values

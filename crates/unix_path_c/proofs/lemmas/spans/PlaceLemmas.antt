@@ -1,4 +1,4 @@
--- The indices in a path of its parent, file name, stem and extension, and of what follows a base.
+-- The indices in a path of its parent, file name, stem and extension, and of the rest after a base.
 use Rattle.std.proofs.Common.{◌≡◌, ℕ, zero, suc, ◌+◌, ◌-◌, ◌≤◌, ◌<◌, ltb, List, [], ◌∷◌, ◌++◌}
 use Rattle.std.proofs.Common.{Bool, true, false, cond}
 use Rattle.std.proofs.Common.{length, take, drop, Option, Some, None, option_map, refl, sym, ap}
@@ -35,7 +35,7 @@ parent_inside s parent e =
     stands s parent 0 (omega arith)
     (ap (λ w. take (length w) s) is ∙ take-rest s 1 ∙ sym is)
 
--- x followed by y and z contains y at index `length x`
+-- x followed by y and then z contains y at index `length x`
 pub take-inside : (x y z : List ℕ) → take (length y) (drop (length x) ((x ++ y) ++ z)) ≡ y
 take-inside x y z =
     ap (λ t. take (length y) (drop (length x) t)) (append_assoc x y z)
@@ -84,8 +84,8 @@ pub name_at : (s : List ℕ) (start n : ℕ) → Some (take n (drop start s)) �
 name_at s start n named =
     ap (λ k. Some (take k (drop start s))) {x = start + n - start} {y = n} (omega arith) ∙ named
 
--- the stem is the first `stem` bytes of the file name, if the file name's stem ends at this index
--- in it
+-- if the n bytes at index `start` are the file name, and its stem ends at index `stem` of the file
+-- name, then the path's stem is the first `stem` bytes of the file name
 pub stem_is : (s : List ℕ) (start n stem : ℕ)
     → Some (take n (drop start s)) ≡ file_name_of (values s)
     → stem ≤ length (take n (drop start s)) → stem_end_of (take n (drop start s)) ≡ Some stem
@@ -172,7 +172,7 @@ rest_ends s k =
     (span_ends s (drop k all) end (length-rest_whole-le s)
     (λ l. parts_end-drop k all (omega (arith, length-drop k all)) ∙ sym (length-rest_whole s)))
 
--- what follows a base ends where the last component ends
+-- the rest of a path after a base ends where the path's last component ends
 pub stripped_ends : (s base left : List ℕ) (end : ℕ) → left ≡ stripped_of s base
     → end ≡ length (rest s 0 0) → EndsAt s end left
 stripped_ends s base left end is at =

@@ -1,4 +1,4 @@
--- What the sign of an order shows about the two lists of components.
+-- The sign of an order, -1, 0 or 1, determines the order of two lists of components.
 use Rattle.std.proofs.Common.{◌≡◌, ◌↔◌, zero, suc, ℤ, pos, negsuc, List, refl, sym, ap, ◌∙◌}
 use Rattle.std.specs.declared.cmp.Ordering.{Ordering}
 use Rattle.std.specs.declared.cmp.Ordering.TheVariants.{Less, Equal, Greater}
@@ -9,7 +9,7 @@ use Rattle.unix_path.specs.OrderLaws.{values_cmp-total, values_cmp-equal}
 use Rattle.unix_path.specs.Parts.{Value}
 use Rattle.unix_path_c.specs.Queries.{sign_of}
 
--- the order that has this sign
+-- the order whose sign this number is
 abbrev order_of : ℤ → Ordering
 order_of (negsuc n) = Less
 order_of (pos zero) = Equal

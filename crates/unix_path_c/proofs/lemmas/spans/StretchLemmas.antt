@@ -40,7 +40,7 @@ pub record IsSpanOf (s : List ℕ) (end : ℕ) (w : List ℕ) (span : Span) : Ty
   pub end_is : span_end span ≡ end
   pub inside : span_end span ≤ length s
 
--- a span made of an end and a length has the bytes that end there
+-- if s contains w, and w ends at index `end`, the span with w's length that ends there is w's span
 pub is_span_of : (s w : List ℕ) (end : ℕ) (span : Span) → EndsAt s end w
     → span ≡ record { start = end - length w; length = length w } → IsSpanOf s end w span
 is_span_of s w end span h e =

@@ -1,4 +1,4 @@
--- The remaining ancestors of a walk over a path and its parents, by a length.
+-- The ancestors that remain of a path, by the length of the next ancestor.
 use Rattle.std.proofs.Common.{◌≡◌, ℕ, ◌≤◌, ◌<◌, cond, leb, List, [], ◌∷◌, length, take}
 use Rattle.std.proofs.Common.{Some, None, sym, ap, ◌∙◌, arith, length-take-le}
 use Rattle.std.proofs.lemmas.Bool.{le-leb, leb-true}
@@ -15,7 +15,7 @@ remaining_ancestors-in_range : (path : List ℕ) (n : ℕ) → n ≤ length path
 remaining_ancestors-in_range path n l =
     ap (λ c. cond c (ancestors_of (take n path)) []) (le-leb n (length path) l)
 
--- for a greater length, no ancestor remains
+-- if n is greater than the path's length, no ancestor remains
 pub remaining_ancestors-past : (path : List ℕ) (n : ℕ) → length path < n
     → remaining_ancestors path n ≡ []
 remaining_ancestors-past path n past = by_test (leb n (length path))

@@ -12,13 +12,13 @@ use Rattle.unix_bytes.proofs.lemmas.chunks.OnlyLemmas.{first_chunk_is}
 use Rattle.unix_bytes.proofs.lemmas.chunks.PartitionLemmas.{chunks_partition}
 use Rattle.unix_path_c.proofs.lemmas.spans.PlaceLemmas.{take-inside}
 
--- past the path's end no chunk remains
+-- if `at` is greater than the path's length, no chunk remains from index `at` on
 pub remaining_chunks-past : (path : List ℕ) (at : ℕ) → length path < at → chunks_of (drop at path)
     ≡ []
 remaining_chunks-past path at past =
     chunks_of-empty (drop at path) (omega (arith, length-drop at path))
 
--- the chunks after the first are those of the bytes after it
+-- the chunks after the first chunk are the chunks of the bytes after the first chunk
 chunks_after : (s : List ℕ) (c : Chunk) (cs : List Chunk) → chunks_of s ≡ c ∷ cs
     → chunks_of (drop (chunk_len c) s) ≡ cs
 chunks_after [] c cs e = let h = chunks_of-nil in cc
@@ -27,7 +27,7 @@ chunks_after (b ∷ bs) c cs e =
     ap (λ x. chunks_of (drop (chunk_len x) (b ∷ bs))) (sym (first_chunk_is (b ∷ bs) c cs e))
     ∙ (cc)
 
--- bytes begin with their first chunk: valid UTF-8 v and invalid bytes b
+-- if the first chunk of s has the valid UTF-8 v and the invalid bytes b, s begins with v and then b
 first_chunk_begins : (s v b : List ℕ) (cs : List Chunk)
     → chunks_of s ≡ record { valid = v; broken = b } ∷ cs
     → s ≡ (v ++ b) ++ flat_map (λ (x : Chunk). x.valid ++ x.broken) cs
@@ -45,7 +45,7 @@ first_chunk_fits s v b cs e =
       length-append v b,
     )
 
--- a chunk of this valid UTF-8 and these invalid bytes
+-- the chunk of the valid UTF-8 v and the invalid bytes b
 abbrev chunk_by : List ℕ → List ℕ → Chunk
 chunk_by v b = record { valid = v; broken = b }
 

@@ -100,7 +100,7 @@ range-remaining path walk s from to i k h l start end =
     let size : to - from ≡ k = omega (arith, end) in
     ap (λ n. take n (drop from path)) size ∙ take-remaining path walk s from i k h l start
 
--- a component is determined by its kind and its bytes
+-- a component is the component of its kind that has its bytes
 value_of_kind-kind_of : (v : Value) → value_of_kind (kind_of v) (value_bytes v) ≡ v
 value_of_kind-kind_of RootDir = refl
 value_of_kind-kind_of CurDir = refl
@@ -159,7 +159,7 @@ pub record IsRestSpan (path : List ℕ) (walk : Walk) (span : Span) : Type 0 whe
   pub same : values (span_bytes path span) ≡ values (remaining path walk)
   pub in_range : span_end span ≤ length path
 
--- a span in the path with the bytes of the rest is the span of the rest
+-- if a span inside the path has the bytes of the rest, it is the span of the rest
 is_rest_span-at : (path : List ℕ) (walk : Walk) (span : Span)
     → span_bytes path span ≡ rest (remaining path walk) 0 0 → span_end span ≤ length path
     → IsRestSpan path walk span

@@ -12,7 +12,7 @@ use Rattle.unix_path_c.proofs.lemmas.walks.RemainingLemmas.{is_between}
 use Rattle.unix_path.proofs.lemmas.steps.SpanLemmas.{rest-ended}
 use Rattle.unix_path.proofs.lemmas.steps.LeadLemmas.{steps_first, IsFirst}
 
--- s has a byte if it is equal to bytes that are not empty
+-- if s is equal to bytes that are not empty, s has a byte
 pub has_remaining : {s left : List ℕ} → left ≡ s → eqb (length left) 0 ≡ false → 0 < length s
 has_remaining same some = subst (λ s. 0 < length s) same (omega (arith, eqb-false _ 0 some))
 

@@ -22,7 +22,7 @@ use Rattle.unix_path_c.proofs.lemmas.walks.RemainingLemmas.{part_value-is, remai
 use Rattle.unix_path_c.proofs.lemmas.walks.RemainingLemmas.{range-remaining, take-remaining}
 use Rattle.unix_path_c.proofs.lemmas.spans.FirstLemmas.{some_bytes, takes_from_front}
 
--- two components are equal if their indices and their values are
+-- two components are equal if their indices and their values are equal
 pub same_part : {a b c d : ℕ} {v w : Value} → a ≡ c → b ≡ d → v ≡ w
     → (let p : paths.Part = record { start = a; end = b; value = v } in p)
     ≡ record { start = c; end = d; value = w }
@@ -30,7 +30,8 @@ same_part {c = c} {d = d} {v = v} start end value =
     ap₂ (λ a b. record { start = a; end = b; value = v }) start end
     ∙ ap (λ v. record { start = c; end = d; value = v }) value
 
--- a step whose indices are computed from the first component of the rest removes that component
+-- if `part` and the walk `new` are computed from the first component of the rest of the walk `old`,
+-- the step from `old` to `new` removes that component
 pub taken_from_front : (path : List ℕ) (old new : Walk) (part : Part) (v : Value)
     → values (remaining path old) ≡ v ∷ values (rest (remaining path old) 1 0)
     → part.start ≡ old.front → part.length ≡ length (value_bytes v) → part.kind ≡ kind_of v
@@ -82,20 +83,21 @@ pub rest-same : {s t rest_bytes : List ℕ} → rest_bytes ≡ rest t 0 0 → t 
     ≡ rest s 0 0
 rest-same is same = is ∙ ap (λ u. rest u 0 0) same
 
--- the rest of a fresh cursor after one step from the front
+-- after one step from the front, the rest of a fresh cursor over s is the rest of s after its first
+-- component
 cursor_rest-first : (s : List ℕ) (old new : Components) (item : Option Component)
     → cursor_rest old ≡ rest s 0 0 → GivesFirstPart old item new → cursor_rest new ≡ rest s 1 0
 cursor_rest-first s old new item whole h =
     h.rest_is ∙ ap (λ u. rest u 1 0) whole ∙ rest-rest s 0 0 1 0
 
--- the components of a string begin with the one that a fresh cursor returns from the front
+-- the first component of a string is the one that a fresh cursor returns from the front
 values-first : (s : List ℕ) (old new : Components) (x : Component)
     → cursor_rest old ≡ rest s 0 0 → GivesFirstPart old (Some x) new
     → values s ≡ value_of x ∷ values (rest s 1 0)
 values-first s old new x whole h = sym (values-whole s (cursor_rest old) whole) ∙ h.item_is
     ∙ ap (λ u. value_of x ∷ values u) (cursor_rest-first s old new (Some x) whole h)
 
--- a fresh cursor that returns no component from the front is over the empty string
+-- if a fresh cursor over s returns no component from the front, s is empty
 pub nothing_first : (s : List ℕ) (old new : Components) → cursor_rest old ≡ rest s 0 0
     → GivesFirstPart old None new → s ≡ []
 nothing_first s old new whole h =

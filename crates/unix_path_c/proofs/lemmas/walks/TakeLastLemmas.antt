@@ -30,7 +30,8 @@ not_none : {us : List Value} (vs : List Value) (v : Value) → us ≡ vs ++ v �
 not_none vs v e none =
     omega (arith, ap length (sym none ∙ e), length-append vs (v ∷ []))
 
--- a step whose indices are computed from the last component of the rest removes that component
+-- if `part` and the walk `new` are computed from the last component of the rest of the walk `old`,
+-- the step from `old` to `new` removes that component
 pub taken_from_back : (path : List ℕ) (old new : Walk) (part : Part) (v : Value)
     → values (remaining path old) ≡ values (rest (remaining path old) 0 1) ++ v ∷ []
     → part.start ≡ old.front + length (rest (remaining path old) 0 0) - part.length
@@ -77,19 +78,20 @@ taken_from_back path old new part v e start size kind front back =
       );
     }
 
--- the rest of a fresh cursor after one step from the back
+-- after one step from the back, the rest of a fresh cursor over s is the rest of s before its last
+-- component
 cursor_rest-last : (s : List ℕ) (old new : Components) (item : Option Component)
     → cursor_rest old ≡ rest s 0 0 → GivesLastPart old item new → cursor_rest new ≡ rest s 0 1
 cursor_rest-last s old new item whole h = rest-whole_last s whole h.rest_is
 
--- the components of a string end with the one that a fresh cursor returns from the back
+-- the last component of a string is the one that a fresh cursor returns from the back
 values-last : (s : List ℕ) (old new : Components) (x : Component)
     → cursor_rest old ≡ rest s 0 0 → GivesLastPart old (Some x) new
     → values s ≡ values (rest s 0 1) ++ value_of x ∷ []
 values-last s old new x whole h = sym (values-whole s (cursor_rest old) whole) ∙ h.item_is
     ∙ ap (λ u. values u ++ value_of x ∷ []) (cursor_rest-last s old new (Some x) whole h)
 
--- a fresh cursor that returns no component from the back is over the empty string
+-- if a fresh cursor over s returns no component from the back, s is empty
 pub nothing_last : (s : List ℕ) (old new : Components) → cursor_rest old ≡ rest s 0 0
     → GivesLastPart old None new → s ≡ []
 nothing_last s old new whole h =

@@ -5,8 +5,8 @@ use Rattle.unix_bytes.specs.Lossy.{lossy_of}
 use Rattle.unix_path_c.specs.SaturatedSize.{saturated_size}
 use Rattle.unix_path_c.proofs.lossy.lossy_len.Given as goal
 
--- the bytes counted so far and the bytes of the remaining chunks' lossy form are together as many
--- as the lossy string has, or both numbers are at least the greatest `usize`
+-- the length counted so far plus the length of the remaining chunks' lossy form is the length of
+-- the lossy string, or both are at least the greatest `usize`
 abbrev pub invariant-loop-chunk : goal.invariant-loop-chunk
 invariant-loop-chunk l =
     (goal.iterator-loop-chunk).can_next l.chunk-iterator

@@ -5,7 +5,7 @@ use Rattle.unix_path_c.proofs.lemmas.walks.StepLemmas.{takes_last_name, last_fit
 use Rattle.unix_path_c.proofs.walks.unix_path_next_back.Goals as goal
 use Rattle.unix_path_c.proofs.walks.unix_path_next_back.Goals.{In-Some}
 
--- a byte remains
+-- the rest of the walk has a byte
 non_empty : (c : In-Some) → 0 < length (remaining c.args.path.now c.args.walk.now)
 non_empty c = has_remaining c.rest_of.ensures (sym c.is_empty.ensures ∙ c.if-is_empty.false)
 
