@@ -209,7 +209,7 @@ pub fn join_verbatim<'o>(
 /// Symbolic links are not followed: if a component is one, the result may lead elsewhere.
 ///
 /// Fails with `NoRelativePath` if and only if one path has a root and the other has none, or a `..`
-/// remains of the first: then no path without a root leads there.
+/// remains of the first path: then no path without a root leads from one to the other.
 ///
 /// ```
 /// use unix_path_rattle::{relative_path, Error};
