@@ -41,8 +41,9 @@ pub fn print(options: &Options) {
     println!("\n{grown} lines have a time a byte that grows\n");
 }
 
-/// Returns the program's shortest time of several runs in nanoseconds per byte: on a path of this
-/// shape and size, or on so many such paths that together they have 10^6 bytes.
+/// Returns the program's shortest time of several runs, in nanoseconds per byte, without the time
+/// of a run on no input. The input is one line with a path of this shape and size, or as many such
+/// lines as have 10^6 bytes together.
 fn nanoseconds(options: &Options, timer: &Timer, command: &str, piece: &[u8], at: usize) -> f64 {
     let path: Vec<u8> = piece.iter().copied().cycle().take(SIZES[at]).collect();
     let mut lines = vec![];

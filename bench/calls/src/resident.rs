@@ -6,8 +6,7 @@ extern "C" {
     fn malloc_trim(pad: usize) -> i32;
 }
 
-/// Returns the most kibibytes that are resident while the work is done, in addition to those before
-/// it.
+/// Returns how many kibibytes the process's resident memory grows during the work, at its peak.
 pub fn most(work: impl Fn() -> u64) -> u64 {
     unsafe { malloc_trim(0) };
     // Resets the peak to what is resident now.

@@ -3,7 +3,8 @@ use crate::targets::{may_differ, target};
 use std::hint::black_box;
 use std::time::{Duration, Instant};
 
-/// What a side does with a slice of the work. The number represents its results.
+/// A function that does a side's work on the slice with this index. Returns a digest of the
+/// results.
 pub type Work<'a> = &'a dyn Fn(usize) -> u64;
 
 /// The ratio of our time to std's, and whether both sides returned the same.
@@ -67,8 +68,8 @@ impl Timer {
     }
 }
 
-/// Returns the number of rounds that take at least `SHORTEST` seconds: doubles it until the clock
-/// measures that. It ends even if the clock stops or goes back.
+/// Returns a number of rounds that take at least `SHORTEST` seconds: doubles the number until the
+/// clock measures so many. The search ends even if the clock stops or goes back.
 pub fn enough_rounds(seconds: impl Fn(usize) -> f64) -> usize {
     let start = Instant::now();
     let mut rounds = 1;

@@ -11,7 +11,8 @@ pub fn canonical(path: &Path) -> PathBuf {
     path.components().collect()
 }
 
-/// Returns the noise for a path: one word in five gives the path another spelling.
+/// Returns the noise with which a path is spelled, for a random word. One word in five results in
+/// another spelling than the canonical one.
 fn noise(word: u64) -> u64 {
     if word.is_multiple_of(5) {
         noise_of(word >> 8)
