@@ -82,9 +82,9 @@ def modules_of(file):
 
 
 def place_of(crate, file, lines, head):
-    """Returns the place of the function at this line, as a check names it: its module; or the type
-    of the impl that it is in, even if the type is defined in another file, with the trait if there
-    is one. A method that a trait declares has the same place as a function of its module."""
+    """Returns the place of the function at this line, as a check names it. For a function in an
+    impl, this is the type, even if another file defines the type, with the trait if there is one.
+    For any other function it is the module; this includes a method that a trait declares."""
     impls = [number for number in range(head) if lines[number].startswith("impl")]
     if not lines[head].startswith(" ") or not impls:
         return "::".join([crate, *modules_of(file)])

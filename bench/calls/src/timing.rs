@@ -100,8 +100,8 @@ pub struct Score {
 
 /// The explanation of the mark ~.
 const ON_PURPOSE: &str = "\
-~ The answers differ on purpose: each side feeds a hasher in its own way. Our cheap one is
-  that of Rattle's maps, FoldHasher; Rust's only counts the bytes.";
+~ The results differ on purpose: each side feeds a hasher in its own way. Our cheap hasher is
+  FoldHasher, which Rattle's maps use; Rust's only counts the bytes.";
 
 impl Score {
     /// Prints an explanation of the numbers and marks.
@@ -109,9 +109,9 @@ impl Score {
         if self.shown == 0 {
             return;
         }
-        println!("Each number is our time over that of std::path, and behind > stands its target");
+        println!("Each number is our time divided by std::path's. If it is above its target, a >");
         println!(
-            "where it is above that, as {} of {} are.",
+            "and the target follow it. Above their targets: {} of {}.",
             self.above, self.shown
         );
         if self.on_purpose > 0 {
@@ -119,7 +119,7 @@ impl Score {
         }
         if self.different > 0 {
             println!(
-                "DIFFERS: so many answers differ and must not: {}",
+                "DIFFERS marks results that differ and must not: {}",
                 self.different
             );
         }
