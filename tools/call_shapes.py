@@ -1,7 +1,7 @@
 """The calls from C, their records and their constants, as crates/unix_path_c exports them.
 
-The shape of a call is the list of its parameters' types. Each shape has a name, under which
-tools/calls lists the calls.
+The shape of a call is the list of its parameters' types. Each shape has a name, such as FIND, under
+which tools/calls lists the calls.
 """
 import collections
 import glob

@@ -111,7 +111,7 @@ def functions(crate, file):
 
 
 def around(crate, change):
-    """Returns the function that the change is in, as its place and its name, or None."""
+    """Returns the function whose code the change is in, as its place and its name, or None."""
     text = read_text(crate, change.file)
     if text.count(change.old) != 1:
         return None
@@ -130,8 +130,8 @@ def answers_of(file, place, name):
 
 
 def function_of(crate, changes):
-    """Returns the one function that all changes of the code are in, or None. The only other changes
-    may be in the answers of its own proof, which no other proof reads."""
+    """Returns the function if all changes of code are in one, and otherwise None. Other changes may
+    only be in the answers of that function's proof, which no other proof reads."""
     code = [it for it in changes if it.file.startswith("src/")]
     found = {around(crate, it) for it in code}
     if len(found) != 1 or None in found:

@@ -38,7 +38,7 @@ pub fn print(options: &Options) {
             println!("{command:22}{shape:6}{}", cells(&times));
         }
     }
-    println!("\n{grown} lines have a time a byte that grows\n");
+    println!("\nthe time per byte grows in {grown} lines\n");
 }
 
 /// Returns the program's shortest time of several runs, in nanoseconds per byte, without the time

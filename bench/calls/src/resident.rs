@@ -10,7 +10,7 @@ extern "C" {
 pub fn most(work: impl Fn() -> u64) -> u64 {
     unsafe { malloc_trim(0) };
     // Resets the peak to what is resident now.
-    write("/proc/self/clear_refs", "5").expect("Linux counts anew");
+    write("/proc/self/clear_refs", "5").expect("Linux resets the peak");
     let before = kibibytes("VmRSS:");
     black_box(work());
     kibibytes("VmHWM:") - before
@@ -18,7 +18,7 @@ pub fn most(work: impl Fn() -> u64) -> u64 {
 
 /// Returns the number after the word in the status of this process.
 fn kibibytes(word: &str) -> u64 {
-    let status = read_to_string("/proc/self/status").expect("Linux tells it");
+    let status = read_to_string("/proc/self/status").expect("Linux shows the status");
     let line = status.lines().find_map(|line| line.strip_prefix(word));
     let number = line.and_then(|line| line.split_whitespace().next());
     number

@@ -38,7 +38,7 @@ pub fn print(options: &Options) {
             println!("{:22}{shape:6}{}", row.name, cells(&times));
         }
     }
-    println!("\n{grown} lines have a time a byte that grows\n");
+    println!("\nthe time per byte grows in {grown} lines\n");
 }
 
 /// The nanoseconds per byte at a size, and whether they grew.

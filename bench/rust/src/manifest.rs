@@ -21,8 +21,9 @@ fn noise(word: u64) -> u64 {
     }
 }
 
-/// Returns the paths of `count` files in the order of a walk over the tree, followed by as many in
-/// another order, of which one in ten is a file of the walk in another spelling.
+/// Returns the paths of `count` files in the order of a walk over the tree, and then as many paths
+/// in another order. Of these, one in ten may be a file of the walk, in another spelling. The other
+/// ones are not in the walk.
 fn listing(tree: Tree, seed: u64, count: u64) -> Lines {
     let mut random = Random::new(seed);
     let mut lines = Lines::default();

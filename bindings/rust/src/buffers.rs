@@ -157,10 +157,10 @@ pub fn join_beneath<'o>(root: &[u8], request: &[u8], out: &'o mut [u8]) -> Resul
 
 /// Joins a request as in a chroot, such as the decoded path of a URL.
 ///
-/// The request is read as by a process whose root directory is the root. This is [`join_beneath`],
-/// except that leading slashes are dropped, and a `..` at the root stays at the root, so no request
-/// escapes. A server that should refuse such a `..` calls [`join_beneath`] with what follows the
-/// leading slashes.
+/// The request is resolved as in a process whose root directory is `root`. This is
+/// [`join_beneath`], except that leading slashes are dropped, and a `..` at the root stays at the
+/// root, so no request escapes. A server that should refuse such a `..` calls [`join_beneath`] with
+/// what follows the leading slashes.
 ///
 /// Fails with `Nul` if and only if the request has a NUL byte.
 ///

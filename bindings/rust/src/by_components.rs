@@ -1,4 +1,4 @@
-//! Paths as keys of maps: equal if their components are.
+//! Paths as keys of maps, equal if their components are equal.
 use core::cmp::Ordering;
 use core::hash::{Hash, Hasher};
 

@@ -276,8 +276,8 @@ pub fn check_request(path: &[u8]) -> Result<(), RequestError> {
     }
 }
 
-/// Returns true if a request is the root itself: no name remains of it when it is resolved as
-/// [`join_in_root`](crate::join_in_root) does.
+/// Returns true if a request is the root itself: no name remains when
+/// [`join_in_root`](crate::join_in_root) resolves the request.
 ///
 /// [`join_in_root`](crate::join_in_root) then writes the root verbatim if the request has no NUL
 /// byte, and so does [`join_beneath`](crate::join_beneath) unless it refuses the request.
