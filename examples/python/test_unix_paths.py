@@ -164,7 +164,7 @@ def main():
             seen[ORDER] += 1
             if not {"", "/", ".."} & set(first_difference(path, other)):
                 wrong.append((path, other, "order"))
-    print(f"{count} paths; the rules by which some answers differ, and for how many paths:")
+    print(f"{count} paths; the rules by which some results differ, each with a number of paths:")
     for rule, number in seen.items():
         print(f"  {rule}: {number}")
     for it in wrong[:5]:

@@ -103,7 +103,7 @@ fn main() -> ExitCode {
         Err(status) => return status,
     };
     let is_same = print(&options);
-    println!("Each number is our time over that of std::path.");
+    println!("Each number is our time divided by std::path's.");
     if is_same {
         ExitCode::SUCCESS
     } else {

@@ -24,8 +24,8 @@ pub fn print(options: &Options) {
     let fresh = memory(&options.timer());
     let memory =
         std::array::from_fn(|at| 4.0 * fresh[at] + (reading[at] - reading[at.max(1) - 1]).max(0.0));
-    println!("pathtool's nanoseconds a byte, its start left out; reading and * as above");
-    println!("ancestors of many parts are left out, since they are answered by their square\n");
+    println!("pathtool's nanoseconds per byte, without its start; * allows for slower reads too");
+    println!("ancestors of many components are left out: their answers have quadratic length\n");
     let mut grown = 0;
     let names = commands::all().map(|command| command.name);
     for command in names.filter(|name| options.has_row(name)) {

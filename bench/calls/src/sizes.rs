@@ -24,9 +24,9 @@ pub const SHAPES: [(&str, &[u8]); 8] = [
 pub fn print(options: &Options) {
     let timer = options.timer();
     let memory = memory(&timer);
-    println!("our nanoseconds a byte in paths of 10^4, 10^5, 10^6 and 10^7 bytes");
-    println!("*: more than 1.3 times those in a path a tenth as long, and what memory costs");
-    println!("-: left out, since they grew threefold before\n");
+    println!("our nanoseconds per byte in paths of 10^4, 10^5, 10^6 and 10^7 bytes");
+    println!("*: more than 1.3 times the number to its left plus the cost of larger memory");
+    println!("-: not timed, since a number to its left grew threefold\n");
     let mut grown = 0;
     for row in rows().iter().filter(|row| options.has_row(row.name)) {
         if row.is_sort() || row.other == Other::Next {
