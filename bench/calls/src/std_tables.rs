@@ -29,7 +29,7 @@ fn sum(paths: &[PathBuf], rounds: u64, find: impl Fn(&PathBuf) -> Option<u64>) -
     })
 }
 
-/// Returns the number of paths in a table of these lines.
+/// Makes a table of the paths in these lines. Returns how many different paths it has.
 pub unsafe extern "C" fn fill(lines: Start, len: usize) -> u64 {
     table_of(lines, len).len() as u64
 }

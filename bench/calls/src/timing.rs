@@ -16,7 +16,7 @@ pub struct Measure {
 /// The shortest time that is measured, in seconds.
 const SHORTEST: f64 = 1e-4;
 
-/// The most rounds; a round takes longer than `SHORTEST` divided by this.
+/// The greatest number of rounds. A round takes longer than `SHORTEST` divided by this number.
 pub const MOST_ROUNDS: usize = 1 << 16;
 
 /// The longest search for enough rounds, whatever the clock says.
