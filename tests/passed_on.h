@@ -54,7 +54,7 @@ static inline bool same_written(const written *a, const written *b) {
            && memcmp(a->out, b->out, sizeof a->out) == 0;
 }
 
-/* Sets the contents before a call, with a walk over a path of this length. */
+/* Sets the contents before a call: bytes A5, and a walk over a path of this length. */
 static inline void begin_anew(written *it, size_t path_length) {
     memset(it, 0xA5, sizeof *it);
     it->walk.front = it->next = 0;

@@ -10,15 +10,17 @@ import collections
 import re
 
 PREFIX = "unix_path_"
-# Directives that only clang reads, or that name the compiled file; the label that clang adds for
-# Windows and that rustc's module also has; directives whose quoted bytes are not names.
+# DROPPED has the directives that only clang reads, or that name the compiled file. FEATURES matches
+# the label that clang adds for Windows, which rustc's module also has. BYTES has the directives
+# whose quoted bytes are not names.
 DROPPED = (".file", ".ident", ".addrsig", ".addrsig_sym")
 FEATURES = re.compile(r"^(\t\.def\t@feat\.00;\n(\t.*\n)+)?@feat\.00 = \d+\n", re.M)
 BYTES = (".ascii", ".asciz", ".string")
 SECTION = re.compile(r'^(\t\.section\t)"([^"]*)"')
 STACK = ".note.GNU-stack"
-# A local label or a use of one, which may also occur inside another name; a label at the start of a
-# line; the names that a directive defines or exports.
+# LOCAL matches a local label or a use of one, which may also occur inside another name. LABEL
+# matches a label at the start of a line, or a name that a directive defines. GLOBAL matches an
+# exported name.
 LOCAL = re.compile(r"(?<![\w.])\.L(?=\w)")
 LABEL = re.compile(r"^([^\s:#]+):|^\t\.set\t([^\s,]+),", re.M)
 GLOBAL = re.compile(r"^\t\.globl\t(.+)$", re.M)
@@ -69,7 +71,7 @@ def names_of(text):
 
 
 def faults_of(text, exports):
-    """Returns what is wrong with a rewritten text that has to export these names."""
+    """Returns what is wrong with a rewritten text. It has to export exactly the names `exports`."""
     names, found = names_of(text)
     own = [it for it in names if it not in found]
     quoted = [line for line in text.splitlines()

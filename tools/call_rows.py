@@ -22,7 +22,7 @@ SAID = {
     "to_string_lossy": "show",
 }
 ORDERS = {b"-1": b"less", b"0": b"equal", b"1": b"greater"}
-# The edits in place that change a path as the call changes a copy.
+# The edits that change a path in place in the same way as the call changes a copy.
 EDITS = {"join": b"push:", "with_file_name": b"name:"}
 NOT_UTF8 = b"path contains invalid UTF-8 characters"
 

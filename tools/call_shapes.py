@@ -1,7 +1,7 @@
 """The calls from C, their records and their constants, as crates/unix_path_c exports them.
 
-The shape of a call is the list of its parameters' types. Each shape has a name, under which
-tools/calls lists the calls.
+The shape of a call is the list of its parameters' types. Each shape has a name, such as FIND, under
+which tools/calls lists the calls.
 """
 import collections
 import glob
@@ -104,7 +104,7 @@ def read_records():
 
 def read_errors():
     """Returns the errors by name, each with its comment and its value in Rust. They are the
-    constants whose comments begin with these words."""
+    constants whose comments begin with the words below."""
     return {name: (sentence(text), value) for _, source in read_sources()
             for text, name, value in ERROR.findall(source) if text.startswith("// The error code ")}
 

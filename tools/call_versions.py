@@ -1,8 +1,8 @@
 """The version of the library for C, and the version in which each call was added.
 
-In the shared library each call has the name of the version that added it. A program that makes a
-newer call is therefore not loaded with an older library, where it would fail at the call. Version
-1.1 is the first with a library for C.
+In the shared library, the symbol of each call has the version that added the call. So the loader
+refuses a program that makes a newer call if the library is older. Otherwise the program would only
+fail at the call. Version 1.1 is the first with a library for C.
 """
 import re
 
@@ -25,8 +25,8 @@ def versions_of(script):
 
 
 def with_calls(versions, names, version):
-    """Returns the calls by version, where this version has these calls. Calls of other versions
-    stay there."""
+    """Returns the calls by version after the calls `names` are added to this version, except those
+    that another version has."""
     older = {it: calls for it, calls in versions.items() if it != version}
     known = {name for calls in older.values() for name in calls}
     new = [name for name in names if name not in known]

@@ -68,8 +68,8 @@ class Cases:
         return self.tell(name, is_right, run.stdout or b"it was not refused")
 
     def answers(self, name, words, given, wanted, **how):
-        """Runs a command as a case; it passes if the command reads one file and writes the contents
-        of another."""
+        """Runs a command as a case, with the file `given` as its input. The case passes if the
+        command writes the contents of the file `wanted`."""
         with open(given, "rb") as file:
             run = subprocess.run(words, cwd=ROOT, stdin=file, stdout=subprocess.PIPE,
                                  stderr=subprocess.PIPE, **how)

@@ -2,7 +2,7 @@
 
 The toolchain lowers proved code to a module of LLVM, and calls its clang to compile the module.
 Here the toolchain gets a wrapper of clang that also keeps the module and the arguments of the call.
-Then clang makes assembly of the same module, with the same arguments except one.
+Then clang compiles the same module to assembly, with the same arguments except -S instead of -c.
 """
 import collections
 import os

@@ -47,7 +47,8 @@ def exports_of(name):
 
 
 def all_faults(files, places):
-    """Returns what is wrong with generated files, which may contain none of these paths."""
+    """Returns what is wrong with generated files. They must not contain any of the paths
+    `places`."""
     faults = [f"{name}: names {place}" for name, data in sorted(files.items())
               for place in places if place.encode() in data]
     faults += [f"{name}: {it}" for name, data in sorted(files.items()) if name.endswith(".s")

@@ -33,7 +33,7 @@ class Progress:
         self.show(f"{self.functions}{self.seconds()}", end="" if self.is_terminal else "\n")
 
     def end(self, functions):
-        """Shows how many functions were proved, or that they were proved before if it is None."""
+        """Shows how many functions were proved. None means that they were proved before."""
         what = "proved before" if functions is None else f"{functions} functions proved"
         self.show(f"{what}, {self.seconds()}")
 
@@ -80,8 +80,8 @@ def call_prover(words, folder, progress):
 
 
 def total(counts, start):
-    """Returns a line that says how many functions of how many crates were proved since that
-    start."""
+    """Returns a line that says how many functions of how many crates were proved, and in what time
+    since `start`."""
     proved = [it for it in counts if it is not None]
     before = f", {len(counts) - len(proved)} before" if len(proved) < len(counts) else ""
     return (f"proved {sum(proved)} functions of {len(proved)} crates in "

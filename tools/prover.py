@@ -25,7 +25,7 @@ def jobs():
 
 def words_for(crate, uses, below):
     """Returns the prover's arguments that prove a crate that uses these libraries. `below` has the
-    built library of each crate below it."""
+    built library of each crate that it depends on."""
     kit = toolchain_folder()
     words = ["--crate-name", crate, "src/main.rt" if is_program(crate) else "src/lib.rt"]
     for name in ["std", *uses]:

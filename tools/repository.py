@@ -42,7 +42,8 @@ def built_of(crate):
 
 
 def in_order(below, names):
-    """Returns these crates and all crates below them, lowest first."""
+    """Returns these crates and all crates that they depend on. Each comes after its
+    dependencies."""
     order = []
 
     def add(name):

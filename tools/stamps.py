@@ -1,15 +1,15 @@
 #!/usr/bin/env python3
 """Records what a program or a library was proved and built from, and checks that this still holds.
 
-tools/stamps.py sources CRATE               prints the digest of what the crate is proved from
+tools/stamps.py sources CRATE               prints the digest of the crate's sources, see below
 tools/stamps.py write CRATE DIGEST FILE..   records that these files of the crate's directory `out`
                                             were built from the sources with that digest
 tools/stamps.py check CRATE [DIRECTORY]     fails unless the files in `out`, or in that directory,
                                             are the recorded ones, and built from these sources
 
-The bytes of the files are compared, never their times. `write` fails if the sources have another
-digest by now. If rt is on the path, `check` also fails if its version isn't the one that proved
-the files.
+The sources of a crate are the files from which it and the crates that it depends on are proved. The
+bytes of the files are compared, never their times. `write` fails if the sources have another digest
+by now. If rt is on the path, `check` also fails if its version isn't the one that proved the files.
 """
 import hashlib
 import os
@@ -29,7 +29,8 @@ def digest_of(names):
 
 
 def sources_of(crate):
-    """Returns the digest of everything from which the crate and the crates below it are proved."""
+    """Returns the digest of all files from which the crate and the crates that it depends on are
+    proved."""
     tops = [f"crates/{it}/{part}" for it in in_order(read_crates(), [crate])
             for part in ("src", "specs", "proofs")]
     walks = [walk for top in tops for walk in os.walk(f"{ROOT}/{top}")]
@@ -48,7 +49,8 @@ def note(crate, folder, names):
 
 
 def write(crate, digest, names):
-    """Records files of the crate's `out`. Returns whether the sources still have the digest."""
+    """Records files of the crate's `out`. Returns false, and records nothing, if the sources no
+    longer have the digest."""
     if sources_of(crate) != digest:
         print(f"the sources of {crate} changed while they were proved", file=sys.stderr)
         return False

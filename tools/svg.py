@@ -14,7 +14,7 @@ SIZES = """\
 text { font-family: system-ui, -apple-system, 'Segoe UI', Helvetica, Arial, sans-serif }
 .title { font-size: 18px; font-weight: 600 } .name { font-size: 15px; font-weight: 600 }
 .small { font-size: 13px } .middle { text-anchor: middle }"""
-# What every picture colours. In a rule, %(text)s is the colour of that name.
+# The style rules that every picture has. In a rule, %(text)s is the colour named `text`.
 RULES = (".paper { fill: %(paper)s; stroke: %(frame)s } .text { fill: %(text)s } "
          ".muted { fill: %(muted)s }")
 

@@ -82,9 +82,9 @@ def modules_of(file):
 
 
 def place_of(crate, file, lines, head):
-    """Returns the place of the function at this line, as a check names it: its module; or the type
-    of the impl that it is in, even if the type is defined in another file, with the trait if there
-    is one. A method that a trait declares has the same place as a function of its module."""
+    """Returns the place of the function at this line, as a check names it. For a function in an
+    impl, this is the type, even if another file defines the type, with the trait if there is one.
+    For any other function it is the module; this includes a method that a trait declares."""
     impls = [number for number in range(head) if lines[number].startswith("impl")]
     if not lines[head].startswith(" ") or not impls:
         return "::".join([crate, *modules_of(file)])
@@ -111,7 +111,7 @@ def functions(crate, file):
 
 
 def around(crate, change):
-    """Returns the function that the change is in, as its place and its name, or None."""
+    """Returns the function whose code the change is in, as its place and its name, or None."""
     text = read_text(crate, change.file)
     if text.count(change.old) != 1:
         return None
@@ -130,8 +130,8 @@ def answers_of(file, place, name):
 
 
 def function_of(crate, changes):
-    """Returns the one function that all changes of the code are in, or None. The only other changes
-    may be in the answers of its own proof, which no other proof reads."""
+    """Returns the function if all changes of code are in one, and otherwise None. Other changes may
+    only be in the answers of that function's proof, which no other proof reads."""
     code = [it for it in changes if it.file.startswith("src/")]
     found = {around(crate, it) for it in code}
     if len(found) != 1 or None in found:

@@ -62,7 +62,7 @@ fn push_bad_command(answer: &mut Vec<u8>) {
     answer.extend_from_slice(b"bad command");
 }
 
-/// Appends the components that the turns take from both ends, and the rest.
+/// Appends the answer to `walk`: the components that the turns take from both ends, and the rest.
 fn push_walk(path: &Path, turns: &[u8], answer: &mut Vec<u8>) {
     let mut left = path.components();
     let (mut front, mut behind) = (vec![], vec![]);
@@ -81,8 +81,8 @@ fn push_walk(path: &Path, turns: &[u8], answer: &mut Vec<u8>) {
     push_list(items.chain(parts).chain(rest).chain(parts_behind), answer);
 }
 
-/// Edits the extension, and appends whether that succeeded, or `separator` where the library
-/// panics.
+/// Makes an edit of the extension and appends its answer: what `edit` returns, or `separator` if
+/// the extension has a slash, for which the library would panic.
 fn push_extended(extension: &[u8], answers: &mut Vec<u8>, edit: impl FnOnce(&OsStr) -> bool) {
     if extension.contains(&b'/') {
         answers.extend_from_slice(b"separator");
@@ -91,7 +91,8 @@ fn push_extended(extension: &[u8], answers: &mut Vec<u8>, edit: impl FnOnce(&OsS
     }
 }
 
-/// Makes the edit, and appends its result; returns false if the field names no edit.
+/// Makes the edit that the field names, and appends its answer. Returns false if the field names no
+/// edit.
 fn push_edit(field: &[u8], edited: &mut PathBuf, answers: &mut Vec<u8>) -> bool {
     answers.push(b'\t');
     if field == b"pop" {
@@ -115,7 +116,7 @@ fn push_edit(field: &[u8], edited: &mut PathBuf, answers: &mut Vec<u8>) -> bool 
     true
 }
 
-/// Appends the path after the edits, and their results.
+/// Makes the edits, and appends the edited path and the answers of the edits.
 fn push_edited(path: &Path, fields: &[&[u8]], answer: &mut Vec<u8>) {
     let mut edited = path.to_path_buf();
     let mut answers = vec![];

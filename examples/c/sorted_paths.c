@@ -1,5 +1,5 @@
-/* Reads paths, one per line, and prints them in the order of their components, once each: of equal
- * paths the first.
+/* Reads paths, one per line, and prints them in the order of their components. Of equal paths it
+ * prints only the first.
  *
  *   cc sorted_paths.c $(pkg-config --cflags --libs unix_path) -o sorted_paths
  *   printf '%s\n' a.b a/b a//b/ ./a | ./sorted_paths     prints  ./a  a/b  a.b

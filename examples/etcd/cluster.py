@@ -32,7 +32,7 @@ def is_healthy(port):
 
 
 class Cluster:
-    """The members, by their client ports."""
+    """The members' processes. A member is identified by its port for clients."""
 
     def __init__(self, folder):
         self.folder = folder

@@ -1,4 +1,4 @@
-"""The calls of the C library for keys, from its shared library."""
+"""Keys of paths, by calls of the C library."""
 import ctypes
 
 SIZE_MAX = ctypes.c_size_t(-1).value
@@ -7,7 +7,7 @@ NO_END = SIZE_MAX - 5
 
 
 def exact(some_bytes):
-    """Returns these bytes, as the type `bytes` itself: a subclass may report another length."""
+    """Returns these bytes as a plain `bytes`, since a subclass may report another length."""
     return bytes(memoryview(some_bytes))
 
 
@@ -22,7 +22,7 @@ class Paths:
             call.restype = ctypes.c_size_t
 
     def answer(self, name, given, room):
-        """Returns what a call writes, or its error code."""
+        """Returns the bytes that a call writes, or its error code as a number."""
         call, out = getattr(self.calls, f"unix_path_{name}"), ctypes.create_string_buffer(room + 1)
         length = call(given, len(given), out, room)
         if length > room and length < NO_END:
@@ -43,7 +43,8 @@ class Paths:
         return found
 
     def end(self, key):
-        """Returns the end of a key's range, or None for the empty key, whose range has all keys."""
+        """Returns the exclusive end of a key's range, or None for the empty key, whose range has
+        all keys."""
         key = exact(key)
         found = self.answer("key_range_end", key, len(key))
         if found == NOT_A_KEY:

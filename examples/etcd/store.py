@@ -1,15 +1,15 @@
 """Files in etcd, by the keys of their paths.
 
-etcd sorts its keys by their bytes. So all spellings of a path find one file, and a directory with
-all below it is one range, in path order, which one read returns. To rename a directory is to change
-the prefix of each key in its range, in one transaction.
+etcd sorts its keys by their bytes. So all spellings of a path find the same file. A directory and
+all files below it are one range, in path order, and one read returns it. Renaming a directory
+changes the prefix of each key in its range, in one transaction.
 """
 import base64
 import http.client
 import json
 import time
 
-# The time in seconds for which a call is tried at one member after the other.
+# The time in seconds after which a call is no longer tried at the next member.
 PATIENCE = 60
 
 
@@ -31,11 +31,11 @@ class Store:
 
     def __init__(self, paths, ports):
         self.paths, self.ports, self.connection = paths, list(ports), None
-        # The number of calls that had no answer and were tried again.
+        # The number of failed attempts, after which the call was tried at the next member.
         self.lost = 0
 
     def ask_once(self, call, body):
-        """Makes one call at the first member. Returns its status and its answer."""
+        """Makes a call at the first member of the list, once. Returns its status and its answer."""
         if self.connection is None:
             self.connection = http.client.HTTPConnection("127.0.0.1", self.ports[0], timeout=10)
         self.connection.request("POST", f"/v3/{call}", body)
@@ -43,7 +43,8 @@ class Store:
         return answer.status, answer.read()
 
     def ask(self, call, **fields):
-        """Makes a call that may be made twice, at one member after another until one answers."""
+        """Makes a call at one member after another until one of them answers. The call may be made
+        more than once, so that must do no harm."""
         body, until = json.dumps(fields).encode(), time.monotonic() + PATIENCE
         while True:
             try:
@@ -68,7 +69,8 @@ class Store:
         time.sleep(0.05)
 
     def range_of(self, folder):
-        """Returns the range of a directory's key. In etcd, a range of two NULs has all keys."""
+        """Returns the range of a directory's key. In etcd, the range from NUL to NUL has all
+        keys."""
         key = self.paths.key(folder)
         end = self.paths.end(key)
         first, last = (b"\0", b"\0") if end is None else (key, end)
@@ -85,16 +87,17 @@ class Store:
         return decoded(found[0].get("value")) if found else None
 
     def read_range(self, folder):
-        """Returns the files of a directory in path order, by one read: each key, its content and
-        its last revision. Also returns the revision of the store."""
+        """Reads a directory at once. Returns its files in path order, each as its key, its content
+        and the revision that last changed it. Also returns the revision of the store."""
         answer = self.ask("kv/range", **self.range_of(folder))
         rows = [(decoded(it["key"]), decoded(it.get("value")), it["mod_revision"])
                 for it in answer.get("kvs", [])]
         return rows, int(answer["header"]["revision"])
 
     def list(self, folder):
-        """Returns what follows the directory in the paths that start with it, with the contents. In
-        each of their keys, what follows the directory's key is the key of the rest."""
+        """Returns the files of a directory, each as the rest of its path after the directory, and
+        its content. In a file's key, the bytes after the directory's key are the key of the
+        rest."""
         cut = len(self.paths.key(folder))
         return [(self.paths.path(key[cut:]), content)
                 for key, content, _ in self.read_range(folder)[0]]

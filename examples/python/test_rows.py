@@ -1,6 +1,6 @@
-"""Checks libunix_path.so.1 by the rows of tests/rows.txt, with calls as unix_paths makes them.
+"""Checks libunix_path.so.1 by the rows of tests/rows.txt, through ctypes like unix_paths.
 
-Prints each row whose result differs, and then the counts.
+Prints each row whose result differs, and then the numbers of rows and of wrong ones.
 """
 import ctypes
 import os
@@ -23,7 +23,7 @@ class _Chunk(ctypes.Structure):
 
 
 def words(paths):
-    """Returns the paths as arguments of the calls."""
+    """Returns the arguments of a call on these paths: each path and its length."""
     return [it for path in paths for it in (path, len(path))]
 
 
@@ -36,14 +36,15 @@ def found(name, *paths):
 
 
 def asked(name, *paths):
-    """Returns the answer to a question. A hash is unsigned and written in hexadecimal."""
+    """Returns the field for the number or truth value that a call returns. A hash is unsigned and
+    written in hexadecimal."""
     answer = _call(name, TYPES[ANSWERS[name]], _PATH * len(paths))(*words(paths))
     return [f"0x{answer:016x}" if ANSWERS[name] == "u64" else str(answer).lower()]
 
 
 def order(name, a, b):
-    """Returns the order of two paths, and further fields if the opposite order or unix_path_equal
-    disagrees."""
+    """Returns the field for the order of two paths. Adds fields if the order of the swapped paths
+    or unix_path_equal disagrees."""
     (there,), (back,), (equal,) = asked(name, a, b), asked(name, b, a), asked("equal", a, b)
     is_known = int(there) == -int(back) and (equal == "true") == (there == "0")
     return [there] if is_known else [there, back, equal]
@@ -58,7 +59,7 @@ def written(name, *paths):
 
 
 def walked(call, path):
-    """Yields the components that a call takes, in its order, each with its offset."""
+    """Yields the components in the order in which a call takes them, each with its index."""
     walk, part = _Walk(0, len(path)), _Part()
     step = _call(call, c_bool, _PATH, [POINTER(_Walk), POINTER(_Part)])
     while step(*words([path]), ctypes.byref(walk), ctypes.byref(part)):
@@ -66,7 +67,7 @@ def walked(call, path):
 
 
 def whole(path):
-    """Returns the start and the end of the rest of a walk from which nothing was taken."""
+    """Returns the start and the end of the rest of a new walk."""
     walk, span = _Walk(), _Span()
     begin = _call("components", None, _PATH, [POINTER(_Walk)])
     look = _call("as_path", None, _PATH, [POINTER(_Walk), POINTER(_Span)])
@@ -76,8 +77,8 @@ def whole(path):
 
 
 def parts(_name, path):
-    """Returns the components. Checks that both calls take them, and that the rest of a new walk
-    reaches from the first to the last."""
+    """Returns the fields for the components. Checks that both calls take them, and that the rest of
+    a new walk reaches from the first component to the last."""
     front, back = list(walked("next", path)), list(walked("next_back", path))
     spans = [(int(start), int(start) + len(unescaped(part))) for part, start in front] or [(0, 0)]
     if front != back[::-1] or whole(path) != (spans[0][0], spans[-1][1]):
@@ -102,7 +103,8 @@ def chunks(name, path):
     return taken
 
 
-# The number of paths of a call, and the function that makes it, by its shape.
+# For each shape of a call (its kind of signature): the number of paths, and the function that makes
+# the call.
 SHAPES = {
     "BEGIN": (1, parts), "NEXT_SPAN": (1, ancestors), "NEXT_CHUNK": (1, chunks),
     "FIND": (1, found), "FIND_OF_TWO": (2, found), "ASK": (1, asked), "ASK_TWO": (2, asked),

@@ -2,9 +2,9 @@
 
 test_unix_paths.py [COUNT] [SEED]       by default 100,000 paths and a fixed seed
 
-UnixPath has to return the same if the bytes that it is given report a wrong length. Where the two
-differ, one of the rules below says why. Each rule has to occur, and each difference has to be
-covered by a rule.
+Where the two classes differ, one of the rules below says why. Each difference has to be covered by
+a rule, and each rule has to be needed. Also checks that UnixPath returns the same if its arguments
+report a wrong length.
 """
 import doctest
 import operator
@@ -50,7 +50,7 @@ def answer(call, *values):
 
 
 def all_of(kind, path, other, name, suffix):
-    """Yields the results of the calls on two paths, a name and a suffix, with the calls' names."""
+    """Yields the name and the result of each call, given two paths, a name and a suffix."""
     it, that = kind(path), kind(other)
     yield "path", it
     for call in ("parts", "name", "stem", "suffix", "parent", "parents"):
@@ -67,7 +67,7 @@ def all_of(kind, path, other, name, suffix):
 
 
 def rules_of(name, path, other):
-    """Returns the rules by which the result of the call of this name may differ."""
+    """Returns the rules that explain a difference between the classes in the call `name`."""
     paths = path, other, str(UnixPath(path, other))
     rules = [rule for rule, is_met in PATHS.items() if any(map(is_met, paths))]
     if name in ("relative_to", "is_relative_to") and path[:1] == "/" and other == "":
@@ -78,7 +78,7 @@ def rules_of(name, path, other):
 
 
 def differences(path, other, *words):
-    """Yields the differences of the two: the call, and the rules that cover it."""
+    """Yields the calls in which the two classes differ, each with the rules that explain it."""
     pairs = zip(all_of(UnixPath, path, other, *words), all_of(PurePosixPath, path, other, *words))
     for (name, ours), (_, theirs) in pairs:
         if text(ours) != text(theirs):
@@ -96,14 +96,14 @@ def orders_differ(path, other):
 
 
 def first_difference(path, other):
-    """Returns the first components of two paths that differ, or () if one path starts with the
-    other. A path without components counts as one with an empty component."""
+    """Returns the components at the first index where two paths differ, or () if one path starts
+    with the other. A path without components counts as one with an empty component."""
     pairs = zip(UnixPath(path).parts or [""], UnixPath(other).parts or [""])
     return next((pair for pair in pairs if pair[0] != pair[1]), ())
 
 
 class Bytes(bytes):
-    """Bytes that report a wrong length, and whose slices do, and that `bytes` returns
+    """Bytes that report the wrong length `said`. Their slices do so too, and `bytes` returns them
     unchanged."""
     said = 0
 
@@ -118,7 +118,7 @@ class Bytes(bytes):
 
 
 class Text(str):
-    """Text that is encoded as bytes that report a wrong length."""
+    """Text that is encoded as bytes that report the wrong length `said`."""
     said = 0
 
     def encode(self, *how):
@@ -164,7 +164,7 @@ def main():
             seen[ORDER] += 1
             if not {"", "/", ".."} & set(first_difference(path, other)):
                 wrong.append((path, other, "order"))
-    print(f"{count} paths; the rules by which some answers differ, and for how many paths:")
+    print(f"{count} paths; the rules by which some results differ, each with a number of paths:")
     for rule, number in seen.items():
         print(f"  {rule}: {number}")
     for it in wrong[:5]:

@@ -1,8 +1,8 @@
 """Unix paths with the interface of pathlib.PurePosixPath, over the calls of libunix_path.so.1.
 
 This is an example of the calls from a language other than C, and not a package. It needs only the
-library, which UNIX_PATH_SO names or which the system finds. UnixPath returns the same as
-PurePosixPath where the rules of both agree; test_unix_paths.py lists where they differ.
+library: the file that UNIX_PATH_SO names, or else the one that the system finds. UnixPath returns
+the same as PurePosixPath, except where the rules in test_unix_paths.py say otherwise.
 
     >>> path = UnixPath("/srv//www/./index.tar.gz")
     >>> path.parts, path.suffix, path.parent
@@ -62,12 +62,12 @@ _join, _join_beneath, _join_in_root, _with_file_name, _with_extension = (
 
 
 def _bytes_of(path):
-    """Returns the path's bytes, as `bytes` itself: a subclass may report another length."""
+    """Returns the path's bytes as a plain `bytes`, since a subclass may report another length."""
     return bytes(memoryview(os.fsencode(path)))
 
 
 def _written(call, room, *paths):
-    """Returns what a call writes to a buffer of this size, which is large enough."""
+    """Returns the bytes that a call writes. `room` bytes have to be enough for them."""
     out = ctypes.create_string_buffer(room + 1)
     words = (it for path in paths for it in (path, len(path)))
     length = call(*words, out, room)

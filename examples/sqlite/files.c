@@ -1,8 +1,8 @@
 /* Files in a table of SQLite, by the keys of their paths.
  *
- * SQLite compares BLOBs byte by byte, so all spellings of a path find one row, a directory with all
- * below it is one range of the table, and that range is in path order. To rename a directory is to
- * change the prefix of each key in its range.
+ * SQLite compares BLOBs byte by byte, so all spellings of a path find the same row. A directory and
+ * all paths below it are one range of the table, in path order. Renaming a directory changes the
+ * prefix of each key in its range.
  *
  *   cc files.c $(pkg-config --cflags --libs unix_path sqlite3) -o files
  *   printf 'put\tsrc//main.rs\tfn main() {}\nlist\tsrc/.\n' | ./files DATABASE
@@ -15,7 +15,7 @@
  *   rename FOLDER NEW    moves these paths in one transaction, and prints their number; refused if
  *                        NEW has files or starts with FOLDER, or FOLDER is the empty path
  *
- * The exit status is 1 if a line is none of these, or SQLite fails.
+ * The exit status is 1 if a line is no such command, or if SQLite fails.
  */
 #define _POSIX_C_SOURCE 200809L
 #include <sqlite3.h>
@@ -74,8 +74,8 @@ static void run(sqlite3_stmt *statement) {
     expect(sqlite3_finalize(statement), SQLITE_OK);
 }
 
-/* Returns a statement whose ?1 and ?2 are the range of a directory's key: `ended`, or `endless`,
- * which has no ?2, if the range has no end. */
+/* Returns a statement whose ?1 and ?2 are the start and the end of the range of a directory's key.
+ * This is `ended`, or `endless`, which has no ?2, if the range has no end. */
 static sqlite3_stmt *over_range(const text *key, const char *ended, const char *endless) {
     uint8_t end[ROOM];
     size_t length = unix_path_key_range_end(key->bytes, key->length, end, ROOM);
@@ -192,7 +192,7 @@ static void rename_folder(const char *folder, const char *new_name) {
     execute("COMMIT");
 }
 
-/* Executes a line; returns false if it is no command. */
+/* Executes a line. Returns false if it is no command. */
 static bool answer(char *line) {
     const char *command = strtok(line, "\t"), *path = strtok(NULL, "\t");
     const char *other = strtok(NULL, "\t");

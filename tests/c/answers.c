@@ -46,8 +46,8 @@ bool answer_ancestors(request *line) {
     return true;
 }
 
-// Takes a component for each turn, adds the components of the turns with the letter `wanted`, and
-// returns how many these are.
+// Takes a component for each turn. Adds the components that the turns with the letter `wanted`
+// take, and returns their number.
 static size_t take(request *line, view path, view turns, uint8_t wanted, unix_path_walk *walk) {
     size_t count = 0;
     unix_path_part part;

@@ -1,4 +1,5 @@
-// Checks that are counted, memory between pages that can't be read, and what a call wrote.
+// Checks that are counted, memory between pages that can't be read, and comparisons of what a call
+// wrote.
 #ifndef CHECK_H
 #define CHECK_H
 

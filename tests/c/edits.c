@@ -34,7 +34,7 @@ static const char *set_file_name(text *path, view name) {
     return "ok";
 }
 
-// Sets or adds the extension of the path by the call. Returns the edit's answer.
+// Sets or adds the extension of the path with the given call. Returns the edit's answer.
 static const char *edit_extension(text *path, call_of_two call, view extension) {
     unix_path_span name;
     bool is_named = unix_path_file_name(path->bytes, path->length, &name);

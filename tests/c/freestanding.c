@@ -1,5 +1,5 @@
-// Uses the archive without the C library: a program that starts by itself, and has only the four
-// functions that the archive needs. Its exit status is the number of wrong answers.
+// A program that uses the archive without the C library. It has its own entry point, and defines
+// only the four functions that the archive needs. Its exit status is the number of wrong answers.
 #include "unix_path.h"
 
 void *memcpy(void *to, const void *from, size_t size);
@@ -85,7 +85,7 @@ static bool joins(const char *root, const char *request, const char *wanted) {
     return is_text(out, length, wanted);
 }
 
-// Returns true if the path of `path`'s key is `wanted`, its canonical form.
+// Returns true if the key of `path` is read back as `wanted`, the canonical form of `path`.
 static bool is_read_back(const char *path, const char *wanted) {
     char key[64], out[64];
     size_t length = unix_path_key(path, length_of(path), key, sizeof key);

@@ -13,7 +13,7 @@ static int compare_keys(view a, view b) {
     return (a.length > b.length) - (a.length < b.length);
 }
 
-// Returns what a call writes for these bytes to this memory, or nothing if it doesn't fit.
+// Returns what the call writes to `memory` for the given bytes, or no bytes if that doesn't fit.
 static view made(call_of_one call, view given, uint8_t *memory, size_t room) {
     size_t length = call(given.bytes, given.length, memory, room);
     return (view){memory, length <= room ? length : 0};
@@ -21,8 +21,8 @@ static view made(call_of_one call, view given, uint8_t *memory, size_t room) {
 
 static size_t keys_among_strings;
 
-// Checks that bytes have a path only if they are that path's key. A `#` in the string represents
-// NUL.
+// Checks that a string is refused as a key, or is the key of the path that is read from it. A `#`
+// in the string represents NUL.
 static void read_string(view string) {
     uint8_t copy[16], path[16], again[16];
     for (size_t at = 0; at < string.length; at++) {
@@ -52,8 +52,8 @@ static void strings_as_keys(void) {
 
 static view first_of_pair;
 
-// Checks that keys are in the order of their paths, and that a path is in the range of another path
-// if and only if it starts with that path.
+// Checks that keys are in the order of their paths, and that a path's key is in the range of
+// another path's key if and only if the path starts with the other path.
 static void pair_with(view path) {
     uint8_t first[16], second[16], last[16];
     view a = made(unix_path_key, first_of_pair, first, sizeof first);

@@ -8,7 +8,8 @@
 
 static fence first_fence, second_fence;
 
-// Checks that a path's key, next to a page that can't be read, is read back as the canonical path.
+// Checks that a path's key, next to a page that can't be read, is read back as the path's canonical
+// form.
 static void key_read_back(view path) {
     uint8_t bytes[16], canonical[16];
     size_t length = unix_path_key(path.bytes, path.length, bytes, sizeof bytes);
@@ -19,7 +20,7 @@ static void key_read_back(view path) {
     CHECK(same_bytes((view){path_of_key, read}, (view){canonical, wanted}), "read back");
 }
 
-// Checks how the answers to the queries about one path depend on one another.
+// Checks that the answers to the queries about one path agree with one another.
 static void questions_of(view path) {
     bool is_absolute = unix_path_is_absolute(path.bytes, path.length);
     bool escapes = unix_path_escapes(path.bytes, path.length);
@@ -67,7 +68,7 @@ static void room_for_two(view a, view b) {
     CHECK(length <= most || !unix_path_is_length(length), "relative path");
 }
 
-// Checks that the ancestors are the path and the parent of each.
+// Checks that the first ancestor is the path, and each further one the parent of the one before it.
 static void ancestors_are_parents(view path) {
     size_t next = path.length;
     unix_path_span ancestor, wanted = {0, path.length};
@@ -79,8 +80,8 @@ static void ancestors_are_parents(view path) {
     CHECK(!is_wanted && next == SIZE_MAX, "%zu is left", wanted.length);
 }
 
-// Checks that the chunks follow one another, and that with their replacements they are the lossy
-// string.
+// Checks that each chunk begins where the one before it ends, and that the chunks, with their
+// invalid bytes replaced, form the lossy string.
 static void chunks_are_shown(view path) {
     text shown = new_text(), lossy = new_text();
     size_t next = 0, end = 0;
@@ -147,9 +148,9 @@ static void nothing_beside_is_read(void) {
     each_string("/.a\xE2\x82", 4, call_fenced);
 }
 
-// Checks that a join beneath a root returns UNIX_PATH_ESCAPES if and only if the request escapes.
-// If it doesn't escape, the join is the join in the root and, with the resolved root, the resolved
-// join.
+// Checks that a join beneath the resolved root returns UNIX_PATH_ESCAPES if and only if the request
+// escapes. If it doesn't escape, the join is the same as the join in the resolved root, and the
+// same as the plain join of root and request after it is resolved.
 static void joins_beneath(view root, view request, bool escapes) {
     uint8_t resolved[16], beneath[16], other[16], wanted[16];
     size_t length = unix_path_resolved(root.bytes, root.length, resolved, sizeof resolved);
@@ -203,7 +204,7 @@ static void relative_path_leads(view from, view to) {
 
 static view first_of_pair;
 
-// Checks how the calls of two paths depend on one another.
+// Checks that the results of the calls on two paths agree with one another.
 static void pair_with(view path) {
     view a = fence_in(first_fence, first_of_pair, true), b = fence_in(second_fence, path, true);
     unix_path_span span = no_span;

@@ -5,7 +5,7 @@
 #include "check.h"
 #include "records.h"
 
-// Takes all components of a walk, of which there must be few, and returns how many there are.
+// Writes all components of a walk to `parts`, which must have space for them. Returns their number.
 static inline size_t take_all(view path, unix_path_walk walk, unix_path_part *parts) {
     size_t count = 0;
     while (count < 16 && unix_path_next(path.bytes, path.length, &walk, &parts[count])) {
@@ -25,8 +25,10 @@ static inline bool reaches(unix_path_span span, const unix_path_part *parts, siz
            && span.start + span.length == last.start + last.length;
 }
 
-// Takes components from the ends that the bits of `turns` say. The components taken from the front,
-// left in the rest, and taken from the back have to be those of the path.
+// Takes four components, from the front for each bit of `turns` that is 1 and from the back for
+// each
+// 0. Checks that the components taken from the front, those of the rest, and those taken from the
+// back are together the path's components.
 static inline void walk_by(view path, unsigned turns, const unix_path_part *parts, size_t count) {
     size_t front = 0, behind = count;
     unix_path_walk walk, fresh;

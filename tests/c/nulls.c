@@ -1,6 +1,5 @@
 // Each call with a null pointer for the empty path, and for a buffer of no bytes. Each call has to
-// return what it returns for an empty path whose pointer isn't null. Calls are named only in rows
-// of expected answers.
+// return what it returns for an empty path whose pointer isn't null.
 #define _DEFAULT_SOURCE
 #include "../passed_on.h"
 #include "check.h"
@@ -11,7 +10,7 @@ static const view none = {NULL, 0};
 static const char *const others[] = {"", "/", "a.b", "x//y.tar/.", "../a", "./b"};
 static const size_t other_count = sizeof others / sizeof *others;
 
-// Compares each function of the header with its call.
+// Compares each function of the header with the library's call, to which it passes its arguments.
 static void each_function(void) {
     CHECK(wrong_functions(NULL, 0, NULL, 0, 64) == 0, "nothing");
     CHECK(wrong_functions(NULL, 0, NULL, 0, 0) == 0, "nothing, without room");
@@ -82,7 +81,8 @@ static void questions_of_nothing(void) {
     CHECK(compare(none, none) == 0 && common_dir(none, none) == 0, "both");
 }
 
-// Makes a call with a buffer, and with a null pointer as a buffer of no bytes.
+// Checks that a call writes `wanted` to a buffer, and returns its length also for a null pointer as
+// a buffer of no bytes.
 static void write_both(call_of_two call, view a, view b, view wanted) {
     uint8_t memory[16];
     memset(memory, 0xA5, sizeof memory);

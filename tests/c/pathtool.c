@@ -72,7 +72,7 @@ static text read_all(FILE *file) {
     return input;
 }
 
-// Has the streams pass all bytes unchanged, which Windows does only if it is asked to.
+// Makes the standard streams pass all bytes unchanged, which Windows does only on request.
 static void keep_bytes(void) {
 #ifdef _WIN32
     _setmode(_fileno(stdin), _O_BINARY);

@@ -1,6 +1,6 @@
 // The rows of tests/rows.txt. Each call is made with its paths between pages that can't be read,
-// and the row is spelled again with the answer. A row that is spelled differently is wrong or not a
-// row.
+// and the row is written again with the answer. If the two rows differ, the row in the file is
+// wrong or malformed.
 #define _DEFAULT_SOURCE
 #include <ctype.h>
 #include <inttypes.h>
@@ -10,7 +10,7 @@
 #include "records.h"
 #include "mixed_walks.h"
 
-// The most bytes of an answer or of a path in a row.
+// The greatest length of an answer or of a path in a row.
 enum { most = 64 };
 
 // A call: its name, the number of its paths, and the function that makes it.
@@ -168,8 +168,8 @@ static void walk_path(view a, view b) {
     CHECK_ROW(!unix_path_next_back(a.bytes, a.length, &walk, &part) && same_part(part, no_part));
 }
 
-// Adds the ancestors. Checks that none is left once `next` is SIZE_MAX, or if it is greater than
-// the path's length.
+// Adds the ancestors. Checks that there is no further ancestor once `next` is SIZE_MAX, or if it is
+// greater than the path's length.
 static void list_ancestors(view a, view b) {
     (void)b;
     size_t next = a.length, past = a.length + 1;
@@ -184,8 +184,8 @@ static void list_ancestors(view a, view b) {
     CHECK_ROW(past == a.length + 1 && same_span(span, no_span));
 }
 
-// Adds the chunks. Checks that each begins where the chunk before it ends, and that none is left at
-// the path's end or after it.
+// Adds the chunks. Checks that each begins where the chunk before it ends, and that no chunk begins
+// at the path's end or after it.
 static void list_chunks(view a, view b) {
     (void)b;
     size_t next = 0, end = 0, past = SIZE_MAX;

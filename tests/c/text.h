@@ -82,8 +82,8 @@ static inline text copy_of(view bytes) {
     return copy;
 }
 
-// Adds what a call writes: first to the spare bytes of the buffer and, if these are too few, to as
-// many as the call needs.
+// Adds what a call writes. If the buffer's spare bytes are too few, enlarges the buffer and makes
+// the call again.
 static inline void add_one(text *buffer, call_of_one call, view path) {
     size_t room = buffer->room - buffer->length;
     size_t length = call(path.bytes, path.length, buffer->bytes + buffer->length, room);

@@ -8,7 +8,8 @@ static void walks_from_both_ends(void) {
     each_string("/.a", 6, walks_of);
 }
 
-// Checks that a walk whose indices aren't in order in the path has ended, and is not changed.
+// Checks that a walk has ended if its indices aren't in order or aren't in the path, and that no
+// call changes it.
 static void absurd_walks(void) {
     static const size_t values[] = {0, 1, 2, 3, 4, 5, SIZE_MAX / 2, SIZE_MAX / 2 + 1,
                                     SIZE_MAX - 1, SIZE_MAX};
@@ -31,8 +32,8 @@ static void absurd_walks(void) {
     }
 }
 
-// Checks that past the path's end no ancestor and no chunk is left, and that the length or index is
-// not changed.
+// Checks that there is no ancestor and no chunk after the path's end, and that no call changes a
+// length or index that is so great.
 static void absurd_cursors(void) {
     static const size_t values[] = {4, 5, SIZE_MAX / 2, SIZE_MAX - 1, SIZE_MAX};
     view path = view_of("a/b");
@@ -47,8 +48,8 @@ static void absurd_cursors(void) {
     }
 }
 
-// Writes the components to `parts` by a naive reading, which cuts the bytes between these indices
-// at every slash, and returns how many there are.
+// Cuts the bytes between these indices at every slash, writes the components to `parts`, and
+// returns their number. The test compares walks with this naive reading.
 static size_t cut_at_slashes(view path, size_t front, size_t back, unix_path_part *parts) {
     size_t count = 0;
     for (size_t start = front, end; start <= back; start = end + 1) {

@@ -1,4 +1,4 @@
-// The header for C in C++: each call has the type of its shape, is a constant, links by its name,
+// The header for C, used in C++: each call has the expected type, is a constant, links by its name,
 // and returns and writes the same as the library's own call.
 #include <array>
 #include <cstdio>
@@ -18,7 +18,7 @@ using Remainder = bool (*)(const void *, size_t, const void *, size_t, unix_path
 using Ancestor = bool (*)(const void *, size_t, size_t *, unix_path_span *);
 using Chunk = bool (*)(const void *, size_t, size_t *, unix_path_chunk *);
 
-// Each call by its name, with the type of its shape.
+// Each call by its name, with the type of its signature.
 namespace calls {
 #define BEGIN(name) inline constexpr Begin name = unix_path_##name;
 #define LEFT(name) inline constexpr Left name = unix_path_##name;
@@ -40,7 +40,8 @@ namespace {
 
 using namespace std::string_view_literals;
 
-// Returns how many times a function differs from its call, for each two of these paths.
+// Returns how often a function of the header differs from the library's call, over all pairs of
+// these paths.
 int wrong_on_paths() {
     const std::array<std::string_view, 6> paths{"",     "/",       "a.b", ".//x//y.tar/.",
                                                 "../a", "a\0\0c"sv};

@@ -1,5 +1,5 @@
-// The header for C++: each member returns what the call of its name returns, and allocates only
-// where it says so.
+// The header for C++: each member returns what the call of the same name returns, and allocates
+// only where the header says so.
 #include "unix_path.hpp"
 
 #include <sys/wait.h>
@@ -183,8 +183,8 @@ void results() {
     CHECK(taken == "/srv/a");
 }
 
-// Checks that a result that is moved from passes on its own string, and that a result that is not
-// moved from keeps its string.
+// Checks that taking the value of a result moves its string out if the result is moved from, and
+// otherwise copies it.
 void moved_results() {
     const std::string text(100, 'a');
     const auto moves = [&](auto take) {
@@ -213,8 +213,8 @@ answer with_gz(const std::string &path) { return view(path).with_added_extension
 
 std::size_t size_of(const std::string &path) { return path.size(); }
 
-// Checks what `and_then` and `transform` return for a value. For an error no function is called,
-// and the error stays.
+// Checks what `and_then` and `transform` return for a value. For an error, they have to call no
+// function and return the same error.
 void chained_results() {
     const answer joined = view("/srv").join_verbatim("a.b");
     const answer refused = view("/srv").join_verbatim("..");
@@ -235,8 +235,8 @@ void chained_results() {
     CHECK(calls == 0 && *joined.transform(count) == 1 && *joined.and_then(count_on) == 2);
 }
 
-// Checks that the size that a buffer needs is passed on too, and that the type of a value needs no
-// default constructor.
+// Checks that `and_then` and `transform` pass on the required size of a short buffer, and that the
+// type of a value needs no default constructor.
 void chained_buffers() {
     char out[2];
     const auto size = [](std::string_view bytes) { return bytes.size(); };
@@ -265,7 +265,7 @@ void checked_requests() {
     CHECK(view("a\0.png"sv).check_request() == request_check::has_nul);
 }
 
-// Returns a name for a range of the path's own bytes: where it begins and how many bytes it has.
+// Returns the index and the length of a range of the path's own bytes, as text.
 template <typename T>
 std::string place_of(view path, const std::optional<T> &found) {
     if (!found) {
@@ -310,7 +310,8 @@ std::vector<component> parts_of(view path) {
     return parts;
 }
 
-// Compares steps of an iterator in both directions with an index into the components.
+// Compares steps of an iterator in both directions, one for each bit of `turns`, with an index into
+// the components.
 void steps_of(view path, const std::vector<component> &parts, unsigned turns) {
     const unix_path::components all = path.components();
     auto at = all.begin();
@@ -367,7 +368,8 @@ void reversed_parts() {
     CHECK((*std::make_reverse_iterator(all.end())).bytes == "..");
 }
 
-// Checks that what an iterator returns outlives it, and is unchanged as the iterator goes on.
+// Checks that the values that an iterator returns outlive the iterator, and don't change when it
+// moves on.
 template <typename Range>
 void outlives(const Range &range) {
     using value = typename Range::value_type;
@@ -427,8 +429,8 @@ void parents() {
     }
 }
 
-// Checks that the chunks follow one another in the path, and that with their replacements they are
-// the lossy string.
+// Checks that each chunk begins where the one before it ends, and that the chunks, with their
+// invalid bytes replaced, form the lossy string.
 void chunks() {
     for (const std::string &path : strings("a\xFF\xE2\x82", 5)) {
         const view it = path;
@@ -445,7 +447,8 @@ void chunks() {
     }
 }
 
-// Checks that a result as a string is the same as in a buffer of each size.
+// Checks that a call writes `whole` to each buffer that is large enough, and reports the required
+// size for a smaller one. If `whole` is an error, checks that the call returns the same error.
 void in_each_room(const result<std::string> &whole,
                   const std::function<result<std::string_view>(buffer)> &call) {
     for (std::size_t room = 0; room <= 24; room++) {
@@ -589,7 +592,8 @@ void memory() {
     CHECK(requests == before + 5 && resolved == root && *beneath == root + "/b.c");
 }
 
-// Returns true if a child that looks at a missing value is ended by std::terminate.
+// Returns true if std::terminate ends a child process that calls `look`, which uses a missing
+// value.
 bool ends_program(void (*look)()) {
     std::fflush(stdout);
     const pid_t child = fork();

@@ -1,5 +1,5 @@
-// The rows of tests/rows.txt, for the header for C++. Each is spelled again with the answer of the
-// member of its name. A row that is spelled differently is wrong or not a row.
+// The rows of tests/rows.txt, for the header for C++. Each row is written again with the answer of
+// the member that the row names. If the two rows differ, the row in the file is wrong or malformed.
 #include "unix_path.hpp"
 
 #include <algorithm>
@@ -101,7 +101,7 @@ component_kind kind_of(std::string_view part) {
 }
 
 // Returns the components of an iterator. Checks that the reverse iterator returns the same, and
-// that the rest of a new walk reaches from the first to the last.
+// that the rest of a new walk reaches from the first component to the last.
 fields parts_of(view path, view) {
     const unix_path::components all = path.components();
     std::vector<component> parts(all.begin(), all.end());
@@ -140,8 +140,8 @@ fields chunks_of(view path, view) {
     return taken;
 }
 
-// A view, with the calls that the header has as operators or functions, and those with further
-// checks.
+// A view that has a member for each call, also for calls that are operators or functions in the
+// header, and for calls that have further checks.
 struct all_calls : view {
     explicit all_calls(view path) : view(path) {}
     fields compare(view b) const { return order_of(*this, b); }
@@ -186,8 +186,8 @@ std::string_view take_field(std::string_view &left) {
     return field;
 }
 
-// Makes the row's call, and returns the row written with the result that the call has now. Returns
-// a message if there is no call of this name.
+// Makes the row's call, and returns the row written again with the call's result. Returns a message
+// if there is no call with the row's name.
 std::string asked(std::string_view row) {
     const std::string_view name = take_field(row);
     const auto call = std::find_if(std::begin(calls), std::end(calls),

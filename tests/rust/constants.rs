@@ -1,4 +1,5 @@
-//! A program whose constants and tables have to stay its own next to the assembly of the library.
+//! A program that checks that its own constants and tables aren't replaced by those of the
+//! library's assembly.
 //!
 //! With fat LTO rustc puts the assembly into the program's module, where `.LCPI0_0` is the first
 //! constant of the first function. If the assembly had that label too, the program would compute
@@ -47,7 +48,7 @@ fn listed<const N: u32>(arm: u32) -> u32 {
     }
 }
 
-/// Compares what the functions for a number return.
+/// Checks what the functions for the number `N` return.
 fn check<const N: u32>() {
     let (n, x) = black_box((N, 0x01_e240));
     for factor in 1..4 {
@@ -92,7 +93,7 @@ macro_rules! check_each {
     ($($number:literal)*) => { $(check::<$number>();)* };
 }
 
-/// Compares what the library returns, which has constants and tables too.
+/// Checks results of the library, which has constants and tables too.
 fn check_library() {
     let path = black_box(&b"/srv/./images//a-long-name/of-a-directory/photo.jpeg/."[..]);
     let other = black_box(&b"/srv/images/a-long-name/of-a-directory//photo.jpeg"[..]);

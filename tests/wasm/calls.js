@@ -59,12 +59,12 @@ function call(name, paths, ...others) {
     return typeof answer === "bigint" ? BigInt.asUintN(64, answer) : answer;
 }
 
-// Returns the pointer to the record of that number.
+// Returns the pointer to the record with this number.
 function record(number) {
     return BigInt(records + number * RECORD);
 }
 
-// Returns a 64-bit number of a record.
+// Returns the 64-bit field with index `place` of a record.
 function field(number, place) {
     return memory.getBigUint64(records + number * RECORD + 8 * place, true);
 }
@@ -83,8 +83,8 @@ function find(name, paths) {
     return null;
 }
 
-// Returns what a call writes, or its error, a BigInt. It writes nothing if the buffer is too small
-// by a byte, and nothing after its result.
+// Returns the bytes that a call writes, or its error code as a BigInt. Checks that the call writes
+// nothing to a buffer that is one byte too small, and nothing after its result.
 function write(name, paths) {
     const length = call(name, paths, 0n, 0n);
     if (length >= 1n << 63n) {
@@ -100,8 +100,8 @@ function write(name, paths) {
     return bytesAt(out, size);
 }
 
-// Returns the components of a path, which `next` or `next_back` takes, each with its start and
-// kind.
+// Returns the components of a path in the order in which the call `name` (`next` or `next_back`)
+// takes them, each with its start and kind.
 function components(name, path) {
     const taken = [];
     call("components", [path], record(0));

@@ -30,7 +30,8 @@ function strip(path, base) {
     return span ? "+" + path.substr(span.start, span.length) : "prefix not found";
 }
 
-// Returns what follows the base in each path that starts with it, in order, each once.
+// For each path that starts with the base, returns what follows the base. The list is sorted, and
+// of equal paths only one is listed.
 function under(base, ...paths) {
     const order = (a, b) => call("compare", [a, b]);
     const sorted = paths.sort(order).filter((path, at, all) => (
@@ -49,7 +50,7 @@ function json(path) {
     return JSON.stringify(path);
 }
 
-// The edits. Each changes the path of the list and returns its answer.
+// The edits. Each changes the path of the list, and returns the word that answers the edit.
 const EDITS = {
     "push:": (list, path) => replace(list, "join", path) && "ok",
     "name:": (list, name) => replace(list, "with_file_name", name) && "ok",
@@ -90,7 +91,7 @@ function edit(path, ...fields) {
     return [list.path, ...answers].join("\t");
 }
 
-// The functions that answer each command; null if its fields are wrong.
+// The function that answers each command. It returns null if the fields are wrong.
 const COMMANDS = {
     walk, strip, under, json, edit,
     parts: (path) => listed("next", path),
@@ -108,8 +109,8 @@ const COMMANDS = {
     cmp: (a, b) => ["less", "equal", "greater"][1 + call("compare", [a, b])],
 };
 
-// Answers a line, or says what is wrong with a call. `counts` maps commands to their fewest and
-// most fields. The most is null for a command that takes any number.
+// Returns the answer to a line, or a message if a check of a call fails. `counts` maps commands to
+// their least and greatest numbers of fields. The greatest is null if a command takes any number.
 function answerLine(line, counts) {
     const [name, ...fields] = line.split("\t");
     const [fewest, most] = counts.get(name) || [1, 0];

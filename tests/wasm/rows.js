@@ -1,15 +1,15 @@
-// Checks rows of tests/rows.txt. Returns the fields of their results: a string of bytes, or a list
-// of the one word that the row has instead of bytes.
+// Checks rows of tests/rows.txt. Returns the fields of their results. A field is a string of bytes,
+// or a list of one word, such as `!none` or a number, if the row has no bytes there.
 "use strict";
 
-// The words for errors, by their value.
+// The words for error codes.
 const ERRORS = new Map([[7n, "!separator"], [2n, "!escapes"], [4n, "!nul_in_request"],
                         [5n, "!not_a_key"], [6n, "!no_end"], [8n, "!no_relative_path"]]
                        .map(([below, word]) => [(1n << 64n) - below, word]));
 const KINDS = ["/", ".", ".."];
 
 // Returns the components. Checks that both calls take them, and that the rest of a new walk reaches
-// from the first to the last.
+// from the first component to the last.
 function askComponents(name, [path]) {
     const front = components("next", path), back = components("next_back", path);
     check(JSON.stringify(front) === JSON.stringify(back.reverse()), "from the back");
@@ -29,7 +29,8 @@ function askFind(name, paths) {
     return span ? [paths[0].substr(span.start, span.length), [String(span.start)]] : [["!none"]];
 }
 
-// Returns the answer to a question, by its type in Rust. A hash is written in hexadecimal.
+// Returns the field for the number or truth value that a call returns, given its type in Rust. A
+// hash is written in hexadecimal.
 function ask(name, paths, type) {
     const answer = call(name, paths);
     if (type === "u64") {
@@ -44,7 +45,8 @@ function askWrite(name, paths) {
     return [typeof answer === "bigint" ? [ERRORS.get(answer)] : answer];
 }
 
-// Returns a number for two paths. The opposite order has to agree with it.
+// Returns the field for the number or truth value that a call on two paths returns. Checks that the
+// call on the swapped paths agrees.
 function askTwo(name, [a, b], type) {
     const there = call(name, [a, b]), back = call(name, [b, a]);
     if (name === "compare") {
@@ -54,7 +56,7 @@ function askTwo(name, [a, b], type) {
     return ask(name, [a, b], type);
 }
 
-// The functions that make a call, by its shape.
+// The function that makes a call of each shape, which is the kind of its signature.
 const SHAPES = {
     BEGIN: askComponents, NEXT_SPAN: (name, [path]) => ancestors(path),
     NEXT_CHUNK: (name, [path]) => chunks(path), FIND: askFind, FIND_OF_TWO: askFind, ASK: ask,

@@ -19,7 +19,7 @@ def read_parts(lines, program):
     """Returns the instructions of the program's own code in each part of callgrind's file.
 
     A part begins with `part:`. A line that begins with a digit has a position and a number of
-    instructions. After a line that begins with `calls=`, they are those of a whole call.
+    instructions. After a line that begins with `calls=`, the number is that of a whole call.
     """
     parts, is_own, is_call = [], False, False
     for line in lines:

@@ -32,7 +32,7 @@ static size_t out_length;
         return true;                                                                              \
     }
 
-/* Makes the call with this name on both paths, in the way of its shape. Returns false if there is
+/* Makes the call with this name on both paths, as its signature requires. Returns false if there is
  * no such call. */
 static bool make_call(const uint8_t *bytes, size_t length, path a, path b)
 {

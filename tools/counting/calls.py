@@ -1,7 +1,6 @@
 """Counts the instructions of the calls from C, each on the families of paths that suit it.
 
-calls.c makes the calls, each as its shape requires. Their answers aren't checked, because tests
-check them.
+calls.c makes the calls. It doesn't check their results, because tests check them.
 """
 import os
 import re
@@ -31,8 +30,8 @@ def read_calls(checkout):
 
 
 def rows_of(checkout):
-    """Returns the rows of the calls from C that a checkout has. A call that is gone by now has
-    none."""
+    """Returns the rows of the calls from C that a checkout has. A call that no longer exists here
+    has no row."""
     shapes = {it.name: it.shape for it in call_shapes.read_calls()}
     rows = families.rows(read_calls(checkout), shapes)
     lacking = read_calls(checkout) & read_calls(ROOT) - {row.call for row in rows}

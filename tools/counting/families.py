@@ -9,7 +9,7 @@ import collections
 # A row: its name, the call, and the pairs of paths whose instructions are added up.
 Row = collections.namedtuple("Row", "name call pairs")
 
-# The sizes around each edge of a block, and one far above the last edge.
+# The sizes around each size of a block that the library reads at once, and one size far above.
 EDGES = {16: (15, 16, 17), 32: (31, 32, 33), 64: (63, 64, 65), 128: (127, 128, 129), 4000: (4000,)}
 SHORT = {16: EDGES[16]}
 DEPTHS = {depth: (depth,) for depth in (0, 1, 4)}
@@ -223,7 +223,7 @@ def families():
 
 
 def families_of(shapes):
-    """Yields each family that OTHERS has for a shape, with the calls of that shape that no list
+    """Yields each family that OTHERS lists for a shape, with the calls of this shape that no list
     names."""
     found = list(families())
     named = {call for *_, calls in found for call in calls.split()}

@@ -7,7 +7,7 @@ from repository import ROOT
 from toolchain import version
 
 FILE = f"{ROOT}/bench/counts.txt"
-# The part of the file's figure by which a count may differ from it.
+# A count may differ from the file's figure by this fraction of the figure.
 MOST = 0.03
 HEAD = """\
 # Instructions of the built programs, without those of the C library. tools/count writes this file,
@@ -72,4 +72,4 @@ def list_risen(rows):
     risen = {name: it for name, it in rows.items() if it.start and it.now > it.start}
     for name, it in sorted(risen.items(), key=lambda item: -ratio(item[1])):
         print(f"{name:38} {it.start:>9} {it.now:>9} {ratio(it):>9.2f}")
-    print(f"{len(risen)} of {len(rows)} rows are above the start's")
+    print(f"{len(risen)} of {len(rows)} rows are above the baseline")

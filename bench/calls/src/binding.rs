@@ -27,7 +27,7 @@ use std::process::ExitCode;
 use table::Table;
 use timing::Measure;
 
-/// Returns the side's results for these paths, as one number.
+/// Returns a digest of the side's results for these paths and second arguments.
 fn sum(side: Side, paths: &[Vec<u8>], others: &[Vec<u8>]) -> u64 {
     let side = black_box(side);
     let others = others.iter().map(Vec::as_slice).chain(repeat(&[][..]));
@@ -103,7 +103,7 @@ fn main() -> ExitCode {
         Err(status) => return status,
     };
     let is_same = print(&options);
-    println!("Each number is our time over that of std::path.");
+    println!("Each number is our time divided by std::path's.");
     if is_same {
         ExitCode::SUCCESS
     } else {

@@ -9,10 +9,11 @@ use std::os::unix::ffi::OsStrExt;
 use std::path::{Path, PathBuf};
 use unix_path_typed::{self as typed, UnixStr};
 
-/// Looks a path up: returns the number of an equal path, or none.
+/// Looks a path up in a map. Returns the value of the equal path in the map, or `None`.
 type Find<'a> = Box<dyn Fn(&[u8]) -> Option<u64> + 'a>;
 
-/// A map on both sides, ours first, from each of these paths to its index.
+/// A kind of map: its name, and a function that makes it on both sides, ours first. The maps map
+/// each of the given paths to its index.
 struct Row {
     name: &'static str,
     sides: fn(&[Vec<u8>]) -> [Find<'_>; 2],
@@ -65,7 +66,7 @@ const ROWS: [Row; 2] = [
     },
 ];
 
-/// Returns the numbers that a map has at these paths, as one number.
+/// Returns a digest of the values that a map has at these paths.
 fn sum(find: &Find, paths: &[Vec<u8>]) -> u64 {
     paths.iter().fold(0, |sum: u64, path| {
         sum.rotate_left(7) ^ find(path).unwrap_or(u64::MAX)

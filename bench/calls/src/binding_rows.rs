@@ -12,7 +12,7 @@ use std::path::{Path, PathBuf};
 use unix_path_rattle::{self as paths, edits, owned, Component};
 use unix_path_typed::{self as typed, UnixStr};
 
-/// What a side does. The number represents its result.
+/// A call as one side makes it. The number that it returns is a digest of its result.
 pub type Side = fn(&[u8], &[u8]) -> u64;
 
 /// A call on both sides.
@@ -56,24 +56,24 @@ fn part_bytes<'a>(part: std::path::Component<'a>) -> &'a [u8] {
     part.as_os_str().as_bytes()
 }
 
-/// Returns the number of several results.
+/// Returns a digest of several results.
 fn all<'a>(items: impl Iterator<Item = &'a [u8]>) -> u64 {
     items.fold(0, |sum: u64, item| {
         sum.wrapping_mul(31).wrapping_add(digest(item))
     })
 }
 
-/// Returns the number of a result, if there is one.
+/// Returns the digest of a result, or `u64::MAX` if there is none.
 fn some(found: Option<&[u8]>) -> u64 {
     found.map_or(u64::MAX, digest)
 }
 
-/// Returns the number of a new path, or the number for none.
+/// Returns the digest of a new path, or `u64::MAX` for an error.
 fn digest_of_path(path: Result<impl AsRef<[u8]>, paths::Error>) -> u64 {
     path.map_or(u64::MAX, |path| digest(path.as_ref()))
 }
 
-/// Pushes the components of a path in order.
+/// Returns a copy of the path, made by pushing its components in order.
 fn pushed(path: &[u8]) -> Result<Vec<u8>, paths::Error> {
     let mut joined = vec![];
     for part in paths::components(path) {
@@ -94,7 +94,7 @@ fn two(call: OfTwo, path: &[u8], other: &[u8]) -> u64 {
     unsafe { call(path.as_ptr(), path.len(), other.as_ptr(), other.len()) }
 }
 
-/// Returns the number of an order that is returned as 0, 1 or 2.
+/// Returns the order of two paths as -1, 0 or 1, modulo 2^64. The C function returns 0, 1 or 2.
 fn order(call: OfTwo, path: &[u8], other: &[u8]) -> u64 {
     two(call, path, other).wrapping_sub(1)
 }
@@ -106,12 +106,12 @@ thread_local! {
     static CAPACITY: RefCell<Vec<u8>> = Vec::with_capacity(1 << 18).into();
 }
 
-/// Returns the number of what a call writes to the buffer.
+/// Returns the digest of what a call writes to the buffer.
 fn in_buffer(make: impl Fn(&mut [u8]) -> Result<&[u8], paths::Error>) -> u64 {
     BUFFER.with_borrow_mut(|out| digest_of_path(make(out)))
 }
 
-/// Returns the number of what a call writes to the capacity of a buffer.
+/// Returns the digest that a call computes of what it writes to the capacity of a vector.
 fn in_capacity(make: impl Fn(&mut Vec<u8>) -> u64) -> u64 {
     CAPACITY.with_borrow_mut(|out| make(out))
 }

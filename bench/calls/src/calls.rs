@@ -13,7 +13,7 @@ pub enum Call {
 }
 
 impl Call {
-    /// Returns the call's results for all of these paths, as one number.
+    /// Returns a digest of the call's results for all of these paths.
     pub fn sum(self, paths: &[Vec<u8>], others: &[Vec<u8>]) -> u64 {
         let mut sum: u64 = 0;
         match black_box(self) {
@@ -32,7 +32,8 @@ impl Call {
         sum
     }
 
-    /// Sorts these indices of paths by this call, and returns the new order as one number.
+    /// Sorts the indices in `order` by comparing their paths with this call. Returns a digest of
+    /// the new order.
     pub fn sort(self, order: &[usize], paths: &[Vec<u8>]) -> u64 {
         let Call::Two(call) = black_box(self) else {
             panic!("a sort compares two paths");

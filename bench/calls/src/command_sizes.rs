@@ -24,8 +24,8 @@ pub fn print(options: &Options) {
     let fresh = memory(&options.timer());
     let memory =
         std::array::from_fn(|at| 4.0 * fresh[at] + (reading[at] - reading[at.max(1) - 1]).max(0.0));
-    println!("pathtool's nanoseconds a byte, its start left out; reading and * as above");
-    println!("ancestors of many parts are left out, since they are answered by their square\n");
+    println!("pathtool's nanoseconds per byte, without its start; * allows for slower reads too");
+    println!("ancestors of many components are left out: their answers have quadratic length\n");
     let mut grown = 0;
     let names = commands::all().map(|command| command.name);
     for command in names.filter(|name| options.has_row(name)) {
@@ -38,11 +38,12 @@ pub fn print(options: &Options) {
             println!("{command:22}{shape:6}{}", cells(&times));
         }
     }
-    println!("\n{grown} lines have a time a byte that grows\n");
+    println!("\nthe time per byte grows in {grown} lines\n");
 }
 
-/// Returns the program's shortest time of several runs in nanoseconds per byte: on a path of this
-/// shape and size, or on so many such paths that together they have 10^6 bytes.
+/// Returns the program's shortest time of several runs, in nanoseconds per byte, without the time
+/// of a run on no input. The input is one line with a path of this shape and size, or as many such
+/// lines as have 10^6 bytes together.
 fn nanoseconds(options: &Options, timer: &Timer, command: &str, piece: &[u8], at: usize) -> f64 {
     let path: Vec<u8> = piece.iter().copied().cycle().take(SIZES[at]).collect();
     let mut lines = vec![];

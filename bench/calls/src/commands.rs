@@ -5,7 +5,8 @@ const TABLE: &str = include_str!("../../../tools/commands.txt");
 /// A command of the program.
 pub struct Command {
     pub name: &'static str,
-    /// What follows its first field, such as `BASE` or `EDIT..`; empty for no field.
+    /// The table's words for the fields after the first one, such as `BASE` or `EDIT..`; empty if
+    /// there are none.
     pub behind: &'static str,
     pub group: &'static str,
     /// True if std::path returns the same answers.
@@ -30,7 +31,8 @@ pub fn all() -> impl Iterator<Item = Command> {
     rows.map(|row| read(row).unwrap_or_else(|| panic!("no row of commands.txt: {row}")))
 }
 
-/// Returns what follows the first field of the command, or nothing if the command is unknown.
+/// Returns the table's words for the fields after the first one of the command, or nothing if the
+/// command is unknown.
 pub fn behind(name: &str) -> &'static str {
     all()
         .find(|command| command.name == name)

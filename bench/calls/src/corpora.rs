@@ -5,7 +5,7 @@ use std::ops::Range;
 /// The number of bytes in a slice that is timed at once.
 const SLICE: usize = 1 << 18;
 
-/// The second argument of a call for each path of a corpus.
+/// The kind of the second argument that a call gets for each path of a corpus.
 #[derive(Clone, Copy, PartialEq)]
 pub enum Other {
     Nothing,
@@ -48,7 +48,8 @@ impl Corpus {
     }
 }
 
-/// Returns the indices of the paths in slices of about the same number of bytes.
+/// Cuts the list of paths into slices of about the same number of bytes. Returns the indices of
+/// each slice.
 pub fn slices(paths: &[Vec<u8>]) -> Vec<Range<usize>> {
     let mut slices = vec![];
     let (mut start, mut bytes) = (0, 0);
@@ -77,8 +78,8 @@ pub fn corpora() -> Vec<Corpus> {
     .collect()
 }
 
-/// Returns what is before and after the middle one of the path's slashes, or twice the path if it
-/// has none.
+/// Returns what is before and after the middle one of the path's slashes. If the path has no slash,
+/// both are the whole path.
 fn at_middle(path: &[u8]) -> (&[u8], &[u8]) {
     let slashes: Vec<usize> = (0..path.len()).filter(|at| path[*at] == b'/').collect();
     match slashes.get(slashes.len() / 2) {
@@ -155,12 +156,12 @@ const PIECES: [&str; 16] = [
     "a.", "/././/",
 ];
 
-/// What is before and after a run.
+/// The bytes before and after a run.
 #[rustfmt::skip]
 const ENDS: [(&str, &str); 5] = [("", ""), ("/", "/."), ("a", "/b"), ("../", "//"), ("./", "n.x")];
 
-/// Returns runs of each of the pieces, of 1 to 100,000 bytes; the longest runs have nothing at
-/// their ends.
+/// Returns paths with runs of 1 to 100,000 bytes of each of the pieces, between each of the `ENDS`.
+/// The longest runs have nothing before or after them.
 fn adversarial() -> Vec<Vec<u8>> {
     let mut paths = vec![];
     for piece in PIECES {

@@ -1,6 +1,6 @@
-//! A number for the bytes of a result, by which two sides are compared.
+//! The digest of a result's bytes. The results of two sides are compared by their digests.
 
-/// Returns a number for some bytes, computed from their length, first byte and last byte.
+/// Returns the digest of some bytes, computed from their length, first byte and last byte.
 pub fn digest(bytes: &[u8]) -> u64 {
     let (Some(first), Some(last)) = (bytes.first(), bytes.last()) else {
         return 0;

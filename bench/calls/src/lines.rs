@@ -56,7 +56,8 @@ impl Paths {
     }
 }
 
-/// Appends the line of the command for a path, given the path after it.
+/// Appends a line with the command and a path. `next` is the path after it in the corpus, for
+/// commands on two paths.
 pub fn push_line(command: &str, path: &[u8], next: &[u8], lines: &mut Vec<u8>) {
     lines.extend_from_slice(command.as_bytes());
     lines.push(b'\t');
@@ -81,7 +82,7 @@ fn push_fields(command: &str, path: &[u8], next: &[u8], line: &mut Vec<u8>) {
     }
 }
 
-/// Appends paths, some of which are below the first, each with a tab before it.
+/// Appends fields with paths, some of which are below `path`, each with a tab before it.
 fn push_paths(path: &[u8], next: &[u8], line: &mut Vec<u8>) {
     push_field(path, line);
     line.extend_from_slice(b"//docs/notes.txt");

@@ -16,9 +16,9 @@ fn are_known(words: &[String], names: &[&str]) -> bool {
 pub struct Options {
     /// The parts that are timed.
     pub parts: Vec<String>,
-    /// Prefixes of the names of the rows that are shown; none for all.
+    /// Prefixes of the names of the rows that are shown. Without any, all rows are shown.
     pub only: Vec<String>,
-    /// The corpora that are used; none for all.
+    /// The corpora that are used. Without any, all are used.
     pub corpora: Vec<String>,
     pub reps: usize,
     /// The directory to which files may be written.
@@ -33,8 +33,8 @@ fn list(value: &str) -> Vec<String> {
 }
 
 impl Options {
-    /// Returns the options of the command line. If a word sets none, prints it and returns the exit
-    /// status.
+    /// Returns the options of the command line. If a word sets no option, prints the word and
+    /// returns the exit status as the error.
     pub fn from_arguments() -> Result<Options, ExitCode> {
         Options::read(std::env::args().skip(1)).map_err(|word| {
             eprintln!("no such option: {word}");
@@ -42,7 +42,7 @@ impl Options {
         })
     }
 
-    /// Returns the options that these words set, or the first word that sets none.
+    /// Returns the options that these words set. The error is the first word that sets no option.
     fn read(words: impl Iterator<Item = String>) -> Result<Options, String> {
         let mut options = Options {
             parts: list("calls,texts,tables,programs"),

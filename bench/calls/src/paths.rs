@@ -45,7 +45,7 @@ fn measure(row: &Row, corpus: &Corpus, options: &Options) -> Measure {
     )
 }
 
-/// Returns the indices of each slice in another order.
+/// Returns the shuffled indices of each slice.
 fn orders(slices: &[Range<usize>]) -> Vec<Vec<usize>> {
     let mut random = Random(5);
     let mut orders: Vec<Vec<usize>> = slices.iter().map(|slice| slice.clone().collect()).collect();

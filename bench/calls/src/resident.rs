@@ -6,12 +6,11 @@ extern "C" {
     fn malloc_trim(pad: usize) -> i32;
 }
 
-/// Returns the most kibibytes that are resident while the work is done, in addition to those before
-/// it.
+/// Returns how many kibibytes the process's resident memory grows during the work, at its peak.
 pub fn most(work: impl Fn() -> u64) -> u64 {
     unsafe { malloc_trim(0) };
     // Resets the peak to what is resident now.
-    write("/proc/self/clear_refs", "5").expect("Linux counts anew");
+    write("/proc/self/clear_refs", "5").expect("Linux resets the peak");
     let before = kibibytes("VmRSS:");
     black_box(work());
     kibibytes("VmHWM:") - before
@@ -19,7 +18,7 @@ pub fn most(work: impl Fn() -> u64) -> u64 {
 
 /// Returns the number after the word in the status of this process.
 fn kibibytes(word: &str) -> u64 {
-    let status = read_to_string("/proc/self/status").expect("Linux tells it");
+    let status = read_to_string("/proc/self/status").expect("Linux shows the status");
     let line = status.lines().find_map(|line| line.strip_prefix(word));
     let number = line.and_then(|line| line.split_whitespace().next());
     number

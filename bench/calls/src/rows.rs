@@ -14,7 +14,7 @@ pub struct Row {
 }
 
 impl Row {
-    /// Returns true if the row times a sort by the call, and not each call.
+    /// Returns true if the row times a sort that uses the call, instead of single calls.
     pub fn is_sort(&self) -> bool {
         self.name == "sort"
     }

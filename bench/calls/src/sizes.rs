@@ -8,7 +8,7 @@ use std::hint::black_box;
 /// The lengths of the paths.
 pub const SIZES: [usize; 4] = [10_000, 100_000, 1_000_000, 10_000_000];
 
-/// What is repeated in a path, with its name.
+/// The bytes that are repeated in a path, with the name of this shape.
 pub const SHAPES: [(&str, &[u8]); 8] = [
     ("/", b"/"),
     (".", b"."),
@@ -24,9 +24,9 @@ pub const SHAPES: [(&str, &[u8]); 8] = [
 pub fn print(options: &Options) {
     let timer = options.timer();
     let memory = memory(&timer);
-    println!("our nanoseconds a byte in paths of 10^4, 10^5, 10^6 and 10^7 bytes");
-    println!("*: more than 1.3 times those in a path a tenth as long, and what memory costs");
-    println!("-: left out, since they grew threefold before\n");
+    println!("our nanoseconds per byte in paths of 10^4, 10^5, 10^6 and 10^7 bytes");
+    println!("*: more than 1.3 times the number to its left plus the cost of larger memory");
+    println!("-: not timed, since a number to its left grew threefold\n");
     let mut grown = 0;
     for row in rows().iter().filter(|row| options.has_row(row.name)) {
         if row.is_sort() || row.other == Other::Next {
@@ -38,7 +38,7 @@ pub fn print(options: &Options) {
             println!("{:22}{shape:6}{}", row.name, cells(&times));
         }
     }
-    println!("\n{grown} lines have a time a byte that grows\n");
+    println!("\nthe time per byte grows in {grown} lines\n");
 }
 
 /// The nanoseconds per byte at a size, and whether they grew.
@@ -57,8 +57,8 @@ pub fn cells(times: &[Time]) -> String {
     (0..SIZES.len()).map(cell).collect()
 }
 
-/// Returns the time at each size, up to one that grew threefold, after which the next could take
-/// too long.
+/// Returns the time at each size. If a time is more than three times the one before it, stops
+/// there, since the next size could take too long.
 pub fn times(time: &dyn Fn(usize) -> f64, memory: &[f64; 4]) -> Vec<Time> {
     let mut times: Vec<Time> = vec![];
     for at in 0..SIZES.len() {
@@ -82,7 +82,7 @@ pub fn times(time: &dyn Fn(usize) -> f64, memory: &[f64; 4]) -> Vec<Time> {
     times
 }
 
-/// Returns our time with a path of this shape and size.
+/// Returns our time in nanoseconds per byte, for a path of this shape and size.
 fn time(row: &Row, piece: &[u8], at: usize, timer: &Timer) -> f64 {
     let path = piece.iter().copied().cycle().take(SIZES[at]).collect();
     let (name, paths) = ("hostile", vec![path]);
@@ -91,9 +91,9 @@ fn time(row: &Row, piece: &[u8], at: usize, timer: &Timer) -> f64 {
     least(SIZES[at], timer, &|| row.ours.sum(&corpus.paths, &others))
 }
 
-/// Returns by how much a byte may cost more at each size than at the size before: by the cost of
-/// copying it, and of appending three bytes for it to a string that grows, which displayed text may
-/// need.
+/// Returns, for each size, how many nanoseconds more a byte may cost than at the size before,
+/// because larger memory is slower. This is the cost of copying the byte, and the added cost of
+/// appending three bytes to a string that grows, as displaying a path may do for each byte.
 pub fn memory(timer: &Timer) -> [f64; 4] {
     let copies = SIZES.map(|size| {
         let bytes = vec![b'a'; size];

@@ -1,5 +1,5 @@
-//! Rust's side: the functions of `lib.rt.in` over `std::path`, also as C functions, so that the
-//! call costs both sides the same.
+//! Rust's side: the functions of `lib.rt.in` over `std::path`. They are C functions too, so that a
+//! call costs the same on both sides, and return the same digests.
 use crate::calls::Start;
 use crate::digest::digest;
 use std::cmp::Ordering;
@@ -28,22 +28,23 @@ pub unsafe fn path_of<'a>(start: Start, len: usize) -> &'a Path {
     Path::new(text_of(start, len))
 }
 
-/// Returns the number for the results so far, extended by one more result.
+/// Returns the digest of several results, given the digest of all but the last, and the last one's
+/// bytes.
 pub fn add(sum: u64, bytes: &[u8]) -> u64 {
     sum.wrapping_mul(31).wrapping_add(digest(bytes))
 }
 
-/// Returns the number of a string, or the number for none.
+/// Returns the digest of a string, or `NONE`.
 fn some(text: Option<&OsStr>) -> u64 {
     text.map_or(NONE, |text| digest(text.as_bytes()))
 }
 
-/// Returns the number of a path.
+/// Returns the digest of a path.
 pub fn digest_of_path(path: &Path) -> u64 {
     digest(path.as_os_str().as_bytes())
 }
 
-/// Takes the components, first to last.
+/// Takes the components, first to last. Returns their digest.
 pub unsafe extern "C" fn parts(path: Start, len: usize) -> u64 {
     let mut sum = 0;
     for part in path_of(path, len).components() {
@@ -52,7 +53,7 @@ pub unsafe extern "C" fn parts(path: Start, len: usize) -> u64 {
     sum
 }
 
-/// Takes the components, last to first.
+/// Takes the components, last to first. Returns their digest.
 pub unsafe extern "C" fn parts_behind(path: Start, len: usize) -> u64 {
     let mut sum = 0;
     for part in path_of(path, len).components().rev() {
@@ -61,7 +62,7 @@ pub unsafe extern "C" fn parts_behind(path: Start, len: usize) -> u64 {
     sum
 }
 
-/// Takes the components, alternating between both ends.
+/// Takes the components, alternating between both ends. Returns their digest.
 pub unsafe extern "C" fn parts_both(path: Start, len: usize) -> u64 {
     let mut sum = 0;
     let mut left = path_of(path, len).components();
@@ -74,19 +75,19 @@ pub unsafe extern "C" fn parts_both(path: Start, len: usize) -> u64 {
     sum
 }
 
-/// Returns the number of the rest after the first component.
+/// Returns the digest of the rest after the first component.
 pub unsafe extern "C" fn as_path(path: Start, len: usize) -> u64 {
     let mut left = path_of(path, len).components();
     left.next();
     digest_of_path(left.as_path())
 }
 
-/// Returns the number of the parent.
+/// Returns the digest of the parent, or `NONE`.
 pub unsafe extern "C" fn parent(path: Start, len: usize) -> u64 {
     some(path_of(path, len).parent().map(Path::as_os_str))
 }
 
-/// Takes the path and its ancestors.
+/// Returns the digest of the path and its ancestors.
 pub unsafe extern "C" fn ancestors(path: Start, len: usize) -> u64 {
     let mut sum = 0;
     for path in path_of(path, len).ancestors() {
@@ -95,22 +96,22 @@ pub unsafe extern "C" fn ancestors(path: Start, len: usize) -> u64 {
     sum
 }
 
-/// Returns the number of the file name.
+/// Returns the digest of the file name, or `NONE`.
 pub unsafe extern "C" fn file_name(path: Start, len: usize) -> u64 {
     some(path_of(path, len).file_name())
 }
 
-/// Returns the number of the file name's stem.
+/// Returns the digest of the file name's stem, or `NONE`.
 pub unsafe extern "C" fn file_stem(path: Start, len: usize) -> u64 {
     some(path_of(path, len).file_stem())
 }
 
-/// Returns the number of the file name's extension.
+/// Returns the digest of the file name's extension, or `NONE`.
 pub unsafe extern "C" fn extension(path: Start, len: usize) -> u64 {
     some(path_of(path, len).extension())
 }
 
-/// Returns the number of the file name up to its first dot.
+/// Returns the digest of the file name up to its first dot, or `NONE`.
 pub unsafe extern "C" fn file_prefix(path: Start, len: usize) -> u64 {
     some(path_of(path, len).file_prefix())
 }
@@ -129,7 +130,7 @@ pub unsafe extern "C" fn ends_with(path: Start, len: usize, child: Start, child_
         .into()
 }
 
-/// Returns the number of what follows the base.
+/// Returns the digest of what follows the base, or `NONE`.
 pub unsafe extern "C" fn strip_prefix(
     path: Start,
     len: usize,
@@ -183,12 +184,12 @@ pub unsafe extern "C" fn hash_sip(path: Start, len: usize) -> u64 {
     hasher.finish()
 }
 
-/// Joins the paths.
+/// Joins the paths. Returns the digest of the join.
 pub unsafe extern "C" fn join(path: Start, len: usize, other: Start, other_len: usize) -> u64 {
     digest_of_path(&path_of(path, len).join(path_of(other, other_len)))
 }
 
-/// Makes a copy with that file name.
+/// Returns the digest of a copy with this file name.
 pub unsafe extern "C" fn with_file_name(
     path: Start,
     len: usize,
@@ -198,7 +199,7 @@ pub unsafe extern "C" fn with_file_name(
     digest_of_path(&path_of(path, len).with_file_name(text_of(name, name_len)))
 }
 
-/// Makes a copy with that extension.
+/// Returns the digest of a copy with this extension.
 pub unsafe extern "C" fn with_extension(
     path: Start,
     len: usize,
@@ -208,7 +209,7 @@ pub unsafe extern "C" fn with_extension(
     digest_of_path(&path_of(path, len).with_extension(text_of(end, end_len)))
 }
 
-/// Makes a copy with that extension added.
+/// Returns the digest of a copy with this extension added.
 pub unsafe extern "C" fn with_added_extension(
     path: Start,
     len: usize,
@@ -218,7 +219,8 @@ pub unsafe extern "C" fn with_added_extension(
     digest_of_path(&path_of(path, len).with_added_extension(text_of(end, end_len)))
 }
 
-/// Pushes and pops four times.
+/// Pushes the other path onto a copy of the path and pops, four times. Returns a digest of the
+/// results.
 pub unsafe extern "C" fn push_pop(path: Start, len: usize, other: Start, other_len: usize) -> u64 {
     let mut edited = path_of(path, len).to_path_buf();
     let mut sum = 0;
@@ -231,26 +233,26 @@ pub unsafe extern "C" fn push_pop(path: Start, len: usize, other: Start, other_l
     sum
 }
 
-/// Sets the extension of a copy.
+/// Sets the extension of a copy of the path. Returns the copy's digest.
 pub unsafe extern "C" fn set_extension(path: Start, len: usize, end: Start, end_len: usize) -> u64 {
     let mut edited = path_of(path, len).to_path_buf();
     edited.set_extension(text_of(end, end_len));
     digest_of_path(&edited)
 }
 
-/// Adds the extension to a copy.
+/// Adds the extension to a copy of the path. Returns the copy's digest.
 pub unsafe extern "C" fn add_extension(path: Start, len: usize, end: Start, end_len: usize) -> u64 {
     let mut edited = path_of(path, len).to_path_buf();
     edited.add_extension(text_of(end, end_len));
     digest_of_path(&edited)
 }
 
-/// Makes the canonical form.
+/// Returns the digest of the canonical form.
 pub unsafe extern "C" fn canonical(path: Start, len: usize) -> u64 {
     digest_of_path(&path_of(path, len).components().collect::<PathBuf>())
 }
 
-/// Returns the length of the text, if it is valid UTF-8.
+/// Returns the length of the path as text, or `NONE` if it is not valid UTF-8.
 pub unsafe extern "C" fn to_str(path: Start, len: usize) -> u64 {
     match path_of(path, len).to_str() {
         Some(text) => text.len() as u64,
@@ -263,7 +265,7 @@ pub unsafe extern "C" fn to_string_lossy(path: Start, len: usize) -> u64 {
     path_of(path, len).to_string_lossy().len() as u64
 }
 
-/// Returns the length of what is printed.
+/// Returns the length of the displayed path.
 pub unsafe extern "C" fn display(path: Start, len: usize) -> u64 {
     let mut text = String::new();
     match write!(text, "{}", path_of(path, len).display()) {
@@ -272,7 +274,7 @@ pub unsafe extern "C" fn display(path: Start, len: usize) -> u64 {
     }
 }
 
-/// Returns a number for the lengths of the chunks.
+/// Returns a digest of the lengths of the chunks.
 pub unsafe extern "C" fn chunks(bytes: Start, len: usize) -> u64 {
     let mut sum: u64 = 0;
     for chunk in bytes_of(bytes, len).utf8_chunks() {

@@ -1,9 +1,10 @@
-//! Rust's side of paths from outside: what a user of `std::path` writes, since it resolves nothing.
+//! Rust's side of paths from outside. `std::path` resolves nothing, so this is code that its users
+//! write.
 use crate::calls::Start;
 use crate::std_calls::{digest_of_path, path_of};
 use std::path::{Component, Path, PathBuf};
 
-/// Returns the number of the path with each `..` dropped together with the name before it.
+/// Returns the digest of the path with each `..` dropped together with the name before it.
 pub unsafe extern "C" fn resolved(path: Start, len: usize) -> u64 {
     digest_of_path(&resolved_path(path_of(path, len)))
 }

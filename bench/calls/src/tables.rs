@@ -1,7 +1,9 @@
-//! What no job of `crates/path_jobs` measures of tables, trees and keys: the memory of a
-//! `PathTable` and of a `PathTree`, compared with a `BTreeMap` of paths; lookups in a tree by
-//! stored keys, and by views compared with a hash map; and a sort of keys, compared with Rust's
-//! sort of paths.
+//! Measurements of tables, trees and keys that no job of `crates/path_jobs` makes:
+//!
+//! - the memory of a `PathTable` and of a `PathTree`, compared with a `BTreeMap` of paths;
+//! - lookups in a tree by stored keys, compared with a `BTreeMap`, and by views of paths, compared
+//!   with a `HashMap`;
+//! - a sort of keys, compared with Rust's sort of paths.
 use crate::calls::Start;
 use crate::corpora::realistic;
 use crate::options::Options;
@@ -21,8 +23,8 @@ const SORTED: usize = 1_000_000;
 type OfLines = unsafe extern "C" fn(Start, usize) -> u64;
 type OfAsked = unsafe extern "C" fn(Start, usize, Start, usize, u64) -> u64;
 
-/// The order in which paths are inserted, as lines; lines that are looked up; and lines that are
-/// sorted.
+/// Paths as lines: the name of the order in which they are inserted, the paths in that order, the
+/// paths that are looked up, and the paths that are sorted.
 struct Lines {
     order: &'static str,
     paths: Vec<u8>,
@@ -93,8 +95,8 @@ fn lines_of(paths: &[Vec<u8>]) -> Vec<u8> {
     paths.join(&b'\n')
 }
 
-/// Returns the median of the ratios of several rounds, in which the sides alternate; `seconds`
-/// times one side.
+/// Returns the median of the ratios of several rounds, in which the sides alternate. `seconds`
+/// returns the time of one side.
 fn time_ratio(timer: &Timer, seconds: impl Fn(OfAsked) -> f64, [ours, std]: [OfAsked; 2]) -> f64 {
     let start = Instant::now();
     let mut ratios = vec![];
@@ -118,7 +120,8 @@ impl Lines {
         }
     }
 
-    /// Returns the ratio of the most additional memory of the process while the table is filled.
+    /// Returns the ratio of our memory to std's: of how much the process's memory grows at its peak
+    /// while a table is filled.
     fn memory(&self, calls: [OfLines; 2]) -> Measure {
         let fill = |call: OfLines| unsafe { call(self.paths.as_ptr(), self.paths.len()) };
         let is_same = fill(calls[0]) == fill(calls[1]);
@@ -127,8 +130,8 @@ impl Lines {
         Measure { ratio, is_same }
     }
 
-    /// Returns the ratio of the times of this many rounds, without the time to make the table or
-    /// list.
+    /// Returns the ratio of our time to std's for this many rounds, without the time to make the
+    /// table or list.
     fn time(
         &self,
         calls: [OfAsked; 2],

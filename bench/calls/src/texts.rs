@@ -5,7 +5,7 @@ use crate::rows::{texts, Row};
 use crate::table::Table;
 use crate::timing::{Score, Timer};
 
-/// The most bytes that a row's strings have together.
+/// The greatest number of bytes that a row's strings have together.
 const LEN: usize = 4096;
 
 /// A row's name, whether its strings are invalid UTF-8, and the strings.
@@ -84,8 +84,8 @@ fn well_formed() -> Vec<Sources> {
     all
 }
 
-/// Returns whole characters of an endlessly repeated text, from one of them on, up to this many
-/// bytes.
+/// Repeats the text endlessly, and returns its characters from index `from` on, as many as fit into
+/// `len` bytes.
 fn beginning_of(text: &str, from: usize, len: usize) -> Vec<u8> {
     let mut beginning = String::new();
     for next in text.chars().cycle().skip(from) {
@@ -97,7 +97,7 @@ fn beginning_of(text: &str, from: usize, len: usize) -> Vec<u8> {
     beginning.into_bytes()
 }
 
-/// Returns invalid bytes.
+/// Returns strings with invalid bytes, of several kinds.
 #[rustfmt::skip]
 fn broken() -> Vec<Sources> {
     let every = |step: usize| -> Vec<u8> {

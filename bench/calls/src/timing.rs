@@ -3,7 +3,8 @@ use crate::targets::{may_differ, target};
 use std::hint::black_box;
 use std::time::{Duration, Instant};
 
-/// What a side does with a slice of the work. The number represents its results.
+/// A function that does a side's work on the slice with this index. Returns a digest of the
+/// results.
 pub type Work<'a> = &'a dyn Fn(usize) -> u64;
 
 /// The ratio of our time to std's, and whether both sides returned the same.
@@ -15,7 +16,7 @@ pub struct Measure {
 /// The shortest time that is measured, in seconds.
 const SHORTEST: f64 = 1e-4;
 
-/// The most rounds; a round takes longer than `SHORTEST` divided by this.
+/// The greatest number of rounds. A round takes longer than `SHORTEST` divided by this number.
 pub const MOST_ROUNDS: usize = 1 << 16;
 
 /// The longest search for enough rounds, whatever the clock says.
@@ -67,8 +68,8 @@ impl Timer {
     }
 }
 
-/// Returns the number of rounds that take at least `SHORTEST` seconds: doubles it until the clock
-/// measures that. It ends even if the clock stops or goes back.
+/// Returns a number of rounds that take at least `SHORTEST` seconds: doubles the number until the
+/// clock measures so many. The search ends even if the clock stops or goes back.
 pub fn enough_rounds(seconds: impl Fn(usize) -> f64) -> usize {
     let start = Instant::now();
     let mut rounds = 1;
@@ -99,8 +100,8 @@ pub struct Score {
 
 /// The explanation of the mark ~.
 const ON_PURPOSE: &str = "\
-~ The answers differ on purpose: each side feeds a hasher in its own way. Our cheap one is
-  that of Rattle's maps, FoldHasher; Rust's only counts the bytes.";
+~ The results differ on purpose: each side feeds a hasher in its own way. Our cheap hasher is
+  FoldHasher, which Rattle's maps use; Rust's only counts the bytes.";
 
 impl Score {
     /// Prints an explanation of the numbers and marks.
@@ -108,9 +109,9 @@ impl Score {
         if self.shown == 0 {
             return;
         }
-        println!("Each number is our time over that of std::path, and behind > stands its target");
+        println!("Each number is our time divided by std::path's. If it is above its target, a >");
         println!(
-            "where it is above that, as {} of {} are.",
+            "and the target follow it. Above their targets: {} of {}.",
             self.above, self.shown
         );
         if self.on_purpose > 0 {
@@ -118,7 +119,7 @@ impl Score {
         }
         if self.different > 0 {
             println!(
-                "DIFFERS: so many answers differ and must not: {}",
+                "DIFFERS marks results that differ and must not: {}",
                 self.different
             );
         }

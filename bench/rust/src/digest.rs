@@ -33,7 +33,7 @@ impl Digest {
         self.add_bytes(path.as_os_str().as_bytes());
     }
 
-    /// Adds the text, or a number that no text begins with.
+    /// Adds the text, or the greatest number of 64 bits if there is none.
     pub fn add_text(&mut self, text: Option<&OsStr>) {
         match text {
             Some(text) => self.add_bytes(text.as_bytes()),

@@ -7,8 +7,8 @@ use crate::tree::{shuffled, Tree};
 use std::ops::Bound::{Included, Unbounded};
 use std::path::Path;
 
-/// Lists the entries below some directories: below all large ones, and below one in eight of the
-/// directories with 16 files.
+/// Lists the entries below some directories: below all those of 8,192 files, and below one in eight
+/// of those with 16 files.
 fn list_below(tree: Tree, files: &Table, count: u64, digest: &mut Digest) {
     let mut buffer = Vec::new();
     for place in 0..count / 32 {
@@ -34,8 +34,8 @@ fn nearest<'a>(files: &Table, path: &'a Path) -> Option<(&'a Path, u64)> {
     Some((path.strip_prefix(base).ok()?, value))
 }
 
-/// Finds, for each file, the nearest entry above a path below it: the file itself, unless it was
-/// removed.
+/// Makes a path below each file, and finds the nearest entry above that path. It is the file
+/// itself, unless the file was removed.
 fn find_nearest(tree: Tree, files: &Table, seed: u64, count: u64) -> u64 {
     let mut buffer = Vec::new();
     let mut sum = 0_u64;
@@ -50,8 +50,8 @@ fn find_nearest(tree: Tree, files: &Table, seed: u64, count: u64) -> u64 {
     sum
 }
 
-/// Fills a tree with `count` files, looks up each, lists some directories, removes some files, and
-/// finds, for each file, the nearest entry above a path below it.
+/// Fills a tree with `count` files, looks up each, lists some directories, and removes some files.
+/// Then makes a path below each file, and finds the nearest entry above that path.
 pub fn run(seed: u64, count: u64) -> u64 {
     let mut digest = Digest::default();
     let tree = Tree::new("/srv/volumes/store", seed);

@@ -15,7 +15,8 @@ pub struct Lines {
 }
 
 impl Lines {
-    /// Returns the buffer, for the bytes of the next line, which `end_line` ends.
+    /// Returns the buffer, to which the caller appends the bytes of the next line. `end_line` ends
+    /// that line.
     pub fn buffer(&mut self) -> &mut Vec<u8> {
         &mut self.bytes
     }

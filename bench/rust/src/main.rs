@@ -49,7 +49,8 @@ static JOBS: [Job; 8] = [
     ("tree", keyed::run),
 ];
 
-/// Runs the jobs of this name, or all, and prints their digests. Returns whether there are any.
+/// Runs the job with this name, or all jobs if the name is `all`, and prints each digest. Returns
+/// false if there is no such job.
 fn run(name: &str, seed: u64, count: u64) -> bool {
     let asked = JOBS.iter().filter(|job| name == "all" || name == job.0);
     let mut is_job = false;
@@ -60,8 +61,7 @@ fn run(name: &str, seed: u64, count: u64) -> bool {
     is_job
 }
 
-/// Runs what the arguments after the program's name request. Returns `None` if they request
-/// nothing.
+/// Runs the jobs that the program's arguments request. Returns `None` if the arguments are wrong.
 fn answer() -> Option<()> {
     let mut words = env::args().skip(1);
     let job = words.next()?;

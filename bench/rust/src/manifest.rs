@@ -11,7 +11,8 @@ pub fn canonical(path: &Path) -> PathBuf {
     path.components().collect()
 }
 
-/// Returns the noise for a path: one word in five gives the path another spelling.
+/// Returns the noise with which a path is spelled, for a random word. One word in five results in
+/// another spelling than the canonical one.
 fn noise(word: u64) -> u64 {
     if word.is_multiple_of(5) {
         noise_of(word >> 8)
@@ -20,8 +21,9 @@ fn noise(word: u64) -> u64 {
     }
 }
 
-/// Returns the paths of `count` files in the order of a walk over the tree, followed by as many in
-/// another order, of which one in ten is a file of the walk in another spelling.
+/// Returns the paths of `count` files in the order of a walk over the tree, and then as many paths
+/// in another order. Of these, one in ten may be a file of the walk, in another spelling. The other
+/// ones are not in the walk.
 fn listing(tree: Tree, seed: u64, count: u64) -> Lines {
     let mut random = Random::new(seed);
     let mut lines = Lines::default();

@@ -12,8 +12,8 @@ use std::path::{Component, Path};
 /// The bytes to which a byte is changed.
 static BYTES: [u8; 4] = [b'/', b'.', b'b', 0xFF];
 
-/// Appends the path with a separator for each slash, selected by three bits of the noise, from the
-/// lowest up.
+/// Appends the path with each slash replaced by a separator. Three bits of the noise select each
+/// separator, from the lowest bits up.
 fn push_respelled(out: &mut Vec<u8>, path: &[u8], noise: u64) {
     let mut noise = noise;
     for byte in path {
@@ -42,8 +42,8 @@ fn bytes_of(path: &Path) -> &[u8] {
     path.as_os_str().as_bytes()
 }
 
-/// Sets the bytes to a path similar to the given one: to a part of it or all of it, half of the
-/// times in another spelling, sometimes with another byte at an index, and sometimes with a suffix.
+/// Sets `near` to a path similar to `path`: to a part of it or all of it, in half of the cases in
+/// another spelling, sometimes with one byte changed, and sometimes with a suffix.
 fn make_near(near: &mut Vec<u8>, path: &[u8], word: u64) {
     let place = (word >> 32) as usize % (path.len() + 1);
     let noise = if word & 1 == 0 {

@@ -90,8 +90,8 @@ fn answer(root: &Path, request: &Path, digest: &mut Digest) {
     }
 }
 
-/// Adds the result for callers that trust no link: the verbatim join, if the request has no root,
-/// no `..` and no NUL.
+/// Adds the result for callers whose root may contain links: the verbatim join, or 0 if the request
+/// has a root, a `..` or a NUL.
 fn answer_verbatim_join(root: &Path, request: &Path, digest: &mut Digest) {
     digest.add_flag(escapes(request));
     match join_verbatim(root, request) {
@@ -110,8 +110,8 @@ fn answer_link(page: &Path, request: &Path, digest: &mut Digest) {
     }
 }
 
-/// Runs the job for `count` requests: each under three roots and verbatim under one more, and each
-/// as a link on the page of the request before it.
+/// Runs the job for `count` requests. Joins each request to three roots, and verbatim to a fourth.
+/// Also treats the request as a link, on a page whose path is the request before it.
 pub fn run(seed: u64, count: u64) -> u64 {
     let mut digest = Digest::default();
     let mut random = Random::new(seed);

@@ -51,7 +51,7 @@ fn suffixes(tree: Tree, random: &mut Random) -> Lines {
     suffixes
 }
 
-/// Adds the names that rules use.
+/// Adds the source's names that rules use.
 fn add_names(source: &Path, digest: &mut Digest) {
     digest.add_text(source.file_name());
     digest.add_text(source.file_stem());
@@ -87,8 +87,8 @@ fn suffix_count(source: &Path, suffixes: &[&Path]) -> usize {
     ends.count()
 }
 
-/// Returns the output of a source: what follows the base, below another directory, with another
-/// extension.
+/// Returns the path of a source's output: what follows the base in the source's path, below another
+/// directory and with another extension.
 fn output_of(source: &Path, base: &Path) -> PathBuf {
     let rest = source.strip_prefix(base).unwrap_or(source);
     let object = Path::new("/work/out/debug/objects").join(rest);

@@ -1,5 +1,5 @@
 //! Joins requests below roots like a server that creates its roots once, checks each request once,
-//! and joins it in a buffer that it keeps.
+//! and writes each join to a buffer that it reuses.
 use crate::digest::Digest;
 use crate::lines::path_of;
 use crate::random::Random;

@@ -10,7 +10,7 @@ use std::path::{Path, PathBuf};
 /// A table of paths, each with the number of its file.
 pub type Table = BTreeMap<PathBuf, u64>;
 
-/// Returns the path of a file, made in a buffer that keeps its memory.
+/// Returns the path of a file, written to a buffer that is reused.
 pub fn path_in<'a>(buffer: &'a mut Vec<u8>, tree: Tree, number: u64, noise: u64) -> &'a Path {
     buffer.clear();
     tree.push(buffer, number, noise);
@@ -58,8 +58,8 @@ pub fn remove(tree: Tree, table: &mut Table, seed: u64, count: u64) -> u64 {
     sum
 }
 
-/// Lists the entries below some directories: below all large ones, and below one in eight of the
-/// directories with 16 files.
+/// Lists the entries below some directories: below all those of 8,192 files, and below one in eight
+/// of those with 16 files.
 fn list_below(tree: Tree, table: &Table, count: u64, digest: &mut Digest) {
     let mut buffer = Vec::new();
     for place in 0..count / 32 {
@@ -99,7 +99,7 @@ fn find_by_hash(tree: Tree, table: &Table, random: &mut Random) -> u64 {
 }
 
 /// Fills a table with `count` files, looks up each, lists some directories, removes some files, and
-/// looks up the other files in a hash map.
+/// looks up the remaining files in a hash map.
 pub fn run(seed: u64, count: u64) -> u64 {
     let mut digest = Digest::default();
     let mut random = Random::new(seed ^ (1 << 32));

@@ -172,8 +172,8 @@ impl<'a> Tree<'a> {
     }
 }
 
-/// Returns the number of a file. The places below 2^19 have all even numbers below 2^20, each once,
-/// in an order that looks random.
+/// Returns the number of the file at index `place` of an order that looks random. The indices below
+/// 2^19 have all even numbers below 2^20, each once.
 pub fn shuffled(place: u64, seed: u64) -> u64 {
     (place.wrapping_mul(0x9E37_79B9).wrapping_add(seed) & 0x7_FFFF) << 1
 }

@@ -59,9 +59,9 @@ pub fn join_verbatim(root: &Path, request: &Path) -> Option<PathBuf> {
     Some(root.join(request))
 }
 
-/// Returns the relative path from one path to another, lexically: `..` for each name that remains
-/// of the first, followed by what remains of the other. Returns `None` if no path without a root
-/// leads there.
+/// Returns the relative path from one path to another, lexically. Both paths are resolved, and the
+/// components that both start with are dropped. The result is `..` for each name that remains of
+/// `from`, followed by what remains of `to`. Returns `None` if no path without a root leads there.
 pub fn relative_path(from: &Path, to: &Path) -> Option<PathBuf> {
     let (from, to) = (resolved(from), resolved(to));
     if from.has_root() != to.has_root() {

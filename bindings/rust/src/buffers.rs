@@ -157,10 +157,10 @@ pub fn join_beneath<'o>(root: &[u8], request: &[u8], out: &'o mut [u8]) -> Resul
 
 /// Joins a request as in a chroot, such as the decoded path of a URL.
 ///
-/// The request is read as by a process whose root directory is the root. This is [`join_beneath`],
-/// except that leading slashes are dropped, and a `..` at the root stays at the root, so no request
-/// escapes. A server that should refuse such a `..` calls [`join_beneath`] with what follows the
-/// leading slashes.
+/// The request is resolved as in a process whose root directory is `root`. This is
+/// [`join_beneath`], except that leading slashes are dropped, and a `..` at the root stays at the
+/// root, so no request escapes. A server that should refuse such a `..` calls [`join_beneath`] with
+/// what follows the leading slashes.
 ///
 /// Fails with `Nul` if and only if the request has a NUL byte.
 ///
@@ -209,7 +209,7 @@ pub fn join_verbatim<'o>(
 /// Symbolic links are not followed: if a component is one, the result may lead elsewhere.
 ///
 /// Fails with `NoRelativePath` if and only if one path has a root and the other has none, or a `..`
-/// remains of the first: then no path without a root leads there.
+/// remains of the first path: then no path without a root leads from one to the other.
 ///
 /// ```
 /// use unix_path_rattle::{relative_path, Error};

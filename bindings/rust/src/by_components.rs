@@ -1,4 +1,4 @@
-//! Paths as keys of maps: equal if their components are.
+//! Paths as keys of maps, equal if their components are equal.
 use core::cmp::Ordering;
 use core::hash::{Hash, Hasher};
 
@@ -39,7 +39,7 @@ impl<P: AsRef<[u8]>> Ord for ByComponents<P> {
     }
 }
 
-/// Feeds the hasher each component, and then an end, as [`Components`](crate::Components) does.
+/// Feeds the hasher each component, and then an end mark, like [`Components`](crate::Components).
 /// Equal paths feed it the same bytes. If the hasher is keyed, its key determines which different
 /// paths, or lists of paths, collide.
 impl<P: AsRef<[u8]>> Hash for ByComponents<P> {

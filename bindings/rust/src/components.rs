@@ -12,7 +12,7 @@ use core::iter::FusedIterator;
 pub enum Component<'a> {
     /// The root: the path begins with `/`.
     RootDir,
-    /// A leading `.`; any other is dropped.
+    /// A leading `.`; any other `.` is dropped.
     CurDir,
     /// A `..`, which is kept.
     ParentDir,
@@ -40,7 +40,8 @@ impl<'a> Component<'a> {
         }
     }
 
-    /// Returns the component for a part of this path that the library returned.
+    /// Converts a `Part` that the library returned for this path. Returns `None` if its kind is
+    /// unknown, or if it is a name that is not in the path.
     #[inline]
     fn from_part(part: Part, path: &'a [u8]) -> Option<Component<'a>> {
         match part.kind {
@@ -53,7 +54,7 @@ impl<'a> Component<'a> {
     }
 }
 
-/// Writes the variant, and a name in quotes with its bytes as ASCII text, or escaped.
+/// Writes the variant. A name follows in quotes, as ASCII text: other bytes are escaped.
 ///
 /// ```
 /// use unix_path_rattle::Component;
@@ -172,9 +173,9 @@ impl Ord for Components<'_> {
     }
 }
 
-/// Feeds the hasher each remaining component, and then a slash and a NUL, with which the bytes of
-/// no component begin. So the bytes of one walk are never a prefix of the bytes of a walk over
-/// other components, and two tuples of paths feed the same bytes only if they are equal.
+/// Feeds the hasher each remaining component, and then an end mark: a slash and a NUL. The bytes of
+/// no component begin with these two. So the bytes of one walk are never a prefix of the bytes of a
+/// walk over other components, and two tuples of paths feed the same bytes only if they are equal.
 impl Hash for Components<'_> {
     #[inline]
     fn hash<H: Hasher>(&self, state: &mut H) {

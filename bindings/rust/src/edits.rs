@@ -101,8 +101,8 @@ pub fn set_extension(path: &mut Vec<u8>, extension: &[u8]) -> Result<bool, Error
     Ok(is_changed || file_name(path).is_some())
 }
 
-/// Replaces the path with what the call makes from it, and returns whether the path changed. The
-/// call may not overwrite what it reads, so it writes to other memory.
+/// Replaces the path with the result of the call on it and `other`. Returns true if the path
+/// changed. The call may not overwrite what it reads, so it writes to other memory.
 fn replace(path: &mut Vec<u8>, call: MakeOfTwo, other: &[u8]) -> Result<bool, Error> {
     let room = path.len() + 1 + other.len();
     if room > SHORT {

@@ -77,7 +77,7 @@ impl From<Error> for std::io::Error {
 }
 
 /// The reason why [`check_request`](crate::check_request) refuses a path. Its messages are the same
-/// as those of `RequestError` in the Rattle crate.
+/// as those of `RequestError` in the Rattle crate `path_within`.
 #[derive(Clone, Copy, Debug, PartialEq, Eq)]
 #[non_exhaustive]
 pub enum RequestError {

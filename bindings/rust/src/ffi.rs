@@ -1,15 +1,16 @@
 //! The calls of `libunix_path`, by their signatures. All `unsafe` code of this crate is in this
 //! module.
 //!
-//! A type of this module is a shape of calls, and its constants are the calls of that shape.
-//! `tools/calls` writes the constants to `raw.rs`; only that module creates values of these types.
+//! Calls with the same signature have the same *shape*. A type such as `Find` or `Make` represents
+//! a shape, and its constants are the calls of that shape. `tools/calls` writes the constants to
+//! `raw.rs`; only that module creates values of these types.
 //!
 //! Each `unsafe` block depends on the same promises of the library: a call reads the slices that it
 //! is given, writes the record or the buffer that it is given, and accesses nothing else; it keeps
 //! no pointer; it returns. Rust's slices meet the library's requirements: they are never null, even
-//! if empty; they have at most `isize::MAX` bytes; and one that is written shares no byte with
-//! another. The library also promises that a call wrote as many bytes as it returns. Each `Vec`
-//! that a call fills depends on this promise.
+//! if empty; they have at most `isize::MAX` bytes; and a slice that is written shares no byte with
+//! another slice. The library also promises that a call wrote as many bytes as it returns. Each
+//! `Vec` that a call fills depends on this promise.
 #[macro_use]
 mod calls;
 mod code;
@@ -42,8 +43,9 @@ fn output(out: &[u8], answer: usize) -> Result<&[u8], Error> {
     out.get(..answer).ok_or_else(|| error_of(answer))
 }
 
-/// Lets a call write to the vector's capacity after its first `kept` bytes. The vector then has
-/// those bytes and what the call wrote. If the call fails, the vector's length is unchanged.
+/// Lets a call write after the vector's first `kept` bytes, as far as the capacity reaches. The
+/// vector then consists of those bytes and what the call wrote. If the call fails, the vector's
+/// length is unchanged.
 #[cfg(feature = "alloc")]
 #[inline]
 fn fill_behind(
@@ -64,8 +66,8 @@ fn fill_behind(
     Ok(())
 }
 
-/// Clears the vector and lets a call write to its capacity. The vector then has only what the call
-/// wrote.
+/// Clears the vector and lets a call write to its memory, as far as the capacity reaches. The
+/// vector then consists of what the call wrote.
 #[cfg(feature = "alloc")]
 #[inline]
 fn fill(bytes: &mut Vec<u8>, call: impl FnOnce(*mut u8, usize) -> usize) -> Result<(), Error> {
@@ -73,8 +75,8 @@ fn fill(bytes: &mut Vec<u8>, call: impl FnOnce(*mut u8, usize) -> usize) -> Resu
     fill_behind(bytes, 0, call)
 }
 
-/// Returns the `length` bytes at index `start`, or `None` if they are not all in the path: no span
-/// is trusted.
+/// Returns the `length` bytes at index `start`, or `None` if they are not all in the path. So the
+/// library's indices and lengths are never trusted.
 #[inline]
 fn cut(path: &[u8], start: usize, length: usize) -> Option<&[u8]> {
     path.get(start..start.checked_add(length)?)
@@ -101,7 +103,7 @@ impl Part {
 
 impl Walk {
     /// Returns the walk over all components of the path, without calling `unix_path_components`.
-    /// Its rest is between the two offsets.
+    /// The rest of a walk lies between its two indices: at first it is the whole path.
     #[inline]
     pub const fn new(path: &[u8]) -> Walk {
         Walk {
@@ -214,7 +216,7 @@ impl FindOfTwo {
     }
 }
 
-/// Questions about a path, by the type of the result.
+/// Calls that answer a question about a path with a `T`.
 pub(crate) struct Ask<T>(unsafe extern "C" fn(Start, usize) -> T);
 
 impl<T> Ask<T> {
@@ -225,7 +227,7 @@ impl<T> Ask<T> {
     }
 }
 
-/// Questions about two paths, by the type of the result.
+/// Calls that answer a question about two paths with a `T`.
 pub(crate) struct AskTwo<T>(unsafe extern "C" fn(Start, usize, Start, usize) -> T);
 
 impl<T> AskTwo<T> {
@@ -288,7 +290,7 @@ impl MakeOfTwo {
             (self.0)(start, length, other.as_ptr(), other.len(), out, room)
         })
     }
-    /// Writes after the vector's first `kept` bytes, which stay.
+    /// Writes after the vector's first `kept` bytes, which are unchanged.
     #[cfg(feature = "alloc")]
     #[inline]
     pub fn fill_behind(

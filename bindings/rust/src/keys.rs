@@ -5,11 +5,12 @@
 use crate::error::Error;
 use crate::ffi::Make;
 
-/// Writes the key of the path, in which the components follow one another: a root as 00 01, a
-/// leading `.` as 00 02, each `..` as 00 03, and a name as its bytes, with each that is less than
-/// 2F incremented by one, followed by 00.
+/// Writes the key of the path.
 ///
-/// Its length is at most `path.len() + 2`.
+/// The key contains the components in order, as these bytes (in hexadecimal): the root as 00 01, a
+/// leading `.` as 00 02, and each `..` as 00 03. A name is written as its bytes and then 00; each
+/// of its bytes that is less than 2F is incremented by one. The key's length is at most
+/// `path.len() + 2`.
 ///
 /// ```
 /// use unix_path_rattle::key;
@@ -38,9 +39,9 @@ pub fn from_key<'o>(key: &[u8], out: &'o mut [u8]) -> Result<&'o [u8], Error> {
     Make::FROM_KEY.write(key, out)
 }
 
-/// Returns the end of a key's range: a path starts with the key's path if and only if its own key
-/// is not less than the key, and less than this end. Returns `None` for the empty key, whose range
-/// has all keys.
+/// Writes the end of a key's range. A path starts with the key's path if and only if its own key is
+/// in the range, which goes from the key (inclusive) to this end (exclusive). Returns `None` for
+/// the empty key, whose range contains all keys.
 ///
 /// The end is the key with its last byte incremented by one. Fails with `NotAKey` if and only if no
 /// path has these bytes as its key.

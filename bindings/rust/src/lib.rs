@@ -75,15 +75,15 @@
 //!
 //! # What is proved
 //!
-//! The source of the assembly, which is in Rattle: each call returns what its contract says, on all
-//! bytes. The contracts are in `crates/unix_path_c` of the repository. The compilers that made the
-//! assembly from it and the assembler in rustc are trusted. `asm/PROVED.txt` in this package names
-//! the version of the toolchain and lists the SHA-256 of each assembly file.
+//! The source of the assembly, which is in Rattle, is proved: each call returns what its contract
+//! says, on all bytes. The contracts are in `crates/unix_path_c` of the repository. The compilers
+//! that translate the source to assembly and the assembler in rustc are trusted. `asm/PROVED.txt`
+//! in this package names the version of the toolchain and lists the SHA-256 of each assembly file.
 //!
 //! The Rust code of this crate is not proved. It passes the slices to the library and cuts the
-//! results out of them with bounds checks. A wrong library would therefore return wrong results. It
-//! could do harm only by what it reads or writes itself, or by reporting bytes as written that it
-//! did not write: a new `Vec` has as many bytes as the library reports.
+//! results out of them with bounds checks. So a wrong library could return wrong results, but could
+//! do harm only by what it reads or writes itself, or by reporting bytes as written that it did not
+//! write: a new `Vec` has as many bytes as the library reports.
 #![no_std]
 #![deny(
     missing_docs,

@@ -2,11 +2,12 @@
 //!
 //! They return part of the path that was passed, or a new `PathBuf`, `String` or `Vec`.
 //
-// Functions of one shape differ only in their names and in the types of their results, so a macro
-// writes them. A function that finds or makes something has its own type and its own comment. The
-// questions are those in the lists that `tools/calls` writes. Not here: `next`, `next_back` and
-// `as_path`, which are methods of `Components`; `next_ancestor` and `next_chunk`, whose iterators
-// return bytes; `key_range_end`, which uses only keys; and `version`, which has no path.
+// Macros define most functions, since they differ only in their names and in the types of their
+// results. Functions that find or make something are listed below, each with its type and comment.
+// Functions that answer a question come from the lists that `tools/calls` writes. This module has
+// no `next`, `next_back` and `as_path`, which are methods of `Components`; no `next_ancestor` and
+// `next_chunk`, whose iterators return bytes; no `key_range_end`, which uses only keys; and no
+// `version`, which has no path.
 use crate::components::{Component, Components};
 use crate::error::{Error, RequestError};
 use crate::owned;
@@ -41,13 +42,13 @@ macro_rules! find_as {
     )*};
 }
 
-/// Defines the questions about a path.
+/// Defines the functions that answer a question about a path.
 macro_rules! ask_of_one {
     () => {};
-    // This function is below, since its result has its own type.
+    // `check_request` is defined below, since its result has its own type.
     (check_request -> i32; $($more:tt)*) => { ask_of_one! { $($more)* } };
     ($name:ident -> $answer:ident; $($more:tt)*) => {
-        #[doc = concat!("As [`crate::", stringify!($name), "`].")]
+        #[doc = concat!("Like [`crate::", stringify!($name), "`].")]
         ///
         /// ```
         #[doc = concat!("use unix_path_rattle::{os, ", stringify!($name), "};")]
@@ -62,11 +63,11 @@ macro_rules! ask_of_one {
     };
 }
 
-/// Defines the questions about two paths that return true or false.
+/// Defines the functions that return true or false for two paths.
 macro_rules! ask_of_two {
     () => {};
     ($name:ident -> bool; $($more:tt)*) => {
-        #[doc = concat!("As [`crate::", stringify!($name), "`].")]
+        #[doc = concat!("Like [`crate::", stringify!($name), "`].")]
         ///
         /// ```
         #[doc = concat!("use unix_path_rattle::{os, ", stringify!($name), "};")]
@@ -79,7 +80,7 @@ macro_rules! ask_of_two {
         }
         ask_of_two! { $($more)* }
     };
-    // The other questions are below, since their results have their own types.
+    // `compare` and `common_dir` are defined below, since their results have their own types.
     ($name:ident -> $answer:ident; $($more:tt)*) => { ask_of_two! { $($more)* } };
 }
 

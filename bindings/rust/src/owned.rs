@@ -17,7 +17,7 @@ use crate::ffi::{Make, MakeOfTwo};
 use alloc::string::String;
 use alloc::vec::Vec;
 
-/// Returns what the call writes to a new vector with capacity for `room` bytes.
+/// Returns a new vector with capacity for `room` bytes, after `fill` has written to it.
 pub(crate) fn vec_with_room<F>(room: usize, fill: &F) -> Result<Vec<u8>, Error>
 where
     F: Fn(&mut Vec<u8>) -> Result<(), Error>,
@@ -28,8 +28,8 @@ where
     Ok(bytes)
 }
 
-/// Returns what the call writes to a new vector with capacity for `room` bytes, or for as many as
-/// the call needs if that is more.
+/// Returns a new vector after `fill` has written to it. The vector has capacity for `room` bytes,
+/// or for as many as `fill` needs if that is more.
 fn vec_of<F>(room: usize, fill: F) -> Result<Vec<u8>, Error>
 where
     F: Fn(&mut Vec<u8>) -> Result<(), Error>,

@@ -50,7 +50,8 @@ pub fn chunks(path: &[u8]) -> Chunks<'_> {
     Chunks::new(path)
 }
 
-/// Returns the path without its last component, or `None` if that is the root or there is none.
+/// Returns the path without its last component, or `None` if the path has no component, or only the
+/// root.
 ///
 /// ```
 /// assert_eq!(unix_path_rattle::parent(b"/a//b/"), Some(&b"/a"[..]));
@@ -275,8 +276,8 @@ pub fn check_request(path: &[u8]) -> Result<(), RequestError> {
     }
 }
 
-/// Returns true if a request is the root itself: no name remains of it when it is resolved as
-/// [`join_in_root`](crate::join_in_root) does.
+/// Returns true if a request is the root itself: no name remains when
+/// [`join_in_root`](crate::join_in_root) resolves the request.
 ///
 /// [`join_in_root`](crate::join_in_root) then writes the root verbatim if the request has no NUL
 /// byte, and so does [`join_beneath`](crate::join_beneath) unless it refuses the request.
@@ -295,8 +296,8 @@ pub fn request_is_root(path: &[u8]) -> bool {
 /// Returns true if the last component is a name and a slash or a `/.` follows it: a system call
 /// takes such a path for the path of a directory.
 ///
-/// [`join_beneath`](crate::join_beneath) and [`join_in_root`](crate::join_in_root) drop what
-/// follows the names of a request.
+/// [`join_beneath`](crate::join_beneath) and [`join_in_root`](crate::join_in_root) drop such a
+/// slash or `/.` at the end of a request.
 ///
 /// ```
 /// assert!(unix_path_rattle::ends_in_slash(b"a/"));

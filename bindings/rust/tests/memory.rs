@@ -85,7 +85,7 @@ fn requests_are_joined_without() {
 /// An edit that adds something to the path.
 type Edit = fn(&mut Vec<u8>, &[u8]) -> Result<(), Error>;
 
-/// The edits. The last one drops the truth value that `set_extension` returns.
+/// The edits that may allocate. The last one drops the truth value that `set_extension` returns.
 const EDITS: [Edit; 3] = [edits::push, edits::set_file_name, |path, extension| {
     edits::set_extension(path, extension).map(|_| ())
 }];

@@ -1,8 +1,9 @@
 //! Looks files up below a directory that no request can leave, as a server does.
 //!
 //! `lookup FOLDER` reads requests from standard input, one per line, such as `docs/guide.txt`. It
-//! prints each request with the file that it names, or that there is none, or that the request is
-//! refused. Requests are resolved lexically: no link below the directory may lead out of it.
+//! prints each request and then the file that it names, that there is no such file, or that the
+//! request is refused. Requests are resolved lexically, so make sure that no link below the
+//! directory leads out of it.
 use std::env;
 use std::ffi::OsStr;
 use std::fs;

@@ -4,7 +4,8 @@ use unix_path_rattle::{self as paths, owned, Error};
 /// A function that makes a path with another extension.
 type Extend = fn(&[u8], &[u8]) -> Result<Vec<u8>, Error>;
 
-/// Edits the extension, and returns the edit's answer, a word.
+/// Sets the extension of the edited path with `extend`. Returns the word that answers the edit:
+/// `true`, `false` if there is no file name, or `separator` if the extension contains a slash.
 fn edit_extension(
     edited: &mut Vec<u8>,
     extension: &[u8],
@@ -18,7 +19,8 @@ fn edit_extension(
     Ok(if is_named { "true" } else { "false" })
 }
 
-/// Removes the last component, and returns the edit's answer, a word.
+/// Removes the last component. Returns the word that answers the edit: `true`, or `false` if the
+/// path has no parent.
 fn pop(edited: &mut Vec<u8>) -> &'static str {
     match paths::parent(edited).map(<[u8]>::len) {
         Some(length) => {
@@ -29,8 +31,8 @@ fn pop(edited: &mut Vec<u8>) -> &'static str {
     }
 }
 
-/// Makes the edit that the field names. Returns the edit's answer, a word, or `None` if the field
-/// names no edit.
+/// Makes the edit that the field names, such as `pop` or `push:a`. Returns the word that answers
+/// the edit, or `None` if the field names no edit.
 fn edit(edited: &mut Vec<u8>, field: &[u8]) -> Result<Option<&'static str>, Error> {
     let mut cut = field.splitn(2, |byte| *byte == b':');
     let word = match (cut.next(), cut.next()) {
@@ -54,8 +56,8 @@ fn edit(edited: &mut Vec<u8>, field: &[u8]) -> Result<Option<&'static str>, Erro
     Ok(Some(word))
 }
 
-/// Appends the path after the edits, and the answer of each edit. Returns false if a field names no
-/// edit.
+/// Makes the edits that the fields name, in order. Appends the edited path and, after a tab each,
+/// the words that answer the edits. Returns false, and appends nothing, if a field names no edit.
 pub fn push_edited(path: &[u8], fields: &[&[u8]], answer: &mut Vec<u8>) -> Result<bool, Error> {
     let mut edited = path.to_vec();
     let mut words = vec![];

@@ -22,8 +22,10 @@ pub fn push_ancestors(path: &[u8], answer: &mut Vec<u8>) {
     push_list(paths::ancestors(path), answer);
 }
 
-/// Appends the components that the turns take from both ends, and the rest; returns false if a
-/// letter is no turn.
+/// Takes a component from the front for each `f` of `turns`, and from the back for each `b`.
+/// Appends a list: the numbers of components taken from the front and from the back, those from
+/// the front, the rest, and those from the back. Returns false, and appends nothing, if `turns` has
+/// another letter.
 pub fn push_walk(path: &[u8], turns: &[u8], answer: &mut Vec<u8>) -> bool {
     let mut left = paths::components(path);
     let (mut front, mut behind) = (vec![], vec![]);
@@ -42,8 +44,8 @@ pub fn push_walk(path: &[u8], turns: &[u8], answer: &mut Vec<u8>) -> bool {
     true
 }
 
-/// Appends what follows the base in the paths that start with it, in order, each once and in
-/// canonical form.
+/// Appends a list: for each path of `others` that starts with `base`, what follows the base, in
+/// canonical form. The list is sorted, and of equal paths only one is listed.
 pub fn push_under(base: &[u8], others: &[&[u8]], answer: &mut Vec<u8>) -> Result<(), Error> {
     let mut others: Vec<_> = others.iter().copied().map(ByComponents).collect();
     others.sort();

@@ -67,7 +67,7 @@ fn push_answer(fields: &[&[u8]], answer: &mut Vec<u8>) -> Result<bool, Error> {
     Ok(true)
 }
 
-/// Writes the answer to each line of an input.
+/// Writes a line with the answer to each line of the input.
 fn answers(input: &[u8], output: &mut impl Write) -> io::Result<()> {
     for line in input.split_inclusive(|byte| *byte == b'\n') {
         let line = line.strip_suffix(b"\n").unwrap_or(line);

@@ -99,8 +99,9 @@ fn chunks() {
     }
 }
 
-/// Checks the first chunk of texts with an invalid byte at each index. The texts have characters of
-/// one width or of all widths, and are longer than the blocks that are read at once.
+/// Checks the first chunk of texts that have one invalid byte, at each index in turn. The texts are
+/// ASCII, or have UTF-8 characters of one to four bytes, and are longer than the blocks that the
+/// library reads at once.
 #[test]
 fn long_chunks() {
     for unit in ["a", "a\u{E9}\u{73BB}\u{1F980}"] {
@@ -126,7 +127,7 @@ fn long_texts_of_two_widths() {
     }
 }
 
-/// Checks that two paths are compared as std compares them.
+/// Checks that the library compares two paths as std does.
 pub fn are_compared(a: &[u8], b: &[u8]) {
     let (p, q) = (path(a), path(b));
     assert_eq!(paths::compare(a, b), p.cmp(q));

@@ -72,7 +72,7 @@ fn keep_the_room() {
     assert!(path.capacity() >= 1000);
 }
 
-/// Checks that few of many pushes grow the vector, since each of these may double its capacity.
+/// Checks that the vector grows seldom during many pushes, since growing may double its capacity.
 #[test]
 fn many_pushes_grow_seldom() {
     let mut path = vec![];

@@ -7,7 +7,8 @@ use crate::beside_std::are_compared;
 const FAMILIES: usize = 1_303;
 const PATHS: usize = 16;
 
-/// What a path begins with, what is between two names, and what a change inserts into a path.
+/// The strings that a path may begin with, that may be between two names, and that a change may
+/// insert into a path.
 const FRONTS: [&str; 4] = ["", "/", "./", "../"];
 const SEPARATORS: [&str; 4] = ["/", "/", "//", "/./"];
 const INSERTED: [&str; 16] = [
@@ -44,8 +45,8 @@ impl Random {
         [".".repeat(front), "n".repeat(letters), ".".repeat(behind)].concat()
     }
 
-    /// Returns a path with a front and two or three names after it, each of which is one of two
-    /// names.
+    /// Returns a path with one of the `FRONTS` and then two or three names. At most two of the
+    /// names differ.
     fn path(&mut self, length: usize) -> Vec<u8> {
         let names = [self.name(length), self.name(length)];
         let mut path = self.one_of(&FRONTS).to_owned() + &names[0];
@@ -56,8 +57,8 @@ impl Random {
         path.into_bytes()
     }
 
-    /// Returns the path with an insertion that may be empty and may replace bytes: anywhere, at a
-    /// slash, right after a slash, or at an end of the path.
+    /// Returns the path with one of the strings `INSERTED` (some are empty): anywhere, at a slash,
+    /// right after a slash, or at an end of the path. It may replace bytes that were there.
     fn changed(&mut self, path: &[u8]) -> Vec<u8> {
         let any = self.below(path.len());
         let (front, behind) = path.split_at(match self.below(8) {

@@ -1,4 +1,4 @@
-//! What keys feed a hasher.
+//! The bytes that keys feed a hasher.
 use std::collections::hash_map::{DefaultHasher, RandomState};
 use std::collections::HashSet;
 use std::hash::{BuildHasher, BuildHasherDefault, Hash, Hasher};
@@ -17,15 +17,15 @@ impl Hasher for Fed {
     }
 }
 
-/// Returns what the key feeds a hasher.
+/// Returns the bytes that the key feeds a hasher.
 pub fn fed_by(key: impl Hash) -> Vec<u8> {
     let mut hasher = Fed::default();
     key.hash(&mut hasher);
     hasher.0
 }
 
-/// Checks the lists of two and of three paths with 64 names in all, given a function that makes a
-/// path with a number of names. Each list feeds a hasher different bytes and has a different hash.
+/// Checks that the lists of two or three paths with 64 names in all feed a hasher different bytes
+/// and have different hashes. `path` returns a path with the given number of names.
 pub fn cut_lists_differ<P: Hash>(path: impl Fn(usize) -> P + Copy) {
     let mut lists = vec![];
     for first in 0..=64 {

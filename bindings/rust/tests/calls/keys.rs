@@ -95,9 +95,9 @@ fn keys_of_pairs() {
     }
 }
 
-/// Checks that a path feeds a hasher its components and then an end, and that no feed is a prefix
-/// of another. Therefore no two different paths, or lists of paths, collide under every key of a
-/// hasher.
+/// Checks that a path feeds a hasher its components and then an end mark, and that no path's bytes
+/// are a prefix of another's. So different paths, or different lists of paths, may collide under
+/// one key of a hasher, but not under every key.
 #[test]
 fn hashers_are_fed_the_parts() {
     let (mut feeds, mut spellings) = (BTreeSet::new(), HashSet::new());
@@ -113,8 +113,8 @@ fn hashers_are_fed_the_parts() {
         spellings.insert(spelling);
     }
     assert_eq!(feeds.len(), spellings.len());
-    // In this order, a feed that is a prefix of another is also a prefix of the feed right after
-    // it.
+    // The set is sorted: a feed that is a prefix of some other feed is also a prefix of the next
+    // one.
     let feeds: Vec<_> = feeds.into_iter().collect();
     assert!(feeds.windows(2).all(|pair| !pair[1].starts_with(&pair[0])));
 }

@@ -80,8 +80,9 @@ fn word(error: Error) -> String {
     word.to_string()
 }
 
-/// Returns the field for what a call makes in a new vector. Checks that it writes the same to
-/// buffers of every length, from none to 3 bytes more than needed, and nothing else.
+/// Returns the field of a row for what a call made in a new vector. Checks `write`, the same call
+/// with a buffer, for all lengths of the buffer up to 3 bytes more than needed: it writes the same
+/// bytes if they fit, and otherwise nothing.
 fn written<T: Made, F>(made: Result<T, Error>, write: F) -> Vec<String>
 where
     F: Fn(&mut [u8]) -> Result<Option<Vec<u8>>, Error>,
@@ -124,8 +125,8 @@ fn component(bytes: &[u8]) -> Component<'_> {
     }
 }
 
-/// Returns the components, each with its index, at which the rest began before it was taken. Checks
-/// that they are the same from the back.
+/// Returns the components, each with its index: the rest of the walk began there before the
+/// component was taken. Checks that a walk from the back yields the same components.
 fn parts(path: &[u8]) -> Vec<String> {
     let (mut rest, mut taken, mut fields) = (paths::components(path), vec![], vec![]);
     let whole = rest.as_path();
@@ -156,7 +157,7 @@ fn chunks(path: &[u8]) -> Vec<String> {
         .collect()
 }
 
-/// Returns the calls that are checked in their own way, and then the calls of each other shape.
+/// Returns all calls: first those that are checked in their own way, then the others by signature.
 fn all_calls() -> Vec<Call> {
     let mut calls: Vec<Call> = vec![
         ("components", 1, |a, _| parts(a)),

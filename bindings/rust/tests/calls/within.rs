@@ -66,7 +66,8 @@ fn verbatim_join(root: &[u8], request: &[u8]) -> Result<Vec<u8>, Error> {
     owned::join(root, request)
 }
 
-/// Checks that a join beneath a resolved root is the resolved join, and starts with the root.
+/// Checks that a join beneath a resolved root has the same bytes as the plain join of root and
+/// request after it is resolved, and that it starts with the root.
 #[test]
 fn joined_beneath_resolved() {
     let strings = over(b"/.a", 5);
@@ -99,7 +100,8 @@ fn joined_verbatim() {
     }
 }
 
-/// Returns the root's bytes and the names that remain after `/`, with slashes between them.
+/// Returns the root and then the names that remain of the request in a chroot, with slashes between
+/// them.
 fn joined_names(root: &[u8], request: &[u8]) -> Vec<u8> {
     let behind_root = [b"/", request].concat();
     let names = kept_parts(&behind_root)[1..].join(&b'/');
@@ -109,7 +111,7 @@ fn joined_names(root: &[u8], request: &[u8]) -> Vec<u8> {
     [root, b"/", &names].concat()
 }
 
-/// Checks a request, by its definition.
+/// Returns what `check_request` should return, by its definition.
 fn refusal(path: &[u8]) -> Result<(), RequestError> {
     match path.first() {
         Some(b'/') => Err(RequestError::Rooted),

@@ -1,5 +1,5 @@
-/* A library with the calls of unix_path.h. Each does what a call of its shape may do: it answers at
- * random, and writes where it may. */
+/* A library with the calls of unix_path.h. Each call returns a random result, and writes random
+ * values to the records and buffers to which a call with its signature may write. */
 #define UNIX_PATH_EXPORTS_ONLY
 #include "unix_path.h"
 
@@ -13,7 +13,7 @@ static uint64_t any(void)
     return state;
 }
 
-/* Returns a small number, or a number near one at which a sum overflows. */
+/* Returns a small number, or a number so large that a sum with it may overflow. */
 static size_t any_size_t(void)
 {
     switch (any() % 4) {

@@ -13,7 +13,7 @@ use unix_path_rattle::{self as paths, edits, os, owned, Error, RequestError};
 const PATH: &[u8] = b"/a//b.c";
 const ROUNDS: usize = 20_000;
 
-/// Returns true if the slice is in the other; an empty one is anywhere.
+/// Returns true if the slice is empty or lies in the other slice's memory.
 fn lies_in(slice: &[u8], other: &[u8]) -> bool {
     let (inner, outer) = (slice.as_ptr_range(), other.as_ptr_range());
     slice.is_empty() || (outer.start <= inner.start && inner.end <= outer.end)
@@ -21,7 +21,7 @@ fn lies_in(slice: &[u8], other: &[u8]) -> bool {
 
 /// A type that a call returns.
 trait Given {
-    /// Returns the bytes that it refers to or contains.
+    /// Returns the bytes that the value refers to or contains.
     fn bytes(&self) -> &[u8];
 }
 

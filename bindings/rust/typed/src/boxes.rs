@@ -9,8 +9,9 @@ use alloc::rc::Rc;
 #[cfg(target_has_atomic = "ptr")]
 use alloc::sync::Arc;
 
-/// Implements the conversions to the other owners: of the view `$view`, whose bytes `$bytes`
-/// returns, and of its owning type `$buffer`, which `$into_box` converts to a box.
+/// Implements the conversions from the view `$view` and from its owning type `$buffer` to `Box`,
+/// `Rc`, `Arc` and `Cow`. `$bytes` returns the bytes of a view, and `$into_box` converts a buffer
+/// to a box.
 macro_rules! owners {
     ($view:ident, $bytes:ident, $buffer:ident, $into_box:ident) => {
         /// Copies the bytes.

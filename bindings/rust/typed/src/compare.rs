@@ -8,7 +8,8 @@ use alloc::borrow::Cow;
 use alloc::string::String;
 use core::cmp::Ordering;
 
-/// Implements equality of both types as views of the given type, in either order.
+/// Implements `==` between the two types of each pair, in either order. Both values are compared as
+/// `$view`.
 macro_rules! equal_as {
     ($view:ident: $($one:ty, $other:ty;)*) => {$(
         impl<'a, 'b> PartialEq<$other> for $one {
@@ -27,7 +28,8 @@ macro_rules! equal_as {
     )*};
 }
 
-/// Implements equality and ordering of both types as views of the given type.
+/// Implements `==` and the ordering between the two types of each pair. Both values are compared as
+/// `$view`.
 macro_rules! ordered_as {
     ($view:ident: $($one:ty, $other:ty;)*) => {
         equal_as!($view: $($one, $other;)*);

@@ -18,7 +18,7 @@ use unix_path_rattle as calls;
 pub enum Component<'a> {
     /// The root: the path begins with `/`.
     RootDir,
-    /// A leading `.`; any other is dropped.
+    /// A leading `.`; any other `.` is dropped.
     CurDir,
     /// A `..`, which is kept.
     ParentDir,

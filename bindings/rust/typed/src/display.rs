@@ -5,8 +5,8 @@ use core::fmt::{self, Write};
 
 /// A path that is printed as text, returned by [`Path::display`](crate::Path::display).
 ///
-/// Prints invalid bytes as U+FFFD, like `to_string_lossy`, and allocates the text only if there are
-/// some. Width, fill and alignment work as for a `str`, and a precision is ignored.
+/// Prints invalid bytes as U+FFFD, like `to_string_lossy`, and allocates only if the path has such
+/// bytes. Width, fill and alignment work as for a `str`, and a precision is ignored.
 ///
 /// ```
 /// use unix_path_typed::{Path, UnixStr};

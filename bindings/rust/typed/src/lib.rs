@@ -29,12 +29,12 @@
 //!
 //! # What is proved
 //!
-//! The source of the assembly: each call of the library returns what its contract says, on all
-//! bytes. This crate is not proved, and neither is `unix_path_rattle`, whose functions it calls: it
-//! wraps their slices and vectors in the types of paths. Some methods do not call the library. They
-//! show the bytes as another type, as UTF-8 if Rust's `str` accepts them, or in debug text, or they
-//! compare or hash the bytes of a `UnixStr`. A wrong library would return wrong results, and could
-//! do no more harm than `unix_path_rattle` says.
+//! The source of the assembly is proved: each call of the library returns what its contract says,
+//! on all bytes. This crate is not proved, and neither is `unix_path_rattle`, whose functions it
+//! calls: it wraps their slices and vectors in the types of paths. Some methods do not call the
+//! library. They show the bytes as another type, as UTF-8 if Rust's `str` accepts them, or in debug
+//! text, or they compare or hash the bytes of a `UnixStr`. A wrong library would return wrong
+//! results, and could do no more harm than the documentation of `unix_path_rattle` says.
 //!
 //! # Memory
 //!
@@ -43,8 +43,9 @@
 //!
 //! # Targets
 //!
-//! The targets of `unix_path_rattle`, which contains the assembly: Linux on x86-64 and aarch64, and
-//! Windows on x86-64. Its feature `system` links an installed library instead.
+//! This crate has the targets of `unix_path_rattle`, which contains the assembly: Linux on x86-64
+//! and aarch64, and Windows on x86-64. The feature `system` of `unix_path_rattle` links an
+//! installed library instead.
 #![no_std]
 #![deny(
     missing_docs,

@@ -1,10 +1,11 @@
-//! What a failed call of the library results in.
+//! The end of the program after a failed call of the library.
 use alloc::alloc::{handle_alloc_error, Layout};
 use alloc::vec::Vec;
 use unix_path_rattle::Error;
 
-/// Ends the program as a `Vec` does that cannot grow to this many bytes. For any other error,
-/// panics with its message; if the library is correct, that error is a separator in an extension.
+/// Ends the program after an error. For `NoMemory`, this is how a `Vec` ends it that cannot grow to
+/// `size` bytes. For any other error, panics with the error's message; if the library is correct,
+/// that error is a separator in an extension.
 #[cold]
 pub(crate) fn fail(error: Error, size: usize) -> ! {
     match Layout::array::<u8>(size) {
@@ -13,8 +14,8 @@ pub(crate) fn fail(error: Error, size: usize) -> ! {
     }
 }
 
-/// Returns what a call made, which allocates this many bytes. If the call failed, ends the program
-/// or panics as `fail` does.
+/// Returns the vector that a call made. If the call failed, ends the program or panics as `fail`
+/// does; `size` is the number of bytes that the call allocates.
 #[inline]
 pub(crate) fn made(result: Result<Vec<u8>, Error>, size: usize) -> Vec<u8> {
     result.unwrap_or_else(|error| fail(error, size))

@@ -117,7 +117,7 @@ impl Ord for Path {
     }
 }
 
-/// Feeds the hasher each component, and then an end, as [`Components`] does. Equal paths feed it
+/// Feeds the hasher each component, and then an end mark, like [`Components`]. Equal paths feed it
 /// the same bytes. If the hasher is keyed, its key determines which different paths, or lists of
 /// paths, collide.
 impl Hash for Path {

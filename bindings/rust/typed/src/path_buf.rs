@@ -158,7 +158,7 @@ impl PathBuf {
         }
     }
 
-    /// Returns the most bytes that this path can have once the others are joined to it.
+    /// Returns the greatest length that this path can have after `others` is joined to it.
     fn room_beside(&self, others: &[u8]) -> usize {
         self.bytes.len() + 1 + others.len()
     }

@@ -7,7 +7,7 @@ use core::hash::{Hash, Hasher};
 use core::iter::FusedIterator;
 use unix_path_rattle as calls;
 
-/// The rest of a walk, as a list in debug text.
+/// The rest of a walk, which debug text shows as a list.
 struct Left<I>(I);
 
 impl<I: Iterator<Item: fmt::Debug> + Clone> fmt::Debug for Left<I> {
@@ -76,8 +76,8 @@ impl DoubleEndedIterator for Components<'_> {
 
 impl FusedIterator for Components<'_> {}
 
-/// Feeds the hasher each remaining component, and then a slash and a NUL, with which the bytes of
-/// no component begin.
+/// Feeds the hasher each remaining component, and then an end mark: a slash and a NUL. The bytes of
+/// no component begin with these two.
 impl Hash for Components<'_> {
     #[inline]
     fn hash<H: Hasher>(&self, state: &mut H) {

@@ -8,7 +8,7 @@ use unix_path_typed::{Path, UnixStr};
 
 const ROUNDS: usize = 20_000;
 
-/// Returns true if the text is in the path; an empty one is anywhere.
+/// Returns true if the text is empty or lies in the path's memory.
 fn lies_in(text: &UnixStr, path: &Path) -> bool {
     let inner = text.as_bytes().as_ptr_range();
     let outer = path.as_unix_str().as_bytes().as_ptr_range();

@@ -1,5 +1,5 @@
-//! Checks the rows of `tests/rows.txt`: each is written again with the result of its call. A row
-//! that is written differently is wrong, or is no row.
+//! Checks the rows of `tests/rows.txt`: makes the call of each row, and writes the row again with
+//! the call's result. If the two rows differ, the row in the file is wrong or malformed.
 
 use std::cmp::Ordering;
 

@@ -42,7 +42,8 @@ impl Path {
         self.is_absolute()
     }
 
-    /// Returns the path without its last component, or `None` if that is the root or there is none.
+    /// Returns the path without its last component, or `None` if the path has no component, or only
+    /// the root.
     ///
     /// ```
     /// use unix_path_typed::Path;

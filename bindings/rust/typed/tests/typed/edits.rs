@@ -5,7 +5,7 @@ use std::os::unix::ffi::OsStrExt;
 use std::panic::{catch_unwind, AssertUnwindSafe};
 use unix_path_typed::{Path, PathBuf, UnixStr};
 
-/// A path on both sides. The edits of both have to leave the same bytes.
+/// Our path and the same path of std. An edit has to leave the same bytes in both.
 #[derive(Default)]
 struct Both(PathBuf, std::path::PathBuf);
 
@@ -14,7 +14,7 @@ impl Both {
         Both(ours(bytes).into(), theirs(bytes).into())
     }
 
-    /// Makes the edit of this number on both sides.
+    /// Makes the edit with this number on both paths.
     fn edit(&mut self, number: usize, other: &[u8]) {
         let Both(path, want) = self;
         match number {

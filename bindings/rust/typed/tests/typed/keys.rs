@@ -11,8 +11,8 @@ use std::{rc::Rc, sync::Arc};
 use unix_path_rattle::ByComponents;
 use unix_path_typed::{Path, PathBuf, UnixStr, UnixString};
 
-/// Returns what a path feeds a hasher: its components and then an end. Checks that it is the same
-/// for a borrowed path, an owned path and a walk.
+/// Returns the bytes that a path feeds a hasher: its components and then an end mark. Checks that a
+/// borrowed path, an owned path and a walk feed the same bytes.
 fn fed_by_path(path: &Path) -> Vec<u8> {
     let fed = fed_by(path);
     let parts = path.components().map(fed_by);
@@ -28,9 +28,9 @@ fn fed_by_path(path: &Path) -> Vec<u8> {
     fed
 }
 
-/// Checks that equal paths feed a hasher the same, that different paths do not, and that no feed is
-/// a prefix of another. Therefore no two different paths, or lists of paths, collide under every
-/// key of a hasher.
+/// Checks that equal paths feed a hasher the same bytes, that different paths do not, and that no
+/// path's bytes are a prefix of another's. So different paths, or different lists of paths, may
+/// collide under one key of a hasher, but not under every key.
 #[test]
 fn hashers_are_fed_the_parts() {
     let mut feeds = HashMap::new();
@@ -42,8 +42,8 @@ fn hashers_are_fed_the_parts() {
     }
     let sorted: BTreeSet<_> = feeds.values().collect();
     assert_eq!(sorted.len(), feeds.len());
-    // In this order, a feed that is a prefix of another is also a prefix of the feed right after
-    // it.
+    // The set is sorted: a feed that is a prefix of some other feed is also a prefix of the next
+    // one.
     let sorted: Vec<_> = sorted.into_iter().collect();
     assert!(sorted.windows(2).all(|pair| !pair[1].starts_with(pair[0])));
 }
@@ -107,7 +107,8 @@ fn other_spellings() {
     assert_eq!(texts.get(UnixStr::new("a")), Some(&1));
 }
 
-/// Checks that two paths whose hashes collide under one key do not collide under most other keys.
+/// Checks that two paths whose hashes collide under one key of a hasher don't collide under most
+/// other keys.
 #[test]
 fn keys_of_hashers_count() {
     let keys: Vec<RandomState> = (0..64).map(|_| RandomState::new()).collect();

@@ -11,8 +11,8 @@ fn hash_of(key: impl Hash) -> u64 {
     hasher.finish()
 }
 
-/// Runs the check on all pairs whose shorter string has at most four bytes, and on many random
-/// strings, each with one that is similar and one that is not.
+/// Runs the check on all pairs of short strings of which one has at most four bytes. Also runs it
+/// on many random strings, each paired with a similar string and with a different one.
 fn each(check: fn(&[u8], &[u8])) {
     let (short, shorter) = (short(6), short(4));
     for a in &short {
@@ -71,8 +71,8 @@ fn made_of_two() {
     });
 }
 
-/// Checks that components that are removed and joined again, or pushed one by one, form the same
-/// path.
+/// Checks that the components of a path form the same path if they are removed and joined again, or
+/// pushed one by one.
 #[test]
 fn parts_make_the_path() {
     each(|a, b| {

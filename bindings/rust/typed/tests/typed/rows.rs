@@ -41,7 +41,7 @@ impl Answer for Result<&Path, StripPrefixError> {
     }
 }
 
-/// Calls that are operators of the types, or other methods.
+/// Calls whose functions are operators of the types, or methods with other names.
 trait Renamed {
     fn is_utf8(&self) -> bool;
     fn equal(&self, other: &UnixStr) -> bool;
@@ -66,8 +66,8 @@ impl Renamed for Path {
     }
 }
 
-/// Names the calls that the types lack, so that a row of another call is either checked or a
-/// compile error.
+/// Lists the calls that the types lack, whose rows are skipped. The type checker finds a method for
+/// each other call, or reports an error.
 macro_rules! lacking {
     ($($name:ident($($other:tt)?))*) => {
         #[allow(clippy::wrong_self_convention)]
@@ -101,8 +101,8 @@ fn component(bytes: &[u8]) -> Component<'_> {
     }
 }
 
-/// Returns the components, each with its index, at which the rest began before it was taken. Checks
-/// that they are the same from the back.
+/// Returns the components, each with its index: the rest of the walk began there before the
+/// component was taken. Checks that a walk from the back yields the same components.
 fn parts(path: &[u8]) -> Vec<String> {
     let (mut rest, mut taken, mut fields) = (ours(path).components(), vec![], vec![]);
     let whole = bytes(rest.as_path());
@@ -129,7 +129,7 @@ fn ancestors(path: &[u8]) -> Vec<String> {
     fields.into_iter().map(|mut it| it.remove(0)).collect()
 }
 
-/// Returns the calls that are checked in their own way, and then the calls of each other shape.
+/// Returns all calls: first those that are checked in their own way, then the others by signature.
 fn all_calls() -> Vec<Call> {
     let mut calls: Vec<Call> = vec![
         ("components", 1, |a, _| parts(a)),

@@ -21,7 +21,8 @@ fn each(check: fn(&[u8])) {
     random(100_000).iter().for_each(|s| check(s));
 }
 
-/// Takes components from both ends by the bits of a number, and checks the rest before each.
+/// Takes a component for each bit of `bits`, lowest first: from the front for 0, and from the back
+/// for 1. Checks the rest before each step.
 fn walk_by(s: &[u8], bits: u32) {
     let (mut parts, mut want) = (ours(s).components(), theirs(s).components());
     let (mut texts, mut want_texts) = (ours(s).iter(), theirs(s).iter());

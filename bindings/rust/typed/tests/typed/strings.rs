@@ -1,4 +1,4 @@
-//! The byte strings of the tests, and the views of them on both sides.
+//! The byte strings of the tests, as our types and as types of std.
 #[path = "../../../tests/calls/short_strings.rs"]
 mod short_strings;
 
@@ -37,8 +37,8 @@ impl Random {
             .collect()
     }
 
-    /// Returns a string that shares its beginning, its end, or all of it with this one, sometimes
-    /// with an insertion that may leave its components unchanged.
+    /// Returns a string that shares its beginning, its end, or all of its bytes with `s`. Sometimes
+    /// bytes are inserted that may leave the components unchanged.
     pub fn variant(&mut self, s: &[u8]) -> Vec<u8> {
         let cut = self.below(s.len() + 1);
         let kept = [&s[..cut], &s[cut..], s][self.below(3)];
