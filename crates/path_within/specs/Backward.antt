@@ -25,8 +25,8 @@ parent_dir_count (v ∷ vs) = parent_dir_count vs
 unfoldable pub remaining_parent_dirs : List Value → ℕ
 remaining_parent_dirs vs = parent_dir_count (resolve_onto [] vs)
 
--- the last n of the names that remain of these components after resolving, or all if there are
--- fewer
+-- the last n of the names that remain of vs after resolving, or all these names if there are fewer
+-- than n
 abbrev pub last_names : ℕ → List Value → List Value
 last_names n vs = drop (length (names_below vs) - n) (names_below vs)
 
@@ -43,8 +43,8 @@ value_in (Name name) = Normal name.bytes.now
 abbrev pub piece_values : List ℕ → List Value
 piece_values s = map piece_value (slice_split is_slash s)
 
--- `name` is the last name that remains of vs after resolving, and the components ws before it
--- resolve to the same names and `..` as vs, except `name`
+-- `name` is the last name that remains of vs after resolving; ws is shorter than vs, and after
+-- resolving the same `..` and the same other names remain of ws
 pub record TakesName (name : List ℕ) (vs ws : List Value) : Type 0 where
   pub names : names_below vs ≡ names_below ws ++ Normal name ∷ []
   pub parent_dirs : remaining_parent_dirs vs ≡ remaining_parent_dirs ws
@@ -55,8 +55,8 @@ pub record HasParentDirs (n : ℕ) (vs : List Value) : Type 0 where
   pub names : names_below vs ≡ []
   pub parent_dirs : remaining_parent_dirs vs ≡ n
 
--- the result of taking the last name that remains of vs: either this name, with the components ws
--- before it, or, if no name remains, the number of `..` that remain
+-- the result of taking the last name that remains of vs after resolving: `Name name`, with ws still
+-- to be resolved, or, if no name remains, `ParentDirs n` for the n times `..` that remain
 abbrev pub Takes : LastResolved → List Value → List Value → Type 0
 Takes (last.Name name) vs ws = TakesName name.bytes.now vs ws
 Takes (ParentDirs n) vs ws = HasParentDirs n vs
@@ -69,16 +69,16 @@ pub record TakesLast (all rest : List Value) (count len : ℕ) : Type 0 where
   pub count_is : length taken ≡ count
   pub len_is : len ≡ slashed_len taken
 
--- s and t have the same components up to `index`; the components after them are, for each string,
--- those of its bytes from `index` on
+-- s and t both begin with the components `shared`; the further components of each string are those
+-- of its bytes from `index` on
 pub record SharePrefix (s t : List ℕ) (index : ℕ) : Type 0 where
   pub shared : List Value
   pub first : values s ≡ shared ++ values (drop index s)
   pub second : values t ≡ shared ++ values (drop index t)
 
--- `new` is `out` after these components, each after a slash, have overwritten its bytes from index
--- `start` to just before index `end`; both indices count an imaginary slash before `out`, at index
--- 0
+-- vs, each after a slash, are the bytes of `new` from index `start` to just before `end`: if the
+-- bytes of `out` from `end` on are components ws, each after a slash, those of `new` from `start`
+-- on are vs and then ws. Both indices count an imaginary slash before `out` and `new`, at index 0
 pub record Puts (vs : List Value) (end : ℕ) (out : List ℕ) (start : ℕ) (new : List ℕ) : Type 0 where
   pub size : start + slashed_len vs ≡ end
   pub bytes : (ws : List Value) → drop end (slash ∷ out) ≡ slash_each ws

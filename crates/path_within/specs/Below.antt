@@ -33,12 +33,13 @@ ends_in_slash s =
 unfoldable pub below_of : List ℕ → List Value → List ℕ
 below_of root names = join_all_of root (map value_bytes names)
 
--- the path starts with the root's components, and the rest has neither a root nor a `..`
+-- `path` starts with the components of `root`, and the rest of `path` after them has neither a root
+-- nor a `..`
 pub record GoesDown (root path : List ℕ) : Type 0 where
   pub begins : IsPrefixOf (values root) (values path)
   pub names : has_root_or_parent_dir (values (stripped_of path root)) ≡ false
 
--- the path goes down from the root, and no NUL follows the root
+-- `path` goes down from `root`, and the rest of `path` after `root` has no NUL
 pub record IsBelow (root path : List ℕ) : Type 0 where
   pub down : GoesDown root path
   pub no_nul : has_nul (stripped_of path root) ≡ false

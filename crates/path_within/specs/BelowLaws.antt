@@ -21,22 +21,25 @@ BelowResolves =
 abbrev pub BelowSlash : Type 0
 BelowSlash = (b : List ℕ) → names_below (values (slash ∷ b)) ≡ names_below (values b)
 
--- the names of a request represent themselves
+-- the names that a request represents, taken as the components of a request, represent the same
+-- names
 abbrev pub BelowAgain : Type 0
 BelowAgain =
     (b : List ℕ) → names_below (names_below (values b)) ≡ names_below (values b)
 
--- the bytes of a join begin with the root's bytes
+-- the join of `root` and the names of the request b begins with the bytes of `root`
 abbrev pub BelowHasPrefix : Type 0
 BelowHasPrefix = (root b : List ℕ) → IsPrefixOf root (below_of root (names_below (values b)))
 
--- the components of a join are the root's own components and then the request's names
+-- the join of `root` and the names of the request b has the components of `root` and then these
+-- names
 abbrev pub BelowAddsNames : Type 0
 BelowAddsNames =
     (root b : List ℕ) → values (below_of root (names_below (values b)))
     ≡ values root ++ names_below (values b)
 
--- without its root, a join has the request's names
+-- without `root`, the join of `root` and the names of the request b has these names as its
+-- components
 abbrev pub BelowStripped : Type 0
 BelowStripped =
     (root b : List ℕ) → values (stripped_of (below_of root (names_below (values b))) root)
@@ -49,13 +52,15 @@ BelowWithin =
     → below_of (resolved_bytes_of root) (names_below (values b))
     ≡ resolved_bytes_of (join_of root b)
 
--- a path that goes down from a root that is not empty is equal to a join
+-- if `path` goes down from `root`, and `root` is not empty, `path` is equal to the join of `root`
+-- and the names that the rest of `path` after `root` represents
 abbrev pub DownIsJoined : Type 0
 DownIsJoined =
     (root path : List ℕ) → GoesDown root path → root ≢ []
     → SameValues (below_of root (names_below (values (stripped_of path root)))) path
 
--- a path that goes down from the empty root is equal to a join, except for a leading `.`
+-- if `path` goes down from the empty root, the join of the empty root and the names that the rest
+-- of `path` represents has the components of `path`, except a leading `.`
 abbrev pub DownIsJoinedHere : Type 0
 DownIsJoinedHere =
     (path : List ℕ) → GoesDown [] path

@@ -13,7 +13,7 @@ names_in n = last_names n.count (values n.path.bytes.now)
 abbrev pub layout_names : Layout → List Value
 layout_names l = names_in l.names ++ names_in l.more
 
--- the components of a layout: the root or `..`, and then the names
+-- the components of a layout: the root if it has one, and otherwise its `..`, and then its names
 abbrev pub layout_values : Layout → List Value
 layout_values l =
     if l.has_root then RootDir ∷ layout_names l

@@ -13,8 +13,8 @@ is_name_piece piece = counts piece && not (bytes_eq piece parent_dir)
 abbrev pub has_only_name_pieces : List ℕ → Bool
 has_only_name_pieces s = list_all is_name_piece (slice_split is_slash s)
 
--- the path is one of names only: all pieces are names, except the empty piece before the root if
--- there is one
+-- the path is one of names only: all its pieces are names, except, in a path with a root, the empty
+-- piece before the first slash
 abbrev pub is_names_only : List ℕ → Bool
 is_names_only s = has_only_name_pieces (if is_rooted s then drop 1 s else s)
 

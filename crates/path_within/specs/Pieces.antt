@@ -4,6 +4,6 @@ use Rattle.unix_path.specs.Parts.{Value}
 use Rattle.path_within.specs.Backward.{piece_values}
 use Rattle.path_within.specs.declared.backward.Pieces.{Pieces}
 
--- these pieces as components, from the first to the last
+-- the pieces of p that have not been taken, as components, from the first to the last
 abbrev pub remaining_values : Pieces → List Value
 remaining_values p = if p.is_exhausted then [] else piece_values p.rest.now

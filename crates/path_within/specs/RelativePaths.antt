@@ -20,8 +20,8 @@ steps_between v w =
     if list_all is_name v && not (list_any is_root w) then Some (map (λ x. ParentDir) v ++ w)
     else None
 
--- the relative path from one list of components to another: both are resolved, and the prefix that
--- they share is dropped
+-- the relative path from the components `from` to the components `to`: both are resolved, their
+-- common prefix is dropped, and the result is `steps_between` of the two rests
 unfoldable pub relative_path_of : List Value → List Value → Option (List Value)
 relative_path_of from to =
     let v = resolved_of from in

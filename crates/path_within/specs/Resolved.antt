@@ -24,11 +24,12 @@ abbrev pub resolve_onto : List Value → List Value → List Value
 resolve_onto stack [] = stack
 resolve_onto stack (v ∷ vs) = resolve_onto (push_component stack v) vs
 
--- the components that remain after each `..` has dropped the name before it
+-- the components that remain of vs after resolving: the stack after vs, from its lowest component
+-- to its top
 unfoldable pub resolved_of : List Value → List Value
 resolved_of vs = reverse (resolve_onto [] vs)
 
--- a path's components, resolved, in canonical form
+-- the canonical form of a path's resolved components
 abbrev pub resolved_bytes_of : List ℕ → List ℕ
 resolved_bytes_of s = spelling_of (resolved_of (values s))
 

@@ -11,11 +11,11 @@ use Rattle.path_within.specs.Escapes.{Escapes, has_root_or_parent_dir}
 abbrev pub ResolvedIsNormal : Type 0
 ResolvedIsNormal = (s : List ℕ) → IsNormal (resolved_of (values s))
 
--- the bytes of a resolved path have the resolved components
+-- the resolved bytes of s, parsed as a path, have the resolved components of s
 abbrev pub ResolvedReadsBack : Type 0
 ResolvedReadsBack = (s : List ℕ) → values (resolved_bytes_of s) ≡ resolved_of (values s)
 
--- resolving again changes nothing
+-- resolving the resolved bytes of a path again does not change them
 abbrev pub ResolvedAgain : Type 0
 ResolvedAgain =
     (s : List ℕ) → resolved_bytes_of (resolved_bytes_of s) ≡ resolved_bytes_of s
@@ -35,13 +35,13 @@ ResolvedOfJoin =
 abbrev pub ResolvedIsShort : Type 0
 ResolvedIsShort = (s : List ℕ) → length (resolved_bytes_of s) ≤ length s
 
--- a resolved join is at most one byte longer than both paths together
+-- the resolved join of a and b is at most one byte longer than a and b together
 abbrev pub ResolvedJoinIsShort : Type 0
 ResolvedJoinIsShort =
     (a b : List ℕ) → length (resolved_bytes_of (join_of a b)) ≤ length a + 1 + length b
 
--- the components of a join with a request that does not escape resolve to the root's resolved
--- components and then the request's resolved components
+-- if the request b does not escape, its join to the root a resolves to the resolved components of a
+-- and then the resolved components of b
 abbrev pub WithinAddsNames : Type 0
 WithinAddsNames =
     (a b : List ℕ) → (Escapes (values b) → ⊥)

@@ -20,8 +20,8 @@ use Rattle.path_within.specs.WrittenBytes.{root_prefix, slashed_len}
 use Rattle.path_within.proofs.lemmas.below.BelowLemmas.{below_of-nil, below_of-some}
 use Rattle.path_within.proofs.lemmas.below.BoundLemmas.{length-slashed_bytes, slashed_len-cons}
 
--- the length of a join is the length of the root plus that of the names, with a slash for each
--- name, except the first if the root needs no separator
+-- if vs is not empty, and no component of vs begins or ends with a slash, the join of the root and
+-- vs is as long as the root and vs with a slash for each, minus 1 if the root needs no separator
 pub length-joined : (root : List ℕ) (vs : List Value) → AllByRecursion IsUnslashedValue vs
     → 0 < slashed_len vs
     → length (below_of root vs) + from_bool (needs_no_separator root) ≡ length root + slashed_len vs
@@ -46,8 +46,8 @@ pub length-nameless : (root : List ℕ) (vs : List Value) → slashed_len vs ≡
 length-nameless root [] e = ap length (below_of-nil root refl)
 length-nameless root (v ∷ vs) e = absurd (omega (arith, e, slashed_len-cons v vs))
 
--- a join is at most one byte shorter than its names with a slash for each, and at least as long as
--- the root
+-- if no component of vs begins or ends with a slash, the join of the root and vs is at most one
+-- byte shorter than vs with a slash for each, and at least as long as the root
 pub joined_fits : (root : List ℕ) (vs : List Value) → AllByRecursion IsUnslashedValue vs
     → (slashed_len vs ≤ 1 + length (below_of root vs)) × (length root ≤ length (below_of root vs))
 joined_fits root [] h =
@@ -59,8 +59,9 @@ joined_fits root (v ∷ vs) h =
     (λ e. (omega (arith, all, ap from_bool e), omega (arith, all, some, ap from_bool e)))
     (λ e. (omega (arith, all, ap from_bool e), omega (arith, all, ap from_bool e)))
 
--- if names are written to the end of a buffer of the join's length, and then the root to its
--- beginning, the buffer contains the join
+-- if no component of vs begins or ends with a slash, and vs is written to the end of a buffer that
+-- is as long as the join of the root and vs, and then the root to its beginning, the buffer
+-- contains this join
 pub joined : {out new : List ℕ} {start : ℕ} (root : List ℕ) (vs : List Value)
     → AllByRecursion IsUnslashedValue vs → Puts vs (1 + length out) out start new
     → length new ≡ length out → length out ≡ length (below_of root vs)
@@ -94,8 +95,9 @@ joined {out} {new} {start} root (v ∷ vs) h puts same size =
     sym cut ∙ ap (λ n. drop n (slash ∷ new)) (sym at) ∙ bytes in
     rw e (append_assoc root (slash ∷ []) names ∙ ap (λ s. root ++ s) (sym rest))))
 
--- if `whole` is written over the beginning of bytes that are at least as long, the result begins
--- with `whole`, whatever follows the result
+-- if `new` is `old` with `whole` written over its beginning, and `old` is at least as long as
+-- `whole`, then the first n bytes of `new` and any bytes after it begin with `whole`, if n is at
+-- least the length of `whole`
 pub written_over : {whole new : List ℕ} {len n : ℕ} (old spare : List ℕ)
     → new ≡ buffer_after whole old → len ≡ length whole → length whole ≤ length old
     → len ≤ n → take len (take n (new ++ spare)) ≡ whole

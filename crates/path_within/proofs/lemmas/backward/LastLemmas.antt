@@ -21,8 +21,9 @@ pub record Leaves (n : ℕ) (vs all : List Value) : Type 0 where
   pub stack : (ks : List Value) → push_parent_dirs n (resolve_onto ks vs) ≡ resolve_onto ks all
   pub space : n + length vs ≤ length all
 
--- the statement about ws, the components before v, after v was taken from the end of `all`; n of
--- the `..` taken before v have not dropped a name yet
+-- the fact about `all` after v was taken from its end and ws remain, if n of the `..` taken before
+-- have not dropped a name yet: a root leaves neither names nor `..`; a name is the last name if n
+-- is 0, and otherwise is dropped; `..` adds one to n
 abbrev pub Taken : ℕ → Value → List Value → List Value → Type 0
 Taken n RootDir ws all = HasParentDirs 0 all
 Taken n CurDir ws all = Leaves n ws all
@@ -76,7 +77,8 @@ taken {n} {vs} {all} {v} {w} m ws h e f g = by m w
           fewer = omega arith;
         }
 
--- if no component remains, there is no name, and all n `..` remain
+-- if no component remains to be taken, and n of the `..` taken have not dropped a name, then no
+-- name and n times `..` remain of `all` after resolving
 pub none_remain : {n : ℕ} {vs all : List Value} → Leaves n vs all → vs ≡ [] → HasParentDirs n all
 unfolding remaining_parent_dirs
 none_remain {n} {vs} {all} h e =

@@ -34,7 +34,8 @@ use Rattle.path_within.proofs.lemmas.stack.RelativePathLemmas.{spelling_of-strai
 use Rattle.path_within.proofs.lemmas.names_only.NamesOnlyLemmas.{names_only_has_names}
 use Rattle.path_within.proofs.lemmas.names_only.NamesOnlyLemmas.{resolved-names_only}
 
--- each `..` has three bytes, with its slash
+-- n times `..` and then vs, with a slash for each, are 3 * n bytes longer than vs with a slash for
+-- each
 pub slashed_len-parent_dir_run : (n : ℕ) (vs : List Value)
     → slashed_len (replicate n ParentDir ++ vs) ≡ 3 * n + slashed_len vs
 slashed_len-parent_dir_run n vs = omega (
@@ -63,8 +64,8 @@ names_append [] ws h k = k
 names_append (Normal name ∷ vs) ws h k = names_append vs ws h k
 names_append (v ∷ vs) ws h k = absurd h
 
--- if one more name remains of vs than of ws, the last n names of vs are the last n - 1 names of ws
--- and then that name
+-- if n is not 0, and the names that remain of vs are those that remain of ws and then `name`, the
+-- last n names of vs are the last n - 1 names of ws and then `name`
 pub last_names-push : (n : ℕ) (vs ws : List Value) (name : List ℕ) → 0 < n
     → names_below vs ≡ names_below ws ++ Normal name ∷ []
     → last_names n vs ≡ last_names (n - 1) ws ++ Normal name ∷ []
@@ -126,8 +127,9 @@ length-rootless s r = omega (
   length-resolved s,
 )
 
--- if a buffer is filled from its end, first with names, then with the names before them, and then
--- with `..`, it contains the `..` and then all the names, with slashes between them
+-- if ws are written to the end of `out`, vs before them, and `..` before vs from index 0 on, and
+-- `out` is as long as n times `..`, vs and ws with slashes between them, the result `new` consists
+-- of these components with slashes between them
 pub puts_layout : {ws vs : List Value} {mid end : ℕ} {out made more new : List ℕ}
     → Puts ws (1 + length out) out mid made → Puts vs mid made end more
     → ((n : ℕ) → end ≡ 3 * n → Puts (replicate n ParentDir) end more 0 new)
@@ -203,7 +205,8 @@ layout_names-len l = omega (
   l.more.len_is,
 )
 
--- the length of a layout's canonical form, with a root and, in the next lemma, without one
+-- if a layout has a root, its canonical form has one byte for the root, and the length of its names
+-- with slashes only between them
 pub length-rooted_layout : (l : Layout) → l.has_root ≡ true
     → length (spelling_of (layout_values l)) ≡ 1 + ((l.names.len + l.more.len) - 1)
 length-rooted_layout l r = omega (
@@ -222,12 +225,13 @@ length-rootless_layout l r = omega (
   layout_names-len l,
 )
 
--- the components of a layout: the root or n times `..`, and then vs
+-- the components of a layout: the root if the first argument is true, and otherwise n times `..`;
+-- and then vs
 abbrev pub laid_out : Bool → ℕ → List Value → List Value
 laid_out r n vs = cond r (RootDir ∷ vs) (replicate n ParentDir ++ vs)
 
--- if a path t of names only represents the names of s and, if s has no root, resolves to the same
--- components as s, then no `..` remains of s
+-- if t is a path of names only that represents the names of s, and s has a root or t and s resolve
+-- to the same components, then no `..` remains of s
 pub no_parent_dirs : {t s : List ℕ} → RepresentsNames t s
     → (is_rooted s ≡ false → resolved_of (values t) ≡ resolved_of (values s))
     → is_names_only t ≡ true → 0 ≡ remaining_parent_dirs (values s)
@@ -245,7 +249,8 @@ no_parent_dirs {t} {s} represents_names same h = by_test (is_rooted s)
       length-replicate n ParentDir,
     ))
 
--- a layout with the root, the `..` and the names of a path has the path's resolved components
+-- if r says whether s has a root, n is the number of `..` that remain of s, and vs are the resolved
+-- names of s, `laid_out r n vs` are the resolved components of s
 pub laid_out-resolved : {r : Bool} {n : ℕ} {vs : List Value} (s : List ℕ) → r ≡ is_rooted s
     → n ≡ remaining_parent_dirs (values s) → vs ≡ names_below (values s)
     → laid_out r n vs ≡ resolved_of (values s)

@@ -34,8 +34,8 @@ record LeavesParentDirs (stack below : List Value) : Type 0 where
   stack_is : stack ≡ names ++ replicate parent_dirs ParentDir
   below_is : below ≡ on_root names
 
--- `LeavesParentDirs` is still true of two stacks after the same components without a root are
--- resolved onto both
+-- if the names ks are on top of n times `..` in one stack, and on top of the root in another,
+-- `LeavesParentDirs` is true of the two stacks after vs, which have no root, are resolved onto both
 leaves_parent_dirs : (n : ℕ) (ks vs : List Value) → AllNames ks → NoRoot vs
     → LeavesParentDirs (resolve_onto (ks ++ replicate n ParentDir) vs)
     (resolve_onto (on_root ks) vs)
@@ -101,7 +101,7 @@ resolved_of-rooted s r =
     ap (λ s. resolved_of (values s)) t.1 ∙ resolved_of-slash t.0
     ∙ ap (λ vs. RootDir ∷ vs) (sym (ap (λ s. names_below (values s)) t.1 ∙ names_below-slash t.0))
 
--- the root of a path, if it has one
+-- a list of only the root if the argument is true, and otherwise the empty list
 abbrev pub root_if : Bool → List Value
 root_if true = RootDir ∷ []
 root_if false = []

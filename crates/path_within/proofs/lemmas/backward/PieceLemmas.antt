@@ -75,7 +75,8 @@ one_piece (x ∷ p) e = by_test (is_slash x)
     rw no (omega arith) in
     slice_split-cons_no is_slash x p no ∙ ap (onto_first x) (one_piece p (omega (arith, rest, e))))
 
--- the bytes before the last slash of a string have all its pieces except the last
+-- if the last slash of s is at index n - 1, the pieces of s are those of u, the bytes before this
+-- slash, and then p, the bytes after it
 pub last_piece : {u p : List ℕ} (s : List ℕ) (n : ℕ) → 0 < n → n ≤ length s
     → get_or s (n - 1) 0 ≡ slash
     → u ≡ take (n - 1) s → p ≡ drop n s → position_or_len is_slash p ≡ length p
@@ -93,7 +94,7 @@ last_piece {u} {p} s n some in_range here e f none =
     ∙ map-append piece_value (slice_split is_slash u) (slice_split is_slash p)
     ∙ ap (λ ps. piece_values u ++ map piece_value ps) (one_piece p none)
 
--- a string without a slash is one piece
+-- if p is s and has no slash, p is the only piece of s
 pub only_piece : {s p : List ℕ} → p ≡ s → position_or_len is_slash p ≡ length p
     → piece_values s ≡ piece_value p ∷ []
 only_piece {s} {p} e none =
@@ -120,7 +121,8 @@ not_filler-rootless : (s : List ℕ) → is_filler s 0 ≡ false → is_rooted s
 not_filler-rootless [] not_filler = refl
 not_filler-rootless (x ∷ s) not_filler = grind (arith, not_filler)
 
--- the path without leading filler represents the path's names
+-- if u has the components of s and the inner components of t, and t does not begin with filler, t
+-- represents the names of s
 pub after_filler-represents_names : (u t s : List ℕ) → values u ≡ values s
     → inner_values u ≡ inner_values t → is_filler t 0 ≡ false → RepresentsNames t s
 after_filler-represents_names u t s same inner not_filler = record {
@@ -129,7 +131,8 @@ after_filler-represents_names u t s same inner not_filler = record {
       ∙ ap names_below same;
 }
 
--- if the path has no root, the path without leading filler resolves to the same components
+-- if u has the components of s and the inner components of t, t does not begin with filler, and s
+-- has no root, then t resolves to the same components as s
 pub after_filler-resolved : (u t s : List ℕ) → values u ≡ values s
     → inner_values u ≡ inner_values t → is_filler t 0 ≡ false → is_rooted s ≡ false
     → resolved_of (values t) ≡ resolved_of (values s)

@@ -35,7 +35,7 @@ puts_none {vs} {end} {out} e = record {
   bytes = λ ws h. h ∙ ap (λ vs. slash_each (vs ++ ws)) (sym e);
 }
 
--- writing the components ws, and then the components vs before them, writes vs and then ws
+-- if ws are written before `end`, and then vs before ws, this writes vs and then ws before `end`
 pub puts_then : {vs ws : List Value} {end mid start : ℕ} {out made new : List ℕ}
     → Puts ws end out mid made → Puts vs mid made start new → Puts (vs ++ ws) end out start new
 puts_then {vs} {ws} g h = record {
@@ -44,7 +44,8 @@ puts_then {vs} {ws} g h = record {
       ∙ ap slash_each (sym (append_assoc vs ws us));
 }
 
--- writing a slash and then bytes that are names verbatim writes these names
+-- if the bytes of `new` from `start` on are a slash, `bytes`, which are the names vs verbatim, and
+-- then the bytes of `out` from `end` on, `Puts` is true of vs
 pub puts_verbatim : {end start : ℕ} {out new bytes : List ℕ} {vs : List Value}
     → AreVerbatim bytes vs → start + (1 + length bytes) ≡ end
     → drop start (slash ∷ new) ≡ slash ∷ bytes ++ drop end (slash ∷ out)
@@ -68,14 +69,16 @@ puts_verbatim {end} {start} {out} {new} {bytes} {vs} h e f = by vs h.some h.is
               ∙ ap (λ s. s ++ slash_each ws) each ∙ sym (slash_each-append (v ∷ vs) ws);
         }
 
--- writing a slash and then the bytes of a component writes this component
+-- if the bytes of `new` from `start` on are a slash, the bytes of the component v, and then the
+-- bytes of `out` from `end` on, `Puts` is true of v
 pub puts_value : {end start : ℕ} {out new : List ℕ} (v : Value)
     → start + (1 + length (value_bytes v)) ≡ end
     → drop start (slash ∷ new) ≡ slash ∷ value_bytes v ++ drop end (slash ∷ out)
     → Puts (v ∷ []) end out start new
 puts_value v e f = puts_verbatim (record { some = omega arith; is = refl }) e f
 
--- if components fill a buffer, its bytes are the components with slashes between them
+-- if components are written to all of a buffer, its bytes are these components with slashes between
+-- them
 pub puts_all : {vs : List Value} {out new : List ℕ} → Puts vs (1 + length out) out 0 new
     → new ≡ slashed_bytes vs
 puts_all {vs} {out} {new} h = by vs h.size (h.bytes [] none)

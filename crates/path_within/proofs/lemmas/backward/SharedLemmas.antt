@@ -25,11 +25,11 @@ use Rattle.path_within.proofs.lemmas.below.BoundLemmas.{slashed_len-cons}
 use Rattle.path_within.proofs.lemmas.stack.BetweenLemmas.{shared_count, shared_count-behind}
 use Rattle.std.proofs.Math.Seq.{drop-append-add}
 
--- the state of comparing two lists from their ends: components have been taken from the end of each
--- list, and `first` and `second`, `remaining_count` components each, remain; if `first` and
--- `second` are equal, both lists begin with `shared` equal components, and `len` is the length of
--- the second list's components after these; `behind` is the length of the components taken from the
--- second list; both lengths have a slash for each component
+-- the state while `all_first` and `all_second` are compared from their ends. Of both lists as many
+-- components remain, `remaining_count`: `first` and `second`. If these are equal, both lists begin
+-- with `shared` equal components, and `len` is the length of the second list's components after
+-- them. `behind` is the length of the components taken from the second list. Both lengths have a
+-- slash for each component
 pub record Shares (all_first all_second first second : List Value)
     (remaining_count shared behind len : ℕ)
     : Type 0 where
@@ -80,8 +80,9 @@ shares_first {first} {second} v w e f g h a b =
       len_is = h.len_is ∙ ap (λ k. slashed_len (drop k h.taken)) (sym none);
     }
 
--- `Shares` is still true after the last remaining component of each list is taken; if these two
--- components differ, only components before them can be shared
+-- after v and w, the last remaining components of the two lists, are taken, `Shares` is still true:
+-- if v and w are equal, `shared` and `len` stay, and otherwise only components before v and w can
+-- be shared
 pub shares_taken : {all_first all_second first second vs ws : List Value}
     {remaining_count shared behind len : ℕ} (b : Bool) (v w : Value)
     → Shares all_first all_second first second remaining_count shared behind len
@@ -150,7 +151,7 @@ by_bytes x y h = by_test (bytes_eq (value_bytes x) (value_bytes y))
 pub same_bytes : (a b : List ℕ) → same_value (Normal a) (Normal b) ≡ bytes_eq a b
 same_bytes a b = by_bytes (Normal a) (Normal b) (ap Normal)
 
--- the first components of two paths can be compared by their bytes
+-- the first components of two paths are equal if and only if their bytes are equal
 pub same_first : (s t : List ℕ) {x y : Value} {remaining other_remaining : List Value} → values s
     ≡ x ∷ remaining
     → values t ≡ y ∷ other_remaining → same_value x y ≡ bytes_eq (value_bytes x) (value_bytes y)
@@ -194,7 +195,7 @@ none_shared_if_second_empty v e = ap (shared_count v) e ∙ by v
 
 -- ---- two paths that begin with the same bytes
 
--- where a name starts there is no filler
+-- if a name starts at index n of s, no filler starts there
 not_filler_at_name : (s : List ℕ) (n : ℕ) → name_starts_at s n ≡ true → is_filler (drop n s) 0
     ≡ false
 not_filler_at_name s n h = is_filler-drop s n ∙ by_test (ltb n (length s))

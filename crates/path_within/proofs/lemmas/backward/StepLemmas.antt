@@ -34,8 +34,8 @@ parent_dirs_for-count : (vs : List Value) → parent_dirs_for vs ≡ replicate (
 parent_dirs_for-count [] = refl
 parent_dirs_for-count (v ∷ vs) = ap (λ us. ParentDir ∷ us) (parent_dirs_for-count vs)
 
--- if two lists are a common prefix and then names, the relative path has a `..` for each name of
--- the first that is not shared, and then the names of the second that are not shared
+-- if v and w have only names, the relative path from f and v to f and w has a `..` for each name of
+-- v after the common prefix of v and w, and then the names of w after this prefix
 steps_after_prefix : (f v w : List Value) → AllNames v → AllNames w
     → steps_from (f ++ v) (f ++ w)
     ≡ Some (replicate (length v - shared_count v w) ParentDir ++ drop (shared_count v w) w)
@@ -47,8 +47,8 @@ steps_after_prefix f v w h k =
     (ap (λ us. Some (us ++ drop n w)) (parent_dirs_for-count (drop n v)
     ∙ ap (λ n. replicate n ParentDir) (length-drop n v)))
 
--- if, after a common prefix, the first list has names and the second begins with `..`, the relative
--- path has a `..` for each of these names, and then the rest of the second list
+-- if v has only names, and w is zero or more `..` and then names, the relative path from f and v to
+-- f, `..` and w has a `..` for each name of v, and then this `..` and w
 steps_parent_dirs : (f v w : List Value) → AllNames v → ParentDirsThenNames w
     → steps_from (f ++ v) (f ++ ParentDir ∷ w)
     ≡ Some (replicate (length v) ParentDir ++ ParentDir ∷ w)
@@ -71,8 +71,7 @@ steps_parent_dirs f v w h k =
     by (Normal name ∷ v) h = refl
     by (x ∷ v) h = absurd h
 
--- if, after a common prefix, the first list begins with `..` and the second has only names, there
--- is no relative path
+-- if w has only names, there is no relative path from f, `..` and v to f and w
 no_steps_parent_dirs : (f v w : List Value) → AllNames w → steps_from (f ++ ParentDir ∷ v) (f ++ w)
     ≡ None
 no_steps_parent_dirs f v w h =
@@ -118,8 +117,9 @@ no_relative_path-roots s t differ = by_test (is_rooted s)
     to_root [] w h = refl
     to_root (x ∷ v) w h = grind arith
 
--- if equally many `..` remain of both paths, the relative path has a `..` for each name of the
--- first that is not shared, and then the names of the second that are not shared
+-- if s and t both have a root or both have none, and equally many `..` remain of both, the relative
+-- path has a `..` for each resolved name of s that is not shared, and then the resolved names of t
+-- that are not shared; shared are those in their common prefix
 pub relative_path-shared : (s t : List ℕ) → is_rooted s ≡ is_rooted t
     → remaining_parent_dirs (values s) ≡ remaining_parent_dirs (values t)
     → (let v = names_below (values s) in let w = names_below (values t) in
@@ -143,8 +143,8 @@ split_first_parent_dir : (n : ℕ) (vs : List Value) → 0 < n
 split_first_parent_dir n vs l =
     ap (λ k. replicate k ParentDir ++ vs) {x = n} {y = suc (n - 1)} (omega arith)
 
--- if m is greater than n, m times `..` is n times `..`, one more `..`, and then m - n - 1 times
--- `..`
+-- if m is greater than n, m times `..` and then vs are n times `..`, one more `..`, m - n - 1 times
+-- `..`, and then vs
 split_parent_dirs : (n m : ℕ) (vs : List Value) → n < m → replicate m ParentDir ++ vs
     ≡ replicate n ParentDir ++ (ParentDir ∷ (replicate (m - n - 1) ParentDir ++ vs))
 split_parent_dirs n m vs l =
@@ -153,9 +153,9 @@ split_parent_dirs n m vs l =
     ∙ append_assoc (replicate n ParentDir) (replicate (m - n) ParentDir) vs
     ∙ ap (λ us. replicate n ParentDir ++ us) (split_first_parent_dir (m - n) vs (omega arith))
 
--- if fewer `..` remain of the first path than of the second, the relative path has a `..` for each
--- name of the first, a `..` for each `..` that the second has more than the first, and then the
--- names of the second
+-- if s and t both have a root or both have none, and fewer `..` remain of s than of t, the relative
+-- path has a `..` for each resolved name of s, a `..` for each `..` that remains of t more than of
+-- s, and then the resolved names of t
 pub relative_path-parent_dir_run : (s t : List ℕ) → is_rooted s ≡ is_rooted t
     → remaining_parent_dirs (values s) < remaining_parent_dirs (values t)
     → relative_path_of (values s) (values t) ≡ Some (replicate (length (names_below (values s))
@@ -177,7 +177,8 @@ relative_path-parent_dir_run s t same l =
     ∙ ap Some (sym (append_assoc (replicate (length v) ParentDir) (replicate (m - n) ParentDir) w))
     ∙ ap (λ us. Some (us ++ w)) (replicate-append-replicate (length v) (m - n) ParentDir))
 
--- if more `..` remain of the first path than of the second, there is no relative path
+-- if s and t both have a root or both have none, and more `..` remain of s than of t, there is no
+-- relative path from s to t
 pub no_relative_path-parent_dir_run : (s t : List ℕ) → is_rooted s ≡ is_rooted t
     → remaining_parent_dirs (values t) < remaining_parent_dirs (values s)
     → relative_path_of (values s) (values t) ≡ None
@@ -199,15 +200,15 @@ pub last_others : (m n : ℕ) (s : List ℕ) → m + n ≡ length (names_below (
 last_others m n s e = ap (λ k. drop k (names_below (values s)))
     {x = length (names_below (values s)) - m} {y = n} (omega arith)
 
--- the remaining `..`, with a slash for each, are no longer than the path and a slash
+-- the `..` that remain of a path, with a slash for each, are no longer than the path and a slash
 pub parent_dirs_fit : (s : List ℕ) → 3 * remaining_parent_dirs (values s) ≤ 1 + length s
 parent_dirs_fit s = by_test (is_rooted s) (λ r. omega (arith, remaining_parent_dirs-rooted s r))
     (λ r. omega (arith, length-rootless s r))
 
 -- ---- two paths of names only
 
--- the relative path between paths of names only has `..` for each component of the first that is
--- not shared, and then the components of the second that are not shared, which are names
+-- the relative path from s to t is a `..` for each component of s after the common prefix of s and
+-- t, and then the components of t after this prefix, which are names
 pub record NamesOnlyRelativePath (s t : List ℕ) : Type 0 where
   pub is : let n = shared_count (values s) (values t) in relative_path_of (values s) (values t)
       ≡ Some (replicate (length (drop n (values s))) ParentDir ++ drop n (values t))
@@ -244,7 +245,7 @@ same_count : (vs : List Value) → shared_count vs vs ≡ length vs
 same_count [] = refl
 same_count (v ∷ vs) = grind (arith, (same_value-Decides v v).1 refl, same_count vs)
 
--- the relative path from a path to itself is the empty path
+-- if s and t are the same bytes, the relative path from s to t is the empty path
 pub relative_path_to_itself : (s t : List ℕ) → s ≡ t
     → Some [] ≡ option_map spelling_of (relative_path_of (values s) (values t))
 unfolding relative_path_of spelling_of

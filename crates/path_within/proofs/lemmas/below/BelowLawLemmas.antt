@@ -35,7 +35,8 @@ join_all_of-resolved s =
     ap (λ vs. join_all_of [] (map value_bytes vs)) (sym (values-resolved s))
     ∙ join_all_of-values (resolved_bytes_of s) ∙ ap spelling_of (values-resolved s)
 
--- the join of a resolved root and a request that does not escape is the resolved join
+-- if the request b does not escape, the join of the resolved root a and the names of b is the
+-- resolved join of a and b
 pub below_of-within : (a b : List ℕ) → (Escapes (values b) → ⊥)
     → below_of (resolved_bytes_of a) (names_below (values b)) ≡ resolved_bytes_of (join_of a b)
 unfolding below_of
@@ -59,7 +60,8 @@ values-down root rest h =
     (sym (names_below-drop_dot (values rest))
     ∙ names_below-names (drop_dot (values rest)) (request_has_names rest h))
 
--- a path that goes down from a root that is not empty is equal to a join
+-- if `path` goes down from `root`, and `root` is not empty, the join of `root` and the resolved
+-- names of the rest of `path` after `root` has the components of `path`
 pub down_joined : (root path : List ℕ) → GoesDown root path → root ≢ []
     → values (below_of root (names_below (values (stripped_of path root)))) ≡ values path
 down_joined [] path h some = absurd (some refl)
@@ -69,7 +71,8 @@ down_joined (x ∷ root) path h some =
     ∙ sym (values-join_of_values_added (x ∷ root) rest (request_rootless rest h.names))
     ∙ values-join_of_stripped path (x ∷ root) h.begins
 
--- a path that goes down from the empty root is equal to a join, except for a leading `.`
+-- if `path` goes down from the empty root, the join of the empty root and the resolved names of the
+-- rest of `path` has the components of `path`, except a leading `.`
 pub down_joined_here : (path : List ℕ) → GoesDown [] path
     → values (below_of [] (names_below (values (stripped_of path [])))) ≡ drop_dot (values path)
 down_joined_here path h =
@@ -77,7 +80,7 @@ down_joined_here path h =
     values-down [] rest h.names ∙ ap (λ vs. vs ++ drop_dot (values rest)) values-nil
     ∙ ap drop_dot (ap values (sym (join_of-nil rest)) ∙ values-join_of_stripped path [] h.begins)
 
--- the join of two paths of names only, the second without a root, is resolved already
+-- if a and b are paths of names only, and b has no root, the join of a and b is resolved already
 pub resolved-names_only_join : (a b : List ℕ) → is_names_only a ≡ true → is_names_only b ≡ true
     → is_rooted b ≡ false → join_of a b ≡ resolved_bytes_of (join_of a b)
 resolved-names_only_join a b h k r =

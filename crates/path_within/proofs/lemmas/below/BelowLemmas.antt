@@ -56,7 +56,7 @@ unslashed_names b = by (subst Shape (values-rooted b) (values-shape (rooted b)))
         ≡ names_below (values b) = cc in subst (AllByRecursion IsUnslashedValue) same h
     by (Rootless h) = absurd (h.0.no_root refl)
 
--- without names the join is the root
+-- if vs is empty, the join of the root and vs is the root
 pub below_of-nil : {vs : List Value} (root : List ℕ) → vs ≡ [] → below_of root vs ≡ root
 unfolding below_of
 below_of-nil root e = ap (λ vs. join_all_of root (map value_bytes vs)) e
@@ -70,7 +70,8 @@ unslashed_last n b =
     AllByRecursion-end IsUnslashedValue (take k names) (drop k names)
     (subst (AllByRecursion IsUnslashedValue) (sym (take-append-drop k names)) (unslashed_names b))
 
--- if there are names, the join is the root prefix and then the names, with slashes between them
+-- if vs is not empty, and no component of vs begins or ends with a slash, the join of the root and
+-- vs is the root prefix and then the components of vs, with slashes between them
 pub below_of-some : (root : List ℕ) (vs : List Value) → AllByRecursion IsUnslashedValue vs
     → 0 < length vs → below_of root vs ≡ root_prefix root ++ slashed_bytes vs
 unfolding below_of
@@ -78,8 +79,8 @@ below_of-some root [] h some = absurd (omega arith)
 below_of-some root (v ∷ vs) h some =
     join_all_of-some root (value_bytes v) (map value_bytes vs) (unslashed_bytes (v ∷ vs) h)
 
--- if the bytes `names` are the resolved names of b, verbatim, the join is the root prefix and then
--- these bytes
+-- if the bytes `names` are the resolved names of b, verbatim, the join of the root and the resolved
+-- names of b is the root prefix and then these bytes
 pub below_of-verbatim : {names : List ℕ} (root b : List ℕ)
     → AreVerbatim names (names_below (values b))
     → root_prefix root ++ names ≡ below_of root (names_below (values b))
@@ -98,13 +99,15 @@ values-names root (Normal name ∷ vs) h k =
     ∙ append_assoc (values root) (Normal name ∷ []) vs
 values-names root (v ∷ vs) h k = absurd h
 
--- the components of a join are the root's own components and then the resolved names of b
+-- the join of the root and the resolved names of b has the components of the root and then these
+-- names
 pub values-below : (root b : List ℕ)
     → values (below_of root (names_below (values b))) ≡ values root ++ names_below (values b)
 values-below root b = values-names root (names_below (values b))
     (AllNames-names_below (values b)) (ReadsAsItself-names_below b)
 
--- without its root, a join has only the resolved names of b as components
+-- without the root, the join of the root and the resolved names of b has only these names as
+-- components
 pub values-stripped_below : (root b : List ℕ)
     → values (stripped_of (below_of root (names_below (values b))) root) ≡ names_below (values b)
 values-stripped_below root b = values-stripped_of (below_of root (names_below (values b))) root
@@ -162,7 +165,8 @@ pub begins : {s : List ℕ} (root b : List ℕ) → s ≡ below_of root (names_b
     → IsPrefixOf root s
 begins root b e = let h = after_root root b in (h.more, h.is ∙ sym e)
 
--- the join is no longer than the root prefix and the path together
+-- if s is the root prefix and then b, the join of the root and the resolved names of b is no longer
+-- than s
 pub length-below : {s : List ℕ} (root b : List ℕ) → s ≡ root_prefix root ++ b
     → length (below_of root (names_below (values b))) ≤ length s
 length-below root b e = let h = after_root root b in omega (

@@ -76,8 +76,8 @@ length-slashed_bytes (v ∷ w ∷ vs) = omega (
   length-append (value_bytes v) (slash ∷ slashed_bytes (w ∷ vs)),
 )
 
--- the components of a path except its root, with a slash for each, are no longer than the path and
--- a slash
+-- the inner components of a path (all except its root or leading `.`), with a slash for each, are
+-- no longer than the path and a slash
 slashed_len-inner : (s : List ℕ) → slashed_len (inner_values s) ≤ 1 + length s
 slashed_len-inner s =
     omega (arith, length-slashed_bytes (inner_values s), slashed_bytes-lean s)
@@ -104,8 +104,8 @@ spelling_of-fit [] n l = omega arith
 spelling_of-fit (v ∷ vs) n l =
     grind (arith, slashed_len-cons v vs, length-slashed_bytes (v ∷ vs), length-slashed_bytes vs)
 
--- if there are components, their canonical form is at least one byte shorter than the components
--- with a slash for each
+-- the canonical form of vs is at least one byte shorter than vs with a slash for each; if vs is
+-- empty, both lengths are 0
 pub length-spelling : (vs : List Value) → length (spelling_of vs) ≤ slashed_len vs - 1
 length-spelling vs = spelling_of-fit vs (slashed_len vs - 1) (omega arith)
 
@@ -142,11 +142,11 @@ length-resolved s = by_test (is_rooted s)
       slashed_bytes-names t,
     )
 
--- a join is at most one byte longer than both paths together
+-- the join of a and b is at most one byte longer than a and b together
 pub length-join_of : (a b : List ℕ) → length (join_of a b) ≤ length a + 1 + length b
 length-join_of a b = grind (arith, push_cases)
 
--- a resolved join is at most one byte longer than both paths together
+-- the resolved join of a and b is at most one byte longer than a and b together
 pub length-resolved_join : (a b : List ℕ)
     → length (resolved_bytes_of (join_of a b)) ≤ length a + 1 + length b
 length-resolved_join a b = omega (arith, length-resolved (join_of a b), length-join_of a b)

@@ -39,14 +39,15 @@ pub names_on_stack : (vs : List Value)
     → (ns : List Value) × AllNames ns × (resolve_onto (RootDir ∷ []) vs ≡ on_root ns)
 names_on_stack vs = stack_keeps_root [] vs tt
 
--- `names_below` are the names on the stack, from the lowest to the top
+-- if resolving vs onto the root leaves the names ns on top of the root, `names_below vs` are the
+-- names ns in reverse order, from the lowest to the top
 pub names_below-stack : (vs ns : List Value) → resolve_onto (RootDir ∷ []) vs ≡ on_root ns
     → names_below vs ≡ reverse ns
 unfolding names_below resolved_of
 names_below-stack vs ns e =
     ap (λ ks. drop 1 (reverse ks)) e ∙ ap (drop 1) (reverse-append ns (RootDir ∷ []))
 
--- a root and the components after it resolve to the root and `names_below` of these components
+-- a root and then vs resolve to the root and then `names_below vs`
 resolved_of-below : (vs : List Value) → resolved_of (RootDir ∷ vs) ≡ RootDir ∷ names_below vs
 unfolding resolved_of
 resolved_of-below vs =
@@ -54,13 +55,13 @@ resolved_of-below vs =
     ap reverse found.2 ∙ reverse-append found.0 (RootDir ∷ [])
     ∙ ap (λ ns. RootDir ∷ ns) (sym (names_below-stack vs found.0 found.2))
 
--- `names_below` has only names
+-- all components of `names_below vs` are names
 pub AllNames-names_below : (vs : List Value) → AllNames (names_below vs)
 AllNames-names_below vs =
     let found = names_on_stack vs in
     rw (names_below-stack vs found.0 found.2) (names_reverse found.0 found.1)
 
--- if all components are names, all of them remain
+-- if all components of vs are names, `names_below vs` is vs
 pub names_below-names : (vs : List Value) → AllNames vs → names_below vs ≡ vs
 names_below-names vs h = names_below-stack vs (reverse vs)
     (resolve_onto-names (RootDir ∷ []) vs h ∙ reverse_onto vs RootDir []) ∙ reverse-reverse vs
@@ -72,13 +73,13 @@ unfolding resolved_of
 names_below-resolved b h =
     names_below-stack (values b) (resolve_onto [] (values b)) (keeps_stack (RootDir ∷ []) b h).stack
 
--- dropping a leading root or `.` of the components does not change their `names_below`
+-- dropping a leading root or `.` of vs does not change its `names_below`
 names_below-drop_leading : (vs : List Value) → names_below (drop_leading vs) ≡ names_below vs
 unfolding names_below resolved_of
 names_below-drop_leading (RootDir ∷ vs) = refl
 names_below-drop_leading vs = refl
 
--- dropping a leading `.` of the components does not change their `names_below`
+-- dropping a leading `.` of vs does not change its `names_below`
 pub names_below-drop_dot : (vs : List Value) → names_below (drop_dot vs) ≡ names_below vs
 unfolding names_below resolved_of
 names_below-drop_dot (CurDir ∷ vs) = refl
@@ -105,7 +106,8 @@ resolved_of-slash t =
     ap resolved_of (values-slash t) ∙ resolved_of-below (inner_values t)
     ∙ ap (λ vs. RootDir ∷ vs) (names_below-inner t)
 
--- leading slashes are dropped one by one
+-- if the byte x is a slash, the bytes of `x ∷ s` after its leading slashes are those of s after its
+-- leading slashes; otherwise they are all bytes of `x ∷ s`
 after_leading_slashes-cons : (x : ℕ) (s : List ℕ)
     → after_leading_slashes (x ∷ s) ≡ cond (is_slash x) (after_leading_slashes s) (x ∷ s)
 after_leading_slashes-cons x s =

@@ -37,7 +37,7 @@ nul_names : (ps : List (List ℕ)) → list_any has_nul ps ≡ list_any nul_in (
 nul_names [] = refl
 nul_names (p ∷ ps) = grind (arith, no_nul_filler p, value_bytes-piece p, nul_names ps)
 
--- dropping a leading root or `.` does not change whether a component has a NUL
+-- dropping a leading root or `.` of vs does not change whether some component of vs has a NUL
 nul_lead : (vs : List Value) → list_any nul_in (drop_leading vs) ≡ list_any nul_in vs
 nul_lead (RootDir ∷ vs) = refl
 nul_lead vs = refl
@@ -60,7 +60,7 @@ list_any-count p (v ∷ vs) = grind (
   list_any-count p vs,
 )
 
--- if no component has a NUL, no name that remains after resolving has one
+-- if no component of vs has a NUL, no name that remains of vs after resolving has one
 pub no_nul-below : (vs : List Value) → list_any nul_in vs ≡ false
     → list_any nul_in (names_below vs) ≡ false
 no_nul-below vs h =

@@ -17,7 +17,8 @@ use Rattle.unix_path.proofs.lemmas.parts.PieceLemmas.{first_piece-other, slice_s
 use Rattle.path_within.specs.NamePieces.{is_name_piece, has_only_name_pieces, name_starts_at}
 use Rattle.path_within.specs.NamePieces.{name_follows_slash_at, is_names_only}
 
--- the first three bytes determine whether the first piece is `..`
+-- the first piece of s is `..` if and only if the first two bytes of s are dots, and the third is a
+-- slash or missing
 first_piece_parent_dir : (s : List ℕ)
     → bytes_eq (first_piece s) parent_dir
     ≡ (eqb (get_or s 0 0) 46 && (eqb (get_or s 1 0) 46 && eqb (get_or s 2 47) 47))
@@ -68,7 +69,8 @@ pub only_name_pieces : (s : List ℕ) → name_starts_at s 0 ≡ true
     → ((k : ℕ) → k < length s → name_follows_slash_at s k ≡ true) → has_only_name_pieces s ≡ true
 only_name_pieces s h k = all_name_pieces s h (later_pieces_are_names s k)
 
--- a slash that does not end a run of names has a name after it
+-- if no run of names ends at index k (`ends_name_run_of`), and the byte at k is a slash, a name
+-- comes after it
 pub name_follows_unless_stop : (s : List ℕ) (k : ℕ) → ends_name_run_of 47 46 s k ≡ false
     → name_follows_slash_at s k ≡ true
 name_follows_unless_stop s k h = grind (
@@ -79,7 +81,8 @@ name_follows_unless_stop s k h = grind (
   get_or_past s (k + 1 + 1) 0,
 )
 
--- if all pieces of a path after its root, if it has one, are names, it is a path of names only
+-- if n is 1 for a path s with a root, and otherwise 0, and all pieces of s after its first n bytes
+-- are names, then s is a path of names only
 pub names_only_without_root : (s : List ℕ) (n : ℕ) → n ≡ from_bool (is_rooted s)
     → has_only_name_pieces (drop n s) ≡ true → is_names_only s ≡ true
 names_only_without_root s n e h =

@@ -24,7 +24,7 @@ name_pieces_count : (ps : List (List ℕ)) → list_all is_name_piece ps ≡ tru
 name_pieces_count [] h = refl
 name_pieces_count (p ∷ ps) h = grind (arith, name_pieces_count ps)
 
--- the components of pieces that are names are names
+-- if all pieces ps are names, their components are names
 name_pieces_are_names : (ps : List (List ℕ)) → list_all is_name_piece ps ≡ true
     → AllNames (names_of ps)
 name_pieces_are_names [] h = tt
@@ -35,7 +35,8 @@ name_pieces_no_dot : (ps : List (List ℕ)) → list_all is_name_piece ps ≡ tr
 name_pieces_no_dot [] h = refl
 name_pieces_no_dot (p ∷ ps) h = grind arith
 
--- if all pieces of t, the bytes after the root of s, are names, s is resolved already
+-- if s has a root, t are the bytes after it, and all pieces of t are names, then s is resolved
+-- already
 rooted_names_only : (s t : List ℕ) → has_only_name_pieces t ≡ true → is_rooted s ≡ true
     → t ≡ drop 1 s → resolved_bytes_of s ≡ s
 rooted_names_only s t h r e =
@@ -61,12 +62,12 @@ canonical_if_names_only : (s : List ℕ) → has_only_name_pieces s ≡ true →
 canonical_if_names_only s h r =
     spelling_of-own_rootless s s (name_pieces_count (slice_split is_slash s) h) r refl
 
--- all pieces of a rootless path of names only are names
+-- if a path of names only has no root, all its pieces are names
 is_names_only-rootless : (s : List ℕ) → is_names_only s ≡ true → is_rooted s ≡ false
     → has_only_name_pieces s ≡ true
 is_names_only-rootless s h r = sym (ap (λ c. has_only_name_pieces (cond c (drop 1 s) s)) r) ∙ h
 
--- all pieces after the root of a rooted path of names only are names
+-- if a path of names only has a root, all pieces of the bytes after the root are names
 is_names_only-rooted : (s : List ℕ) → is_names_only s ≡ true → is_rooted s ≡ true
     → has_only_name_pieces (drop 1 s) ≡ true
 is_names_only-rooted s h r = sym (ap (λ c. has_only_name_pieces (cond c (drop 1 s) s)) r) ∙ h

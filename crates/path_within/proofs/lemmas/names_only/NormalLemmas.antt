@@ -22,7 +22,7 @@ pub resolved_if_normal : (s : List ℕ) → IsNormal (values s) → s ≡ spelli
     → resolved_bytes_of s ≡ s
 resolved_if_normal s h own = ap spelling_of (resolved_of-normal (values s) h) ∙ sym own
 
--- a path that is resolved already has its resolved components
+-- if s is resolved already, the resolved components of s are the components of s
 pub resolved_values : (s : List ℕ) → resolved_bytes_of s ≡ s → resolved_of (values s) ≡ values s
 resolved_values s e = sym (values-resolved s) ∙ ap values e
 

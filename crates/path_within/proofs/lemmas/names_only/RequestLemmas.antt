@@ -22,7 +22,7 @@ pub request_rootless : (b : List ℕ) → has_root_or_parent_dir (values b) ≡ 
     → is_rooted b ≡ false
 request_rootless b e = sym (root_first-values b) ∙ no_root_first (values b) e
 
--- components without a root or a `..` do not escape
+-- components without a root or a `..` do not escape, whatever number n of names is before them
 escapes_from-names_only : (n : ℕ) (vs : List Value) → has_root_or_parent_dir vs ≡ false
     → escapes_from n vs ≡ false
 escapes_from-names_only n [] e = refl

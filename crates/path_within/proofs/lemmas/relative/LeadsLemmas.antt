@@ -21,7 +21,8 @@ use Rattle.path_within.proofs.lemmas.stack.RelativePathLemmas.{names_all, normal
 use Rattle.path_within.proofs.lemmas.stack.RelativePathLemmas.{resolved_of-normal}
 use Rattle.path_within.proofs.lemmas.stack.RelativePathLemmas.{parent_dirs_straight}
 
--- parsed as a path, the canonical form of normal components has these components
+-- if vs is normal, and each of its components reads as itself, the canonical form of vs, parsed as
+-- a path, has the components vs
 pub values-spelling_of_normal : (vs : List Value) → IsNormal vs → ReadsAsItself vs
     → values (spelling_of vs) ≡ vs
 values-spelling_of_normal vs h k = subst (λ ws. values (spelling_of ws) ≡ ws)
@@ -36,7 +37,8 @@ resolve_onto-cut n ks h =
     ∙ ap (resolve_onto []) (take-append-drop n vs)
     ∙ resolve_onto-stack ks h
 
--- the relative path `steps` leads from the stack ks to the stack js
+-- `steps` leads from the stack ks to the stack js: it is zero or more `..` and then names, each of
+-- which reads as itself, and resolving it onto ks leaves js
 record IsRelativePath (ks js steps : List Value) : Type 0 where
   pub straight : ParentDirsThenNames steps
   pub one : ReadsAsItself steps
@@ -78,14 +80,15 @@ relative_path_is from to steps e =
           ∙ resolve_onto-cut n js (IsStack-resolve_onto [] (values to) tt);
     }
 
--- parsed as a path, the bytes of a relative path have its components
+-- if `steps` is the relative path from `from` to `to`, the canonical form of `steps`, parsed as a
+-- path, has the components `steps`
 pub values-relative_path : (from to : List ℕ) (steps : List Value)
     → relative_path_of (values from) (values to) ≡ Some steps → values (spelling_of steps) ≡ steps
 values-relative_path from to steps e = let is = relative_path_is from to steps e in
     values-spelling_of_normal steps (straight_normal steps is.straight) is.one
 
--- if there is a relative path from one path to another, the first path joined with it resolves to
--- the same bytes as the second
+-- if `steps` is the relative path from `from` to `to`, the join of `from` and the canonical form of
+-- `steps` resolves to the same bytes as `to`
 pub relative_path_leads : (from to : List ℕ) (steps : List Value)
     → relative_path_of (values from) (values to) ≡ Some steps
     → resolved_bytes_of (join_of from (spelling_of steps)) ≡ resolved_bytes_of to

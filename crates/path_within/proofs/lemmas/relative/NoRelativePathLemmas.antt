@@ -76,7 +76,8 @@ keeps_pop_limit top pop_limit (ParentDir ∷ vs) h k r =
     subst (λ ks. KeepsPopLimit (resolve_onto ks vs) pop_limit) (sym pushed.is)
     (keeps_pop_limit pushed.top pop_limit vs h pushed.no_root r)
 
--- if components without a root lead from one stack to another, there is a relative path
+-- if vs has no root, there is a relative path from the components of the stack ks to the components
+-- of the stack that resolving vs onto ks leaves
 some_relative_path : (ks vs : List Value) → IsStack ks → NoRoot vs
     → steps_from (reverse ks) (reverse (resolve_onto ks vs)) ≡ None → ⊥
 some_relative_path ks vs h r none =
@@ -91,8 +92,8 @@ some_relative_path ks vs h r none =
     (list_any-reverse keeps.top ∙ keeps.no_root)
     (sym (ap₂ steps_from v w) ∙ none)
 
--- if there is no relative path from one path to another, the first path joined with a rootless path
--- never resolves to the same bytes as the second
+-- if there is no relative path from `from` to `to`, and b has no root, the join of `from` and b
+-- does not resolve to the same bytes as `to`
 pub no_relative_path : (from to b : List ℕ) → relative_path_of (values from) (values to) ≡ None
     → is_rooted b ≡ false → resolved_bytes_of (join_of from b) ≡ resolved_bytes_of to → ⊥
 unfolding relative_path_of resolved_of

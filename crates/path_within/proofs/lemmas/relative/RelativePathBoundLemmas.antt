@@ -28,7 +28,7 @@ ones_long [] ones = omega arith
 ones_long (v ∷ vs) ones =
     omega (arith, slashed_len-cons v vs, one_has_bytes v ones.0, ones_long vs ones.1)
 
--- each `..` has three bytes, with its slash
+-- a `..` for each component of vs, with a slash for each, takes 3 bytes per component of vs
 parent_dirs_len : (vs : List Value) → slashed_len (parent_dirs_for vs) ≡ 3 * length vs
 parent_dirs_len [] = refl
 parent_dirs_len (v ∷ vs) =
@@ -62,7 +62,8 @@ rest_fits s n none = by_test (is_rooted s)
     after_root_fits (suc n) ns none =
         omega (arith, sum_by-take-drop (λ v. 1 + length (value_bytes v)) ns n)
 
--- the length of a relative path is at most 3 * (from_length + 1) / 2 + to_length
+-- the canonical form of the relative path from `from` to `to` has at most 3 * (length from + 1) / 2
+-- + length to bytes
 pub length-relative_path : (from to : List ℕ) (steps : List Value)
     → relative_path_of (values from) (values to) ≡ Some steps
     → 2 * length (spelling_of steps) ≤ 3 * (length from + 1) + 2 * length to

@@ -16,11 +16,12 @@ use Rattle.path_within.specs.RelativePaths.{is_root, steps_between}
 abbrev pub shared_count : List Value → List Value → ℕ
 shared_count v w = common_prefix_len same_value v w
 
--- the relative path from one list to another, both without their common prefix
+-- the relative path from v to w, which are resolved already: `steps_between` of their rests after
+-- their common prefix
 abbrev pub steps_from : List Value → List Value → Option (List Value)
 steps_from v w = let n = shared_count v w in steps_between (drop n v) (drop n w)
 
--- `..` once for each component
+-- a `..` for each component of vs
 abbrev pub parent_dirs_for : List Value → List Value
 parent_dirs_for vs = map (λ v. ParentDir) vs
 
@@ -62,7 +63,7 @@ no_root_drop : (n : ℕ) (vs : List Value) → list_any is_root vs ≡ false
     → list_any is_root (drop n vs) ≡ false
 no_root_drop n vs h = grind (arith, common_steps, list_any-append is_root (take n vs) (drop n vs))
 
--- if x has only names and y has no root, there is a relative path from f and then x to f and then y
+-- if x has only names, and y has no root, there is a relative path from f and x to f and y
 pub some_steps : (f x y : List Value) → list_all is_name x ≡ true → list_any is_root y ≡ false
     → steps_from (f ++ x) (f ++ y) ≡ None → ⊥
 some_steps f x y h k none =
@@ -73,7 +74,8 @@ some_steps f x y h k none =
     let some : Some (parent_dirs_for (drop m x) ++ drop m y) ≡ None =
     rw (n, drop-append-add f x m, drop-append-add f y m, names, no_root) at none in cc
 
--- `steps` is the relative path from v to w: v has only names, and w no root
+-- `steps` is the relative path from v to w: v has only names, w has no root, and `steps` has a `..`
+-- for each name of v, and then w
 pub record AreSteps (v w steps : List Value) : Type 0 where
   pub names : list_all is_name v ≡ true
   pub no_root : list_any is_root w ≡ false

@@ -15,7 +15,8 @@ use Rattle.path_runs.proofs.lemmas.joins.LeadLemmas.{IsInner, inner-behind}
 use Rattle.path_within.specs.Resolved.{AllNames, resolve_onto}
 use Rattle.path_within.specs.Escapes.{Escapes, is_name, is_parent_dir}
 
--- after n names, these components have a root, or some `..` finds no name to drop
+-- the components vs escape from depth n, which means after n names: vs has a root, or some `..` of
+-- vs finds no name to drop
 abbrev pub escapes_from : ℕ → List Value → Bool
 escapes_from n [] = false
 escapes_from n (RootDir ∷ vs) = true
@@ -114,7 +115,8 @@ pub record Stays (ks all names : List Value) : Type 0 where
   pub stack : all ≡ names ++ ks
   pub are_names : AllNames names
 
--- if vs do not escape after the names ns, resolving vs leaves the stack below ns unchanged
+-- if ns has only names, and vs does not escape from that depth, resolving vs onto a stack with ns
+-- on top of ks leaves ks unchanged, and on top of it the names that resolving vs onto ns leaves
 stays : (ks ns vs : List Value) → AllNames ns → escapes_from (length ns) vs ≡ false
     → Stays ks (resolve_onto (ns ++ ks) vs) (resolve_onto ns vs)
 stays ks ns [] h e = record { stack = refl; are_names = h }
@@ -124,7 +126,8 @@ stays ks (Normal name ∷ ns) (ParentDir ∷ vs) h e = stays ks ns vs h e
 stays ks (n ∷ ns) (ParentDir ∷ vs) h e = absurd h
 stays ks ns (v ∷ vs) h e = absurd (let no : true ≡ false = e in cc)
 
--- resolving a path that does not escape onto a stack only adds names on top of the stack
+-- if b does not escape, resolving b onto a stack ks leaves ks unchanged, and on top of it the stack
+-- of b, which has only names
 pub keeps_stack : (ks : List Value) (b : List ℕ) → (Escapes (values b) → ⊥)
     → Stays ks (resolve_onto ks (values b)) (resolve_onto [] (values b))
 keeps_stack ks b h = stays ks [] (values b) tt

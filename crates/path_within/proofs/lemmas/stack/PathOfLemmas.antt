@@ -78,7 +78,8 @@ ReadsAsItself-resolve_onto ks [] h k = h
 ReadsAsItself-resolve_onto ks (v ∷ vs) h k = ReadsAsItself-resolve_onto (push_component ks v) vs
     (ReadsAsItself-push_component ks v h k.0) k.1
 
--- joining the bytes of an inner component (`..` or a name) to a path adds that component
+-- if v is `..` or a name, and reads as itself, joining the bytes of v to a path adds the component
+-- v
 values-join_of_value : (s : List ℕ) (v : Value) → IsInner v → ValueReadsAsItself v
     → values (join_of s (value_bytes v)) ≡ values s ++ v ∷ []
 values-join_of_value s v i e =
@@ -88,14 +89,15 @@ values-join_of_value s v i e =
     values-join_of_rootless s b rootless ∙ ap (append_values (values s)) e
     ∙ append_values-inner (values s) (v ∷ []) (i, tt)
 
--- an inner component (`..` or a name), joined to the path of a stack, comes after the stack's
--- components
+-- if v is `..` or a name, and reads as itself, and the path of the stack ks has the components of
+-- ks, the lowest one first, then this is also true of the stack with v on top of ks
 push_value : (ks : List Value) (v : Value) → IsInner v → ValueReadsAsItself v
     → values (path_of ks) ≡ reverse ks → values (path_of (v ∷ ks)) ≡ reverse (v ∷ ks)
 push_value ks v i e h = values-join_of_value (path_of ks) v i e
     ∙ ap (λ vs. vs ++ v ∷ []) h ∙ sym (reverse_onto ks v [])
 
--- the path of a stack has the stack's components, the lowest one first
+-- if each component of a stack reads as itself, the path of the stack has these components, the
+-- lowest one first
 pub values-path_of : (ks : List Value) → IsStack ks → ReadsAsItself ks
     → values (path_of ks) ≡ reverse ks
 values-path_of [] h k = values-nil
@@ -115,7 +117,8 @@ join_all_of-reverse : (ks vs : List Value)
 join_all_of-reverse [] vs = refl
 join_all_of-reverse (k ∷ ks) vs = join_all_of-reverse ks (k ∷ vs)
 
--- the path of a stack is the canonical form of its components
+-- if each component of a stack reads as itself, the path of the stack is the canonical form of
+-- these components, the lowest one first
 pub path_of-spelled : (ks : List Value) → IsStack ks → ReadsAsItself ks
     → path_of ks ≡ spelling_of (reverse ks)
 path_of-spelled ks h k =

@@ -81,7 +81,8 @@ normal_drop zero (v ∷ vs) h k = grind arith
 normal_drop (suc n) [] h k = h
 normal_drop (suc n) (v ∷ vs) h k = straight_drop n vs (grind (arith, names_straight vs))
 
--- putting more `..` before zero or more `..` and then names again results in `..` and then names
+-- if vs is zero or more `..` and then names, then vs with a `..` for each component of xs before it
+-- is zero or more `..` and then names
 pub parent_dirs_straight : (xs vs : List Value) → ParentDirsThenNames vs
     → ParentDirsThenNames (parent_dirs_for xs ++ vs)
 parent_dirs_straight [] vs h = h

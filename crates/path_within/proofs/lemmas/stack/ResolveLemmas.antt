@@ -18,7 +18,8 @@ use Rattle.path_within.proofs.lemmas.stack.PathOfLemmas.{ReadsAsItself-resolve_o
 use Rattle.path_within.proofs.lemmas.stack.PathOfLemmas.{ReadsAsItself-values}
 use Rattle.path_within.proofs.lemmas.stack.PathOfLemmas.{path_of-spelled, values-path_of}
 
--- parsed as a path, the canonical form of resolved components has these components
+-- if each component of vs reads as itself, the canonical form of the resolved vs, parsed as a path,
+-- has these resolved components
 pub values-spelling_of_resolved : (vs : List Value) → ReadsAsItself vs
     → values (spelling_of (resolved_of vs)) ≡ resolved_of vs
 unfolding resolved_of
@@ -32,7 +33,7 @@ values-spelling_of_resolved vs h =
 pub values-resolved : (s : List ℕ) → values (resolved_bytes_of s) ≡ resolved_of (values s)
 values-resolved s = values-spelling_of_resolved (values s) (ReadsAsItself-values s)
 
--- resolving again changes nothing
+-- resolving the resolved bytes of s again does not change them
 pub resolved_bytes_of-again : (s : List ℕ)
     → resolved_bytes_of (resolved_bytes_of s) ≡ resolved_bytes_of s
 resolved_bytes_of-again s =
@@ -56,13 +57,15 @@ pub resolve_onto-drop_dot : (ks vs : List Value) → resolve_onto ks (drop_dot v
 resolve_onto-drop_dot ks (CurDir ∷ vs) = refl
 resolve_onto-drop_dot ks vs = refl
 
--- the components that b adds to a join change the stack in the same way as the components of b
+-- resolving the components that b adds to a join with a (`values_added`) onto a stack leaves the
+-- same stack as resolving the components of b onto it
 resolve_onto-added : (ks : List Value) (a b : List ℕ)
     → resolve_onto ks (values_added a b) ≡ resolve_onto ks (values b)
 resolve_onto-added ks [] b = refl
 resolve_onto-added ks (x ∷ a) b = resolve_onto-drop_dot ks (values b)
 
--- the components of a rooted path replace the stack
+-- if b has a root, resolving its components onto any stack ks leaves the same stack as resolving
+-- them onto the empty stack
 pub resolve_onto-rooted : (ks : List Value) (b : List ℕ) → is_rooted b ≡ true
     → resolve_onto [] (values b) ≡ resolve_onto ks (values b)
 resolve_onto-rooted ks b r =

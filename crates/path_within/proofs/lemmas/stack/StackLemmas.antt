@@ -64,7 +64,7 @@ resolve_onto-again (k ∷ ks) vs h = resolve_onto-again ks (k ∷ vs) (IsStack-t
 pub resolve_onto-stack : (ks : List Value) → IsStack ks → resolve_onto [] (reverse ks) ≡ ks
 resolve_onto-stack ks h = resolve_onto-again ks [] h
 
--- names are `..` zero times, and then names
+-- a list of only names is zero or more `..` and then names
 pub names_straight : (vs : List Value) → AllNames vs → ParentDirsThenNames vs
 names_straight (ParentDir ∷ vs) h = absurd h
 names_straight vs h = h
@@ -78,8 +78,8 @@ straight_normal vs h = h
 pub names_normal : (vs : List Value) → AllNames vs → IsNormal vs
 names_normal vs h = straight_normal vs (names_straight vs h)
 
--- putting the `..` of us before zero or more `..` and then names again results in `..` and then
--- names
+-- if us has only `..`, and vs is zero or more `..` and then names, then us and vs together are zero
+-- or more `..` and then names
 parent_dirs_before : (us vs : List Value) → AllParentDirs us → ParentDirsThenNames vs
     → ParentDirsThenNames (reverse_aux us vs)
 parent_dirs_before [] vs h k = k
@@ -99,7 +99,7 @@ pub resolved_normal : (vs : List Value) → IsNormal (resolved_of vs)
 unfolding resolved_of
 resolved_normal vs = stack_normal (resolve_onto [] vs) [] (IsStack-resolve_onto [] vs tt) tt
 
--- resolving again changes nothing
+-- resolving the resolved components of vs again does not change them
 pub resolved_of-resolved_of : (vs : List Value) → resolved_of (resolved_of vs) ≡ resolved_of vs
 unfolding resolved_of
 resolved_of-resolved_of vs =

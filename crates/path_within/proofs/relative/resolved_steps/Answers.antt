@@ -65,7 +65,8 @@ overflow_sub-first c = omega (
       (names_below (values c.args.to.bytes.now))).0,
 )
 
--- the names of the second path that are not shared
+-- the last names of the second path, as many as are not shared, are its names after the common
+-- prefix of both paths' names
 others : (c : After-shared_names-shared) → (let v = names_below (values c.args.from.bytes.now) in
     let w = names_below (values c.args.to.bytes.now) in
     last_names (c.count_resolved-second.result.names - c.shared_names-shared.result.count)
