@@ -14,7 +14,7 @@ span_end span = span.start + span.length
 abbrev pub span_bytes : List ℕ → Span → List ℕ
 span_bytes path span = take span.length (drop span.start path)
 
--- the index at which the file name starts, if there is one
+-- the index at which the file name starts, if the path has a file name
 unfoldable pub name_start_of : List ℕ → Option ℕ
 name_start_of s = option_map (λ name. last_start_of (parts s)) (file_name_of (values s))
 

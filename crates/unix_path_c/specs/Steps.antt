@@ -21,8 +21,8 @@ pub record StartsWithPart (s : List ℕ) (size step kind : ℕ) : Type 0 where
       ∷ inner_parts step (drop step s)
   pub not_filler : step < length s → is_filler s step ≡ false
 
--- s ends where its last component ends, which is the name from index `start` on; the rest before
--- that name is the first `before` bytes
+-- s ends where its last component ends, which is the name from index `start` to the end of s; the
+-- rest of s before this name is its first `before` bytes
 pub record EndsInName (s : List ℕ) (before start : ℕ) : Type 0 where
   pub ends : EndsInPart s
   pub in_range : start ≤ length s
@@ -31,7 +31,7 @@ pub record EndsInName (s : List ℕ) (before start : ℕ) : Type 0 where
   pub rest_is : rest s 0 1 ≡ take before s
 
 -- `part` is the first component in the rest of the walk `old`, and the components after it are
--- those in the rest of the walk `new`
+-- those in the rest of the walk `new`; the indices of `old`, `part` and `new` are in order
 pub record TakenFromFront (path : List ℕ) (old new : Walk) (part : Part) : Type 0 where
   pub parts_are : remaining_parts path old ≡ part_in path part ∷ remaining_parts path new
   pub values_are : values (remaining path old)
@@ -44,7 +44,7 @@ pub record TakenFromFront (path : List ℕ) (old new : Walk) (part : Part) : Typ
       (old.front ∷ part.start ∷ part_end part ∷ new.front ∷ new.back ∷ old.back ∷ length path ∷ [])
 
 -- `part` is the last component in the rest of the walk `old`, and the components before it are
--- those in the rest of the walk `new`
+-- those in the rest of the walk `new`; the indices of `old`, `new` and `part` are in order
 pub record TakenFromBack (path : List ℕ) (old new : Walk) (part : Part) : Type 0 where
   pub parts_are : remaining_parts path old ≡ remaining_parts path new ++ part_in path part ∷ []
   pub values_are : values (remaining path old)

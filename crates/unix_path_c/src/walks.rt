@@ -71,7 +71,6 @@ fn rest_of<'a>(path: &'a [u8], walk: &Walk) -> Path<'a>
 }
 
 // Removes the first component, of any kind, from the rest of a walk, and writes it to `part`.
-// Returns false if no component remains.
 // Returns false if no component remains. Not inlined, so that most steps stay small.
 #[inline(never)]
 fn take_first(path: &[u8], walk: &mut Walk, part: &mut Part) -> bool
@@ -99,7 +98,6 @@ fn take_first(path: &[u8], walk: &mut Walk, part: &mut Part) -> bool
 }
 
 // Removes the last component, of any kind, from the rest of a walk, and writes it to `part`.
-// Returns false if no component remains.
 // Returns false if no component remains. Not inlined, so that most steps stay small.
 #[inline(never)]
 fn take_last(path: &[u8], walk: &mut Walk, part: &mut Part) -> bool

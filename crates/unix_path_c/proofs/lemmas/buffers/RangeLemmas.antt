@@ -25,8 +25,8 @@ abbrev pub WritesEnd : List ℕ → ℕ → List ℕ → List ℕ → Type 0
 WritesEnd key n old new = (end : List ℕ) × IsRangeEnd key (Some end) × (length end ≡ n)
     × (new ≡ buffer_after end old)
 
--- if the key is at the beginning of a buffer, raising the key's last byte there by one turns it
--- into the end of its range
+-- if a key that is not empty was written to the beginning of a buffer, raising the key's last byte
+-- there by one writes the end of the key's range
 pub end_written : (key old new : List ℕ) → 0 < length key → length key ≤ length old
     → new ≡ overlay 0 key old → WritesEnd key (length key) old
     (slice_set new (length key - 1) (slice_index key (length key - 1) + 1))
@@ -42,7 +42,8 @@ end_written key old new some fits e =
           ∙ sym (buffer_after-fits (raised_end key) old (omega (arith, length-raised_end key))),
     )
 
--- a buffer that is too short for the end is unchanged
+-- if the buffer `old` is shorter than a key that is not empty, `WritesEnd` is true of the unchanged
+-- buffer
 pub end_not_written : (key old : List ℕ) → 0 < length key → length old < length key
     → WritesEnd key (length key) old old
 end_not_written key old some len_bound = (

@@ -3,8 +3,8 @@ use Rattle.std.proofs.Common.{◌≡◌, ℕ, ◌+◌, List, ◌++◌, length, r
 use Rattle.path_runs.specs.Overlay.{overlay}
 use Rattle.path_runs.proofs.lemmas.lists.WritingLemmas.{WritesOn, writes_stretch}
 
--- if the rest that is still to be written begins with two runs, only the bytes after the two runs
--- remain to be written after writing them one after the other
+-- if `first` and `second` are the next bytes of `whole` to be written, only `more` remains to be
+-- written after writing `first` and then `second`
 pub writes_next : {whole old out left new : List ℕ} {at end : ℕ} (first second more : List ℕ)
     → WritesOn whole old at out left → left ≡ (first ++ second) ++ more
     → new ≡ overlay (at + length first) second (overlay at first out)

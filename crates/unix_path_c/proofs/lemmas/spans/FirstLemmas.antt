@@ -12,8 +12,8 @@ use Rattle.unix_path.proofs.lemmas.steps.SpanLemmas.{length-rest_whole, parts_en
 use Rattle.unix_path.proofs.lemmas.names.StemLemmas.{length-rest_whole-le}
 use Rattle.unix_path_c.proofs.lemmas.spans.FollowLemmas.{BeginsWith, Follow, begins_with}
 
--- v is the first component of s: s begins with v's bytes; if the last component ends at index n,
--- the rest after v is the last m of the first n bytes
+-- v is the first component of s, which begins with the bytes of v, and the rest of s after v is the
+-- last m of the first n bytes of s
 pub record TakesFromFront (s : List ℕ) (v : Value) (n m : ℕ) : Type 0 where
   pub is : parts s ≡ record { start = 0; end = length (value_bytes v); value = v }
       ∷ map (part_at (n - m)) (parts (rest s 1 0))
@@ -106,7 +106,8 @@ takes_more s b h l =
       in_range = length-rest_whole-le s;
     }
 
--- `TakesFromFront` is true of the first component of a string that begins with this component
+-- if v is the first component of s, `TakesFromFront` is true of v, by the facts `BeginsWith` and
+-- `Middle` about s
 takes_from_front-by : (s : List ℕ) (v : Value) (vs : List Value) (b : BeginsWith s)
     (h : Middle s 1 0)
     → values s ≡ v ∷ vs → TakesFromFront s v (length (rest s 0 0)) (length (rest s 1 0))
@@ -118,7 +119,7 @@ takes_from_front-by s v vs b h e =
     (by_test (ltb 0 (length h.rest_bytes)) (λ some. takes_more s b h (ltb-true _ _ some))
     (λ none. takes_alone s b h (omega (arith, ltb-false _ _ none))))
 
--- `TakesFromFront` is true of the first component of each string that has components
+-- if s has components, `TakesFromFront` is true of v, the first of them
 pub takes_from_front : (s : List ℕ) (v : Value) (vs : List Value) → values s ≡ v ∷ vs
     → TakesFromFront s v (length (rest s 0 0)) (length (rest s 1 0))
 takes_from_front s v vs e = takes_from_front-by s v vs

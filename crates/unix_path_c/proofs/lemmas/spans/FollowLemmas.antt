@@ -25,7 +25,8 @@ Follow-earlier : (a b : ℕ) (ps : List Part) → a ≤ b → Follow b ps → Fo
 Follow-earlier a b [] l h = tt
 Follow-earlier a b (p ∷ ps) l h = (omega (arith, l, h.0), h.1, h.2)
 
--- the components of pieces follow one another
+-- the components of pieces, the first of which begins at index `at`, follow one another from `at`
+-- on
 Follow-pieces : (at : ℕ) (ps : List (List ℕ)) → Follow at (parts_of_pieces at ps)
 Follow-pieces at [] = tt
 Follow-pieces at (p ∷ ps) =
@@ -39,7 +40,8 @@ Follow-pieces at (p ∷ ps) =
     ))
     (λ e. rw e (Follow-earlier at (at + length p + 1) tail (omega arith) next))
 
--- the components of a string after its first component follow one another
+-- the inner components of s (all except a root or leading `.`), if s begins at index `at`, follow
+-- one another from `at` on
 Follow-inner : (at : ℕ) (s : List ℕ) → Follow at (inner_parts at s)
 unfolding inner_parts
 Follow-inner at s = Follow-pieces at (slice_split is_slash s)
@@ -65,7 +67,7 @@ root_byte : (s : List ℕ) → get_or s 0 0 ≡ 47 → take 1 s ≡ 47 ∷ []
 root_byte [] e = absurd (omega arith)
 root_byte (b ∷ s) e = ap (λ b. b ∷ []) e
 
--- a string with a root begins with the root's bytes
+-- `BeginsWith` is true of a string with a root
 begins_by_root : (s : List ℕ) → get_or s 0 0 ≡ 47 → BeginsWith s
 begins_by_root s e = record {
   value = RootDir;
@@ -75,7 +77,7 @@ begins_by_root s e = record {
   follow = Follow-inner 1 (drop 1 s);
 }
 
--- a string that is not empty and has no root begins with its first piece
+-- `BeginsWith` is true of a string that is not empty and has no root
 begins_by_name : (s : List ℕ) → 0 < length s → eqb (get_or s 0 0) 47 ≡ false → BeginsWith s
 begins_by_name s l e =
     let n = position_or_len is_slash s in
@@ -91,12 +93,12 @@ begins_by_name s l e =
       follow = subst (λ n. Follow n tail) size (Follow-inner n (drop n s));
     }
 
--- a string that is not empty begins with its first component
+-- `BeginsWith` is true of a string that is not empty
 pub begins_with : (s : List ℕ) → 0 < length s → BeginsWith s
 begins_with s l = by_test (eqb (get_or s 0 0) 47)
     (λ e. begins_by_root s (eqb-true _ 47 e)) (λ e. begins_by_name s l e)
 
--- the components of a string follow one another
+-- the components of a string follow one another from index 0 on
 pub Follow-parts : (s : List ℕ) → Follow 0 (parts s)
 Follow-parts s = by_test (ltb 0 (length s))
     (λ e.
@@ -109,7 +111,7 @@ pub record EndsWith (ps : List Part) (p : Part) : Type 0 where
   pub before : parts_end ps ≤ p.start
   pub size : p.end ≡ p.start + length (value_bytes p.value)
 
--- if components follow one another, and there are at least two, the last comes after the others
+-- if ps and then p follow one another from the end of q on, p comes after q and ps (`EndsWith`)
 ends_after : (q : Part) (ps : List Part) (p : Part) → Follow q.end (ps ++ p ∷ [])
     → EndsWith (q ∷ ps) p
 ends_after q [] p h = record { before = h.0; size = h.1 }
@@ -117,7 +119,7 @@ ends_after q (r ∷ ps) p h =
     let next = ends_after r ps p h.2 in
     record { before = next.before; size = next.size }
 
--- if components follow one another, the last comes after the others
+-- if ps and then p follow one another, p comes after ps (`EndsWith`)
 pub ends_with : (at : ℕ) (ps : List Part) (p : Part) → Follow at (ps ++ p ∷ []) → EndsWith ps p
 ends_with at [] p h = record { before = omega arith; size = h.1 }
 ends_with at (q ∷ ps) p h = ends_after q ps p h.2

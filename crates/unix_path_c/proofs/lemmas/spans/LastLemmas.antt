@@ -22,8 +22,8 @@ use Rattle.unix_path.proofs.lemmas.names.StemLemmas.{length-rest_whole-le}
 use Rattle.unix_path_c.proofs.lemmas.spans.FollowLemmas.{BeginsWith, Follow, Follow-parts}
 use Rattle.unix_path_c.proofs.lemmas.spans.FollowLemmas.{begins_with, ends_with}
 
--- v is the last component of s: v's bytes end at index n, and the rest before v is the first m
--- bytes
+-- v is the last component of s: the bytes of v end at index n, and the rest of s before v is its
+-- first m bytes
 pub record TakesFromBack (s : List ℕ) (v : Value) (n m : ℕ) : Type 0 where
   pub is : parts s ≡ parts (rest s 0 1)
       ++ record { start = n - length (value_bytes v); end = n; value = v } ∷ []
@@ -89,7 +89,7 @@ parts_end-rest s =
     let h = middle_of s 0 1 in
     parts_end-whole (rest s 0 1) (subst EndsInPart (sym (rest-middle s 0 1 h)) h.ends)
 
--- `TakesFromBack` is true of the last of a string's components
+-- if p is the last component of s, `TakesFromBack` is true of p
 takes_last : (s : List ℕ) (ps : List Part) (p : Part) → parts s ≡ ps ++ p ∷ []
     → TakesFromBack s p.value (length (rest s 0 0)) (length (rest s 0 1))
 takes_last s ps p e =
@@ -112,7 +112,7 @@ takes_last s ps p e =
       in_range = length-rest_whole-le s;
     }
 
--- `TakesFromBack` is true of the last component of each string that has components
+-- if s has components, `TakesFromBack` is true of v, the last of them
 pub takes_from_back : (s : List ℕ) (v : Value) (vs : List Value) → values s ≡ vs ++ v ∷ []
     → TakesFromBack s v (length (rest s 0 0)) (length (rest s 0 1))
 unfolding values

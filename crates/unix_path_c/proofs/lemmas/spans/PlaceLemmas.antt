@@ -28,7 +28,7 @@ use Rattle.unix_path_c.specs.Spans.{name_start_of}
 use Rattle.unix_path_c.proofs.lemmas.spans.StretchLemmas.{LiesInside, stands, stands-end, EndsAt}
 use Rattle.unix_path_c.proofs.lemmas.spans.StretchLemmas.{nothing_ends, range_ends}
 
--- a parent is a prefix of its path
+-- the parent of s is a prefix of s
 pub parent_inside : (s parent : List ℕ) → Some parent ≡ parent_of s → LiesInside s 0 parent
 parent_inside s parent e =
     let is = parent_of-some s parent (sym e) in
@@ -41,7 +41,7 @@ take-inside x y z =
     ap (λ t. take (length y) (drop (length x) t)) (append_assoc x y z)
     ∙ ap (take (length y)) (drop-append_seam x (y ++ z)) ∙ take-append_seam y z
 
--- the file name begins where the last component begins
+-- s contains its file name at the index where the last component of s begins
 name_inside : (s name : List ℕ) → Some name ≡ file_name_of (values s)
     → LiesInside s (last_start_of (parts s)) name
 name_inside s name e =
@@ -51,7 +51,7 @@ name_inside s name e =
     (ap₂ (λ i t. take (length name) (drop i t)) cut.start cut.whole
     ∙ take-inside cut.prefix name cut.back)
 
--- the file name ends where the last component ends
+-- s contains its file name, which ends at the index `end` where the last component of s ends
 pub name_ends : (s name : List ℕ) (end : ℕ) → Some name ≡ file_name_of (values s)
     → end ≡ length (rest s 0 0) → EndsAt s end name
 name_ends s name end e at =
@@ -124,7 +124,7 @@ split_name-extension name extension = by (ltb 1 (after_last is_dot name))
       is = sym (same_Some extension _ e);
     }
 
--- the extension ends where the file name ends
+-- s contains its extension, which ends at the index `end` where the file name of s ends
 pub extension_ends : (s extension : List ℕ) (end : ℕ) → Some end ≡ name_end_of s
     → Some extension ≡ extension_of (values s) → EndsAt s end extension
 extension_ends s extension end at e =
@@ -152,7 +152,8 @@ parts_end-drop (suc k) [] l = absurd (omega arith)
 parts_end-drop (suc k) (p ∷ []) l = absurd (omega arith)
 parts_end-drop (suc k) (p ∷ q ∷ ps) l = parts_end-drop k (q ∷ ps) (omega arith)
 
--- a span of components ends where the last of them ends
+-- if the components ps end at index `end` of s, or ps is empty, the bytes from the start of the
+-- first to the end of the last end at `end`
 span_ends : (s : List ℕ) (ps : List Part) (end : ℕ) → end ≤ length s
     → (0 < length ps → parts_end ps ≡ end) → EndsAt s end (span_of s ps)
 span_ends s [] end l h = nothing_ends s end l

@@ -15,7 +15,7 @@ order_of (negsuc n) = Less
 order_of (pos zero) = Equal
 order_of (pos (suc n)) = Greater
 
--- the order of an order's sign is that order
+-- the order whose sign is `sign_of o` is o
 order_of-sign_of : (o : Ordering) → order_of (sign_of o) ≡ o
 order_of-sign_of Less = refl
 order_of-sign_of Equal = refl
@@ -25,7 +25,7 @@ order_of-sign_of Greater = refl
 order_from : (o : Ordering) (n : ℤ) → n ≡ sign_of o → o ≡ order_of n
 order_from o n e = sym (order_of-sign_of o) ∙ ap order_of (sym e)
 
--- the sign is -1 if and only if the first list comes before the second
+-- the sign n of the order of v and w is -1 if and only if v comes before w
 pub sign-less : (v w : List Value) (n : ℤ) → n ≡ sign_of (values_cmp v w)
     → (n ≡ negsuc 0) ↔ IsBefore v w
 sign-less v w n e = (
@@ -33,7 +33,7 @@ sign-less v w n e = (
   λ before. e ∙ ap sign_of before,
 )
 
--- the sign is 0 if and only if the lists are equal
+-- the sign n of the order of v and w is 0 if and only if v and w are equal
 pub sign-equal : (v w : List Value) (n : ℤ) → n ≡ sign_of (values_cmp v w)
     → (n ≡ pos 0) ↔ (v ≡ w)
 sign-equal v w n e = (
@@ -42,7 +42,7 @@ sign-equal v w n e = (
       ∙ tied_itself values_cmp-total v),
 )
 
--- the sign is 1 if and only if the second list comes before the first
+-- the sign n of the order of v and w is 1 if and only if w comes before v
 pub sign-greater : (v w : List Value) (n : ℤ) → n ≡ sign_of (values_cmp v w)
     → (n ≡ pos 1) ↔ IsBefore w v
 sign-greater v w n e = (

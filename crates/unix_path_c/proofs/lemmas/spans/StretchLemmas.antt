@@ -34,7 +34,7 @@ pub record EndsAt (s : List ℕ) (end : ℕ) (w : List ℕ) : Type 0 where
   pub fits : length w ≤ end
   pub stands : LiesInside s (end - length w) w
 
--- the span has the bytes w and ends at `end`
+-- the span has the bytes w, ends at index `end` and lies within s
 pub record IsSpanOf (s : List ℕ) (end : ℕ) (w : List ℕ) (span : Span) : Type 0 where
   pub bytes : span_bytes s span ≡ w
   pub end_is : span_end span ≡ end
@@ -56,7 +56,7 @@ pub nothing_ends : (s : List ℕ) (end : ℕ) → end ≤ length s → EndsAt s 
 nothing_ends s end l =
     record { fits = omega arith; stands = stands s [] (end - 0) (omega arith) refl }
 
--- a range of s up to `end` ends there
+-- the bytes of s from index i to just before `end` end at `end`
 pub range_ends : (s : List ℕ) (i end : ℕ) → end ≤ length s
     → EndsAt s end (take (end - i) (drop i s))
 range_ends s i end l = by_test (ltb i end)

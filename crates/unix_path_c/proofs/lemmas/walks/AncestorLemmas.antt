@@ -22,7 +22,8 @@ remaining_ancestors-past path n past = by_test (leb n (length path))
     (λ e. let within = leb-true n (length path) e in absurd (omega arith))
     (λ e. ap (λ c. cond c (ancestors_of (take n path)) []) e)
 
--- if the first n bytes have no parent, they are the only remaining ancestor
+-- if the first n bytes have no parent, and m is greater than the path's length, the remaining
+-- ancestors for n are these bytes and then those for m, which are none
 pub remaining_ancestors-last : (path : List ℕ) (n m : ℕ) → n ≤ length path
     → None ≡ parent_of (take n path) → length path < m
     → remaining_ancestors path n ≡ take n path ∷ remaining_ancestors path m

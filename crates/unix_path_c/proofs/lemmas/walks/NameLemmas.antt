@@ -66,12 +66,14 @@ module _ (s : List ℕ) (start : ℕ) (some : 0 < length s) (last : IsOrdinary s
         rest_is = taken.rest;
       }
 
-  -- a name at index 0, or at index 1 after a root
+  -- if the last name starts at index 0, or at index 1 after the root, the rest before it consists
+  -- of all bytes before it
   pub name_first : start < 2 → EndsInName s start start
   name_first few = name_last start (omega arith) refl
       (λ l. ap (is_trailing s) {x = start - 1} {y = 0} (omega arith))
 
-  -- a name with a slash before it, and another name before that slash
+  -- if the byte before the last slash is ordinary, the rest before the last name consists of the
+  -- bytes before this slash
   pub name_after : 2 ≤ start → IsOrdinary s (start - 2) → EndsInName s (start - 1) start
   name_after enough ordinary =
       let slash : eqb (get_or s (start - 1) 0) 47 ≡ true =

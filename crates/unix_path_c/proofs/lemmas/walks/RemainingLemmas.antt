@@ -23,7 +23,7 @@ use Rattle.unix_path_c.specs.declared.spans.Span.{Span}
 use Rattle.unix_path_c.specs.declared.walks.Part.{Part}
 use Rattle.unix_path_c.specs.declared.walks.Walk.{Walk}
 
--- the walk's indices are in the path, in order, and s lies between them
+-- the walk's indices are in the path, in order, and s consists of the bytes between them
 pub record Between (path : List ℕ) (walk : Walk) (s : List ℕ) : Type 0 where
   pub in_order : walk.front ≤ walk.back
   pub in_range : walk.back ≤ length path
@@ -73,7 +73,8 @@ remaining-outside path walk outside =
     ⊎_elim (λ less. absurd (omega arith)) (λ past. absurd (omega arith)) outside)
     (λ e. ap (λ c. cond c s []) e)
 
--- the bytes at index i of a range that begins at index a are the path's bytes at index a + i
+-- if the range of the path from index a to b has k bytes from its index i on, these are the k bytes
+-- of the path from index a + i on
 pub take-range : (path : List ℕ) (a b i k : ℕ) → i + k ≤ b - a
     → take k (drop i (slice_range path a b)) ≡ take k (drop (a + i) path)
 take-range path a b i k l =
@@ -83,7 +84,8 @@ take-range path a b i k l =
     ∙ take-take k (b - a - i) (drop i (drop a path)) (omega (arith, l))
     ∙ ap (take k) (drop-drop i a path)
 
--- the path's bytes at index `walk.front + i` are the bytes at index i of the rest
+-- if s is the rest of the walk, and has k bytes from index i on, these are the k bytes of the path
+-- from index `walk.front + i` on
 pub take-remaining : (path : List ℕ) (walk : Walk) (s : List ℕ) (from i k : ℕ)
     → Between path walk s → i + k ≤ length s → from ≡ walk.front + i
     → take k (drop from path) ≡ take k (drop i s)
@@ -92,7 +94,8 @@ take-remaining path walk s from i k h l start =
     ∙ sym (take-range path walk.front walk.back i k (omega (arith, l, h.size)))
     ∙ ap (λ s. take k (drop i s)) (sym h.is)
 
--- a range of the path that begins at index `walk.front + i` is a range of the rest at index i
+-- if s is the rest of the walk, and has k bytes from index i on, these are the bytes of the path
+-- from index `walk.front + i` to k bytes after it
 pub range-remaining : (path : List ℕ) (walk : Walk) (s : List ℕ) (from to i k : ℕ)
     → Between path walk s → i + k ≤ length s → from ≡ walk.front + i → to ≡ from + k
     → slice_range path from to ≡ take k (drop i s)
@@ -169,7 +172,8 @@ is_rest_span-at path walk span bytes in_range = record {
   in_range = in_range;
 }
 
--- a span from the walk's first index on, as long as the rest, is the span of the rest
+-- if a span starts at the walk's first index, or at the path's end if this index is past it, and is
+-- as long as the rest without trailing filler, it is the span of the rest
 pub is_rest_span : (path : List ℕ) (walk : Walk) (span : Span)
     → span.start ≡ min walk.front (length path)
     → span.length ≡ length (rest (remaining path walk) 0 0) → IsRestSpan path walk span

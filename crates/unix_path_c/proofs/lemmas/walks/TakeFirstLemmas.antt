@@ -78,7 +78,8 @@ taken_from_front path old new part v e start size kind back front =
       );
     }
 
--- equal strings have the same rest before any step
+-- if t is s, and `rest_bytes` is t without its trailing filler, then `rest_bytes` is s without its
+-- trailing filler
 pub rest-same : {s t rest_bytes : List ℕ} → rest_bytes ≡ rest t 0 0 → t ≡ s → rest_bytes
     ≡ rest s 0 0
 rest-same is same = is ∙ ap (λ u. rest u 0 0) same
@@ -103,12 +104,14 @@ pub nothing_first : (s : List ℕ) (old new : Components) → cursor_rest old �
 nothing_first s old new whole h =
     values-none s (sym (values-whole s (cursor_rest old) whole) ∙ h.item_is.0)
 
--- the indices that a step from the front computes are in the path, in order
+-- `whole`, the rest of the walk, lies in the path, and `behind`, the rest after the first
+-- component, is no longer than `whole`
 pub record FrontStepFits (path : List ℕ) (walk : Walk) (whole behind : List ℕ) : Type 0 where
   pub in_range : walk.front + length whole ≤ length path
   pub fewer : length behind ≤ length whole
 
--- the indices that a step from the front computes from a fresh cursor are in the path, in order
+-- `FrontStepFits` is true of the rest of a walk and of what remains of it after a fresh cursor over
+-- it returned a component from the front
 pub front_step_fits : (path : List ℕ) (walk : Walk) (old new : Components) (x : Component)
     (whole behind : List ℕ) → cursor_rest old ≡ rest (remaining path walk) 0 0
     → GivesFirstPart old (Some x) new → whole ≡ cursor_rest old → behind ≡ cursor_rest new
@@ -125,7 +128,8 @@ front_step_fits path walk old new x whole behind w h all but =
       fewer = omega (arith, t.fewer, long, less);
     }
 
--- a step from the front removes the component that a fresh cursor returns from the front
+-- the step from the front that is computed from a fresh cursor over the rest of a walk removes the
+-- component that the cursor returns
 pub next_gives : (path : List ℕ) (walk : Walk) (old new : Components) (x : Component)
     (whole behind text : List ℕ) (kind : ℕ) → cursor_rest old ≡ rest (remaining path walk) 0 0
     → GivesFirstPart old (Some x) new → whole ≡ cursor_rest old → behind ≡ cursor_rest new

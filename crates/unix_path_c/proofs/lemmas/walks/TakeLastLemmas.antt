@@ -97,14 +97,16 @@ pub nothing_last : (s : List ℕ) (old new : Components) → cursor_rest old ≡
 nothing_last s old new whole h =
     values-none s (sym (values-whole s (cursor_rest old) whole) ∙ h.item_is.0)
 
--- the indices that a step from the back computes are in the path, in order
+-- `whole`, the rest of the walk, lies in the path; neither `text`, its last component, nor the
+-- `rest_bytes` bytes before this component are longer than `whole`
 pub record BackStepFits (path : List ℕ) (walk : Walk) (whole text : List ℕ) (rest_bytes : ℕ)
     : Type 0 where
   pub in_range : walk.front + length whole ≤ length path
   pub fits : length text ≤ length whole
   pub fewer : rest_bytes ≤ length whole
 
--- the indices that a step from the back computes from a fresh cursor are in the path, in order
+-- `BackStepFits` is true of the rest of a walk and of the component that a fresh cursor over this
+-- rest returns from the back
 pub back_step_fits : (path : List ℕ) (walk : Walk) (old new : Components) (x : Component)
     (whole text : List ℕ) → cursor_rest old ≡ rest (remaining path walk) 0 0
     → GivesLastPart old (Some x) new → whole ≡ cursor_rest old → text ≡ value_bytes (value_of x)
@@ -124,7 +126,8 @@ back_step_fits path walk old new x whole text w h all bytes =
       fewer = omega (arith, t.before, t.fits, long, less);
     }
 
--- a step from the back removes the component that a fresh cursor returns from the back
+-- the step from the back that is computed from a fresh cursor over the rest of a walk removes the
+-- component that the cursor returns
 pub next_back_gives : (path : List ℕ) (walk : Walk) (old new : Components) (x : Component)
     (whole before text : List ℕ) (kind : ℕ) → cursor_rest old ≡ rest (remaining path walk) 0 0
     → GivesLastPart old (Some x) new → whole ≡ cursor_rest old → before ≡ cursor_rest new
