@@ -241,7 +241,8 @@ fn manifests_are_normalised(rt: HostRuntime) -> Result<(), Fail> {
 // The number of paths of a letter, a slash and a letter.
 const LETTERS: usize = 676;
 
-// Returns these paths in increasing order, or in decreasing order if `falls` is true.
+// Returns all paths of a letter, a slash and a letter, in increasing order, or in decreasing order
+// if `falls` is true.
 fn letters(alloc: Global, falls: bool) -> Result<Vec<PathBuf>, AllocError> {
     let mut paths = Vec::with_capacity(alloc, LETTERS)?;
     for place in 0..LETTERS {
@@ -370,7 +371,7 @@ fn tree_of(alloc: Global, files: &[(&str, u8)]) -> Result<PathTree<u8>, AllocErr
     Ok(tree)
 }
 
-// Returns true if the path goes to the handler, with the expected rest.
+// Returns true if the row's path is routed to the row's handler, with the row's rest.
 fn is_routed(routes: &PathTree<u8>, row: &(&str, u8, &str)) -> Result<bool, AllocError> {
     let (handler, left) = route(routes, &0, Path::from_text(row.0))?;
     Ok(*handler == row.1 && left.as_unix_str() == UnixStr::new(row.2))

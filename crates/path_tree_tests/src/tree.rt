@@ -40,8 +40,8 @@ fn has_at(
     Ok(by_path && by_key && is_known && tree.contains(&key) == want.is_some())
 }
 
-// The tree's paths, a path, and its position among the tree's paths, counted from 1, if it equals
-// one of them.
+// The tree's paths, another path, and the position of the tree's path that equals it, counted from
+// 1, or `None` if there is none.
 type Row = (&'static [&'static str], &'static [u8], Option<u32>);
 
 static FOUND: [Row; 14] = [
@@ -103,8 +103,8 @@ fn is_taken_out(alloc: Global, tree: &mut PathTree<u32>, len: u32) -> Result<boo
     )
 }
 
-// Tests that the tree finds names whose keys have one byte less than fits on the stack, as many,
-// and one more.
+// Tests that the tree finds names whose keys have 511, 512 and 513 bytes. A key of at most 512
+// bytes fits on the stack.
 #[test]
 fn long_paths_are_found(rt: HostRuntime) -> Result<(), Fail> {
     let mut tree = PathTree::new(rt.alloc());
@@ -118,8 +118,8 @@ fn long_paths_are_found(rt: HostRuntime) -> Result<(), Fail> {
     Ok(())
 }
 
-// Returns true if the value at `a/b` is 8, can be changed to 9 and back to 8 by paths, and `./a/b`
-// is absent.
+// Returns true if the value at `a/b` is 8, can be changed to 9 and back to 8 through other
+// spellings of the path, and `./a/b` is absent.
 fn writes_by_path(tree: &mut PathTree<u32>) -> bool {
     for (path, old, new) in [("a//b", 8u32, 9u32), ("./a/b", 0, 0), ("a/b/.", 9, 8)] {
         match tree.get_mut_path(Path::from_text(path)) {

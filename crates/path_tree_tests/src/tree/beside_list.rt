@@ -77,7 +77,7 @@ impl Listed {
     }
 
     // Finds the longest listed path that this path starts with. Returns the rest of this path after
-    // it, and its value.
+    // the listed path, and the listed path's value.
     fn longest_prefix<'a>(&self, path: Path<'a>) -> Option<(Path<'a>, u32)> {
         let mut most = 0;
         let mut found = None;

@@ -5,8 +5,8 @@ use std::alloc::{AllocError, Global};
 use std::test::Fail;
 use unix_path::Path;
 
-// Paths of a tree, a base, and the base's children. If a child is one of the paths, it has its
-// position among the paths, counted from 1.
+// Paths of a tree, a base, and the base's children, each with its position among the paths, counted
+// from 1, or `None` if it is not one of them.
 type Row = (
     &'static [&'static str],
     &'static str,

@@ -30,8 +30,8 @@ fn stands(number: u64) -> bool {
     number < FILES && number % 3 != 0 && number % 7 != 0
 }
 
-// Returns the number of the nearest entry's path, or 0 if there is none, and the number of names
-// after that path.
+// Finds the nearest entry of the path of a number. Returns the number of the entry's path, or 0 if
+// there is none, and the number of names after the entry's path.
 fn nearest_number(number: u64) -> (u64, usize) {
     let mut near = number;
     let mut left = 0usize;

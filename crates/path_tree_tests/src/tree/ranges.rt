@@ -6,7 +6,7 @@ use std::alloc::{AllocError, Global};
 use std::test::Fail;
 use unix_path::Path;
 
-// Paths of a tree, a base, and the paths that start with it, in path order.
+// Paths of a tree, a base, and the tree's paths that start with the base, in path order.
 type Row = (
     &'static [&'static str],
     &'static str,
@@ -83,7 +83,7 @@ fn what_is_removed_under_a_base(rt: HostRuntime) -> Result<(), Fail> {
     Ok(())
 }
 
-// Returns true if the entry is this value at this path.
+// Returns true if there is an entry, and it has this path and this value.
 fn is_entry(
     alloc: Global,
     entry: Option<(&[u8], &u32)>,
@@ -119,7 +119,7 @@ fn entries_in_path_order(rt: HostRuntime) -> Result<(), Fail> {
     Ok(())
 }
 
-// Returns true if these are the entries of the first tree whose paths the second tree lacks.
+// Returns true if `want` are the entries of the first tree whose paths the second tree lacks.
 fn lacks(
     tree: &PathTree<u32>,
     other: &PathTree<u32>,
@@ -137,7 +137,8 @@ fn what_another_tree_lacks(rt: HostRuntime) -> Result<(), Fail> {
     Ok(())
 }
 
-// Returns true if these are the entries that both trees have, but with different values.
+// Returns true if `want` are the paths that both trees have, but with different values, and these
+// values.
 fn differ(
     tree: &PathTree<u32>,
     other: &PathTree<u32>,

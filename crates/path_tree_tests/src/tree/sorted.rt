@@ -34,8 +34,8 @@ fn with_places(
     Ok(items)
 }
 
-// Returns true if a tree of all the paths is created if they `rise`, and otherwise the paths are
-// rejected.
+// If `rise` is true, returns true if a tree of all the paths is created. Otherwise returns true if
+// the paths are rejected.
 fn is_made(alloc: Global, paths: &[&'static str], rise: bool) -> Result<bool, AllocError> {
     let items = with_places(alloc, paths)?;
     match PathTree::from_sorted(alloc, items.iter().copied()) {

@@ -70,8 +70,8 @@ fn is_led(alloc: Global, from: Path<'_>, to: Path<'_>) -> Result<bool, AllocErro
     }
 }
 
-// Returns true if `join_within` returns the path `whole`, which is the join, resolved, or if the
-// request escapes and is refused.
+// Returns true if `join_within` returns the resolved form of `whole`, which is the join of the two
+// paths, or if it refuses the request, which then has to escape.
 fn is_joined_within(
     alloc: Global,
     root: Path<'_>,
