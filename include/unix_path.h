@@ -1,10 +1,9 @@
 /* Unix paths as plain bytes: the calls of the library unix_path.
  *
  * A path is passed as a pointer to its bytes and their number. It may contain any byte, including
- * NUL, and needs no NUL after it. Its components are the root, a leading `.`, and then each name
- * and each `..`.
- * Paths with the same components are equal. `..` is a component like a name, except in calls that
- * resolve it. No file is touched.
+ * NUL, and needs no NUL after it. Its components are the root or a leading `.`, if it begins with
+ * one, and then each name and each `..`. Paths with the same components are equal. `..` is a
+ * component like a name, except in calls that resolve it. No file is touched.
  *
  * No call allocates, locks or reads global state, so all may be made in signal handlers and from
  * many threads. This example joins a request from outside to a root, so that the result stays
@@ -70,8 +69,8 @@
  *                                  path to the second
  *     UNIX_PATH_NOT_A_KEY          _from_key, _key_range_end: no path has this key
  *     UNIX_PATH_NO_END             _key_range_end: the key is empty
- *     UNIX_PATH_TOO_LONG           all of these except _key_range_end, and _to_string_lossy: the
- *                                  result has more than PTRDIFF_MAX bytes, which no buffer has
+ *     UNIX_PATH_TOO_LONG           _to_string_lossy, and all calls above except _key_range_end:
+ *                                  the result has more than PTRDIFF_MAX bytes, which no buffer has
  *
  * All error codes are greater than the length of any buffer. None is SIZE_MAX, so that a program
  * that adds 1 to an error code by mistake does not call malloc with 0.
@@ -216,8 +215,9 @@ bool unix_path_parent(const void *path, size_t path_length, unix_path_span *span
 /* Finds the last component. Returns false if it is not a name. For `a/b.txt/.` it is `b.txt`. */
 bool unix_path_file_name(const void *path, size_t path_length, unix_path_span *span);
 
-/* Finds the file name up to its last dot, or all of it if there is no dot. This call and the next
- * two ignore a dot at the file name's beginning, and return false if there is no file name:
+/* Finds the part of the file name before its last dot, or all of it if it has no dot. This call and
+ * the next two ignore a dot at the file name's beginning, and return false if the path has no file
+ * name:
  *
  *     file name    file_stem    extension    file_prefix
  *     a.tar.gz     a.tar        gz           a
@@ -227,11 +227,11 @@ bool unix_path_file_name(const void *path, size_t path_length, unix_path_span *s
  */
 bool unix_path_file_stem(const void *path, size_t path_length, unix_path_span *span);
 
-/* Finds the file name after its last dot. Returns false if there is no dot. See
+/* Finds the part of the file name after its last dot. Returns false if there is no dot. See
  * unix_path_file_stem. */
 bool unix_path_extension(const void *path, size_t path_length, unix_path_span *span);
 
-/* Finds the file name up to its first dot, or all of it if there is no dot. See
+/* Finds the part of the file name before its first dot, or all of it if it has no dot. See
  * unix_path_file_stem. */
 bool unix_path_file_prefix(const void *path, size_t path_length, unix_path_span *span);
 

@@ -1,8 +1,8 @@
 //! Edits of a path in a `Vec`. If an edit fails, the path is unchanged.
 //!
-//! Each fails with [`Error::NoMemory`] if an allocation fails, and never with [`Error::Short`].
-//! `set_file_name` and `set_extension` allocate if the vector has no capacity for the result, and
-//! also if the path and the argument have more than 255 bytes together.
+//! Each edit fails with [`Error::NoMemory`] if an allocation fails, and never with
+//! [`Error::Short`]. `set_file_name` and `set_extension` allocate if the vector has no capacity for
+//! the result, and also if the path and the argument have more than 255 bytes together.
 use crate::error::Error;
 use crate::ffi::MakeOfTwo;
 use crate::owned::vec_with_room;

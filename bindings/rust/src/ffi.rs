@@ -37,7 +37,8 @@ fn error_of(answer: usize) -> Error {
     }
 }
 
-/// Returns what a call wrote at the beginning of the buffer, given the number that it returned.
+/// Returns the bytes that a call wrote to the beginning of the buffer, if the number that it
+/// returned is their length. Otherwise returns the error for this number.
 #[inline]
 fn output(out: &[u8], answer: usize) -> Result<&[u8], Error> {
     out.get(..answer).ok_or_else(|| error_of(answer))
@@ -181,7 +182,7 @@ pub(crate) fn version() -> u32 {
     unsafe { unix_path_version() }
 }
 
-/// Calls that find something in a path.
+/// Calls that find a span of a path.
 pub(crate) struct Find(unsafe extern "C" fn(Start, usize, *mut Span) -> bool);
 
 impl Find {
@@ -198,7 +199,7 @@ impl Find {
     }
 }
 
-/// Calls that find something in a path, given another path.
+/// Calls that find a span of a path, given another path.
 pub(crate) struct FindOfTwo(unsafe extern "C" fn(Start, usize, Start, usize, *mut Span) -> bool);
 
 impl FindOfTwo {
@@ -238,7 +239,7 @@ impl<T> AskTwo<T> {
     }
 }
 
-/// Calls that write what they make from a path or a key.
+/// Calls that make a path or a key from one path or key, and write it to a buffer.
 #[derive(Clone, Copy)]
 pub(crate) struct Make(unsafe extern "C" fn(Start, usize, *mut u8, usize) -> usize);
 
@@ -260,7 +261,7 @@ impl Make {
     }
 }
 
-/// Calls that write what they make from a path and another argument.
+/// Calls that make a path from a path and a second argument, and write it to a buffer.
 #[derive(Clone, Copy)]
 pub(crate) struct MakeOfTwo(
     unsafe extern "C" fn(Start, usize, Start, usize, *mut u8, usize) -> usize,
@@ -290,7 +291,7 @@ impl MakeOfTwo {
             (self.0)(start, length, other.as_ptr(), other.len(), out, room)
         })
     }
-    /// Writes after the vector's first `kept` bytes, which are unchanged.
+    /// Lets the call write its result after the vector's first `kept` bytes, which are unchanged.
     #[cfg(feature = "alloc")]
     #[inline]
     pub fn fill_behind(

@@ -160,7 +160,7 @@ find_as! {
     file_prefix(path) -> &OsStr, OsStr::from_bytes;
 }
 
-/// Returns what follows `base` in the path; see [`crate::strip_prefix`].
+/// Returns the rest of the path after `base`; see [`crate::strip_prefix`].
 ///
 /// ```
 /// # use std::path::Path;

@@ -114,7 +114,7 @@ pub fn file_prefix(path: &[u8]) -> Option<&[u8]> {
     Find::FILE_PREFIX.find(path)
 }
 
-/// Returns what follows `base` in `path`, or `None` if [`starts_with`] is false.
+/// Returns the rest of `path` after `base`, or `None` if [`starts_with`] is false.
 ///
 /// An empty result may be at another position in the path than in Rust's `Path::strip_prefix`.
 ///
@@ -252,8 +252,8 @@ pub fn escapes(path: &[u8]) -> bool {
     Ask::ESCAPES.ask(path)
 }
 
-/// Returns `Ok` if [`join_beneath`](crate::join_beneath) joins the request, and otherwise why it
-/// refuses it.
+/// Returns `Ok` if [`join_beneath`](crate::join_beneath) joins the request, and otherwise the
+/// reason for which it refuses the request.
 ///
 /// Fails with `Rooted` if and only if the request has a root; otherwise with `Escapes` if and only
 /// if its `..` lead above where it starts; otherwise with `Nul` if and only if it has a NUL byte,

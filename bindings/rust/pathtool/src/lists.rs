@@ -44,8 +44,8 @@ pub fn push_walk(path: &[u8], turns: &[u8], answer: &mut Vec<u8>) -> bool {
     true
 }
 
-/// Appends a list: for each path of `others` that starts with `base`, what follows the base, in
-/// canonical form. The list is sorted, and of equal paths only one is listed.
+/// Appends a list: for each path of `others` that starts with `base`, the rest of this path after
+/// the base, in canonical form. The list is sorted, and of equal paths only one is listed.
 pub fn push_under(base: &[u8], others: &[&[u8]], answer: &mut Vec<u8>) -> Result<(), Error> {
     let mut others: Vec<_> = others.iter().copied().map(ByComponents).collect();
     others.sort();

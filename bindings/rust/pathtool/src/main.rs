@@ -18,7 +18,7 @@ fn push_option(item: Option<&[u8]>, answer: &mut Vec<u8>) {
     }
 }
 
-/// Appends what follows the base in the path, or a message that the path does not start with the
+/// Appends the rest of the path after the base, or a message that the path does not start with the
 /// base.
 fn push_stripped(path: &[u8], base: &[u8], answer: &mut Vec<u8>) {
     match paths::strip_prefix(path, base) {

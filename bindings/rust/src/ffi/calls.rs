@@ -1,7 +1,7 @@
 // tools/calls made this file from the exports of crates/unix_path_c/src: the calls by shape.
 //
-// Each macro passes the names of the calls of its shape to another macro, with the types of
-// the answers of questions.
+// Each macro passes the names of the calls of its shape to another macro. A call that answers a
+// question is passed with the type of its answer.
 #[allow(unused_macros)]
 macro_rules! ask_nothing {
     ($each:ident) => {

@@ -49,7 +49,7 @@ pub struct Chunk {
     pub(super) broken_length: usize,
 }
 
-/// The kinds.
+/// The kinds of components.
 impl Part {
     pub const ROOT_DIR: u32 = 0;
     pub const CUR_DIR: u32 = 1;

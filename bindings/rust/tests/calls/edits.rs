@@ -2,14 +2,14 @@
 use crate::short_strings::over;
 use unix_path_rattle::{self as paths, edits, owned, Error};
 
-/// Returns the result of an edit of a copy of the path, and what the edit leaves.
+/// Edits a copy of the path. Returns the result of the edit, and the edited copy.
 fn edited<T>(path: &[u8], edit: impl FnOnce(&mut Vec<u8>) -> T) -> (T, Vec<u8>) {
     let mut copy = path.to_vec();
     (edit(&mut copy), copy)
 }
 
-/// Checks that each edit of the path, given the other bytes, leaves what the corresponding function
-/// of `owned` returns.
+/// Checks that each edit of `path` with the argument `other` makes the same path as the function of
+/// `owned` that returns an edited copy.
 fn are_as_made(path: &[u8], other: &[u8]) {
     let (pushed, left) = edited(path, |path| edits::push(path, other));
     assert_eq!((pushed, Ok(left)), (Ok(()), owned::join(path, other)));

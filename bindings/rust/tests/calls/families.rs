@@ -25,7 +25,7 @@ fn slash_from(bytes: &[u8], at: usize) -> usize {
 struct Random(u64);
 
 impl Random {
-    /// Returns a number below this one.
+    /// Returns a number less than `end`.
     fn below(&mut self, end: usize) -> usize {
         self.0 = self.0.wrapping_add(0x9E37_79B9_7F4A_7C15);
         let mixed = (self.0 ^ self.0 >> 30).wrapping_mul(0xBF58_476D_1CE4_E5B9);

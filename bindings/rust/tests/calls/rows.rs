@@ -80,9 +80,9 @@ fn word(error: Error) -> String {
     word.to_string()
 }
 
-/// Returns the field of a row for what a call made in a new vector. Checks `write`, the same call
-/// with a buffer, for all lengths of the buffer up to 3 bytes more than needed: it writes the same
-/// bytes if they fit, and otherwise nothing.
+/// Returns the field of a row for `made`, the result of a call that returns a new vector. Checks
+/// `write`, the same call with a buffer, for all lengths of the buffer up to 3 bytes more than
+/// needed: it writes the same bytes if they fit, and otherwise nothing.
 fn written<T: Made, F>(made: Result<T, Error>, write: F) -> Vec<String>
 where
     F: Fn(&mut [u8]) -> Result<Option<Vec<u8>>, Error>,

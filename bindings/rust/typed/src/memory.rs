@@ -3,9 +3,9 @@ use alloc::alloc::{handle_alloc_error, Layout};
 use alloc::vec::Vec;
 use unix_path_rattle::Error;
 
-/// Ends the program after an error. For `NoMemory`, this is how a `Vec` ends it that cannot grow to
-/// `size` bytes. For any other error, panics with the error's message; if the library is correct,
-/// that error is a separator in an extension.
+/// Ends the program after an error. For `NoMemory`, ends it in the way of a `Vec` that cannot grow
+/// to `size` bytes. For any other error, panics with the error's message; with a correct library,
+/// the only other error is a separator in an extension.
 #[cold]
 pub(crate) fn fail(error: Error, size: usize) -> ! {
     match Layout::array::<u8>(size) {

@@ -298,7 +298,7 @@ impl Ord for PathBuf {
     }
 }
 
-/// Hashes the path, as [`Borrow`] requires.
+/// Feeds the hasher the same bytes as the path, as [`Borrow`] requires.
 impl Hash for PathBuf {
     #[inline]
     fn hash<H: Hasher>(&self, state: &mut H) {

@@ -219,7 +219,7 @@ impl Borrow<UnixStr> for UnixString {
     }
 }
 
-/// Hashes the text, as [`Borrow`] requires.
+/// Feeds the hasher the same bytes as the text, as [`Borrow`] requires.
 impl Hash for UnixString {
     #[inline]
     fn hash<H: Hasher>(&self, state: &mut H) {

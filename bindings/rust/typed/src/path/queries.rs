@@ -126,7 +126,7 @@ impl Path {
         calls::file_prefix(self.bytes()).map(UnixStr::of)
     }
 
-    /// Returns what follows `base` in the path. Fails if and only if
+    /// Returns the rest of the path after `base`. Fails if and only if
     /// [`starts_with`](Path::starts_with) is false.
     ///
     /// An empty result may be at another position in the path than in Rust's `Path::strip_prefix`.

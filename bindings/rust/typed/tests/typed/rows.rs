@@ -86,7 +86,8 @@ lacking! {
     resolved() key() from_key() key_range_end()
 }
 
-/// Returns the path with that extension. The method panics for a slash.
+/// Returns the fields for the path `a` with the extension `b`. The method panics if `b` contains a
+/// slash.
 fn with_extension(a: &[u8], b: &[u8]) -> Vec<String> {
     catch_unwind(|| ours(a).with_extension(UnixStr::from_bytes(b)).fields(a))
         .unwrap_or_else(|_| vec!["!separator".to_string()])

@@ -20,7 +20,7 @@ impl Random {
         Random(0x2545_F491_4F6C_DD1D)
     }
 
-    /// Returns a number below this one.
+    /// Returns a number less than `end`.
     pub fn below(&mut self, end: usize) -> usize {
         self.0 ^= self.0 << 13;
         self.0 ^= self.0 >> 7;
