@@ -134,7 +134,8 @@ fn canonical(path: &Path) -> PathBuf {
     path.components().collect()
 }
 
-/// Appends what follows the base in the paths that start with it.
+/// Appends, for each path that starts with the base, the rest of the path after the base, in
+/// canonical form.
 fn push_under(base: &Path, fields: &[&[u8]], answer: &mut Vec<u8>) {
     let paths: BTreeSet<PathBuf> = fields.iter().map(|field| path(field).into()).collect();
     let rests: Vec<PathBuf> = paths

@@ -25,10 +25,9 @@ static inline bool reaches(unix_path_span span, const unix_path_part *parts, siz
            && span.start + span.length == last.start + last.length;
 }
 
-// Takes four components, from the front for each bit of `turns` that is 1 and from the back for
-// each
-// 0. Checks that the components taken from the front, those of the rest, and those taken from the
-// back are together the path's components.
+// Takes four components: from the front for each bit of `turns` that is 1, and from the back for
+// each bit that is 0. Checks that the components taken from the front, those of the rest, and those
+// taken from the back are together the path's components.
 static inline void walk_by(view path, unsigned turns, const unix_path_part *parts, size_t count) {
     size_t front = 0, behind = count;
     unix_path_walk walk, fresh;

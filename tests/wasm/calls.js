@@ -73,7 +73,7 @@ function setField(number, place, value) {
     memory.setBigUint64(records + number * RECORD + 8 * place, value, true);
 }
 
-// Returns the start and the length of what a call finds in the first path, or null.
+// Returns the start and the length of the span that a call finds in the first path, or null.
 function find(name, paths) {
     fill(records, RECORD);
     if (call(name, paths, record(0))) {

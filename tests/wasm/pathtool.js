@@ -30,8 +30,8 @@ function strip(path, base) {
     return span ? "+" + path.substr(span.start, span.length) : "prefix not found";
 }
 
-// For each path that starts with the base, returns what follows the base. The list is sorted, and
-// of equal paths only one is listed.
+// For each path that starts with the base, returns the rest of the path after the base. The list is
+// sorted, and of equal paths only one is listed.
 function under(base, ...paths) {
     const order = (a, b) => call("compare", [a, b]);
     const sorted = paths.sort(order).filter((path, at, all) => (
@@ -67,7 +67,8 @@ const EDITS = {
     },
 };
 
-// Replaces the path with what a call writes; returns false if that is an error.
+// Replaces the path with the bytes that a call writes. Returns false if the call returns an error
+// code.
 function replace(list, name, end) {
     const answer = write(name, [list.path, end]);
     list.path = typeof answer === "bigint" ? list.path : answer;

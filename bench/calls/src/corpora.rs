@@ -12,9 +12,9 @@ pub enum Other {
     Same,
     Next,
     Respelled,
-    /// Its components up to the middle.
+    /// The path's components up to the middle.
     Front,
-    /// Its components from the middle on.
+    /// The path's components from the middle on.
     Behind,
     Name,
     Extension,
@@ -78,8 +78,8 @@ pub fn corpora() -> Vec<Corpus> {
     .collect()
 }
 
-/// Returns what is before and after the middle one of the path's slashes. If the path has no slash,
-/// both are the whole path.
+/// Returns the bytes before and after the middle one of the path's slashes. If the path has no
+/// slash, both are the whole path.
 fn at_middle(path: &[u8]) -> (&[u8], &[u8]) {
     let slashes: Vec<usize> = (0..path.len()).filter(|at| path[*at] == b'/').collect();
     match slashes.get(slashes.len() / 2) {
@@ -229,7 +229,7 @@ fn non_utf8(listing: &[Vec<u8>]) -> Vec<Vec<u8>> {
     paths
 }
 
-/// Inserts bytes after some ASCII byte of the path.
+/// Inserts bytes after a random ASCII byte of the path.
 fn insert(path: &mut Vec<u8>, bytes: &[u8], random: &mut Random) {
     let mut at = random.below(path.len());
     while !path[at].is_ascii() {

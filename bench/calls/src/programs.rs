@@ -55,7 +55,7 @@ pub fn run(program: &str, input: &str, output: Stdio) -> u64 {
     u64::from(!status.success())
 }
 
-/// Returns what the program writes.
+/// Returns the bytes that the program writes for the lines of a file.
 fn output(program: &str, input: &str, folder: &str) -> Vec<u8> {
     let output = format!("{folder}/answers");
     let file = File::create(&output).expect("the folder can be written to");

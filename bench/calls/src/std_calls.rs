@@ -130,7 +130,7 @@ pub unsafe extern "C" fn ends_with(path: Start, len: usize, child: Start, child_
         .into()
 }
 
-/// Returns the digest of what follows the base, or `NONE`.
+/// Returns the digest of the rest of the path after the base, or `NONE`.
 pub unsafe extern "C" fn strip_prefix(
     path: Start,
     len: usize,

@@ -25,7 +25,8 @@ fn list_below(tree: Tree, files: &Table, count: u64, digest: &mut Digest) {
     }
 }
 
-/// Returns the entry with the longest path that this path starts with, and what follows it.
+/// Finds the entry with the longest path that this path starts with. Returns the rest of this path
+/// after the entry's path, and the entry's value.
 fn nearest<'a>(files: &Table, path: &'a Path) -> Option<(&'a Path, u64)> {
     let found = path
         .ancestors()

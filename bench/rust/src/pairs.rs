@@ -26,8 +26,8 @@ fn push_respelled(out: &mut Vec<u8>, path: &[u8], noise: u64) {
     }
 }
 
-/// Returns a part of the path, or all of it: what is before or after the index, the path's parent,
-/// or its file name.
+/// Returns a part of the path, selected by `word`: the bytes before or after index `place`, the
+/// parent, the file name, or the whole path.
 fn part_of(path: &[u8], place: usize, word: u64) -> &[u8] {
     match word & 7 {
         0 => &path[..place],
@@ -75,7 +75,8 @@ fn compare(first: &Path, second: &Path, digest: &mut Digest) {
     });
 }
 
-/// Adds whether the path starts and ends with the other, and what follows the other in it.
+/// Adds whether the path starts and ends with the other path, and the rest of the path after the
+/// other path, or 2 if the path does not start with it.
 fn match_ends(path: &Path, other: &Path, digest: &mut Digest) {
     digest.add_flag(path.starts_with(other));
     digest.add_flag(path.ends_with(other));

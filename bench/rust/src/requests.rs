@@ -76,8 +76,8 @@ pub fn push_request(out: &mut Vec<u8>, tree: Tree, random: &mut Random, place: u
     tree.push_short(out, number, noise, place);
 }
 
-/// Adds the result for a request: the join within the root, and what follows the root in it; 0 if
-/// the request escapes.
+/// Adds the result for a request: the join within the root, and the rest of the join after the
+/// root; or 0 if the request escapes.
 fn answer(root: &Path, request: &Path, digest: &mut Digest) {
     match join_within(root, request) {
         Some(path) => {
@@ -100,8 +100,8 @@ fn answer_verbatim_join(root: &Path, request: &Path, digest: &mut Digest) {
     }
 }
 
-/// Adds the result for a program that maps links: what the request resolves to, and the relative
-/// path to it from a page.
+/// Adds the result for a program that maps links: the resolved request, and the relative path from
+/// the page to the request, or 1 if there is none.
 fn answer_link(page: &Path, request: &Path, digest: &mut Digest) {
     digest.add_path(&resolved(request));
     match relative_path(page, request) {

@@ -87,8 +87,8 @@ fn suffix_count(source: &Path, suffixes: &[&Path]) -> usize {
     ends.count()
 }
 
-/// Returns the path of a source's output: what follows the base in the source's path, below another
-/// directory and with another extension.
+/// Returns the path of a source's output: the rest of the source's path after the base, below
+/// another directory and with another extension.
 fn output_of(source: &Path, base: &Path) -> PathBuf {
     let rest = source.strip_prefix(base).unwrap_or(source);
     let object = Path::new("/work/out/debug/objects").join(rest);

@@ -42,7 +42,7 @@ fn join_into(file: &mut PathBuf, root: &Path, names: &Path) {
     }
 }
 
-/// Adds the join below a resolved root, and what follows the root in it.
+/// Adds the join below a resolved root, and the rest of the join after the root.
 fn answer(root: &Path, file: &mut PathBuf, names: &Path, digest: &mut Digest) {
     join_into(file, root, names);
     digest.add_path(file);
