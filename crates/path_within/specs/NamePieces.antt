@@ -22,7 +22,7 @@ is_names_only s = has_only_name_pieces (if is_rooted s then drop 1 s else s)
 abbrev pub is_piece_end : List ℕ → ℕ → Bool
 is_piece_end s i = slice_index_or s i slash == slash
 
--- at index i there is a `.` or a `..`, followed by a slash or the end
+-- at index i of s begins a `.` or a `..`, followed by a slash or by the end of s
 abbrev pub dots_start_at : List ℕ → ℕ → Bool
 dots_start_at s i =
     slice_index s i == dot

@@ -19,7 +19,7 @@ push_component stack CurDir = stack
 push_component stack ParentDir = push_parent_dir stack
 push_component stack (Normal name) = Normal name ∷ stack
 
--- the stack after all these components
+-- the stack after all these components were pushed, from the first to the last
 abbrev pub resolve_onto : List Value → List Value → List Value
 resolve_onto stack [] = stack
 resolve_onto stack (v ∷ vs) = resolve_onto (push_component stack v) vs

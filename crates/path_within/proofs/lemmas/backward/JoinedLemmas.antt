@@ -20,8 +20,9 @@ use Rattle.path_within.specs.WrittenBytes.{root_prefix, slashed_len}
 use Rattle.path_within.proofs.lemmas.below.BelowLemmas.{below_of-nil, below_of-some}
 use Rattle.path_within.proofs.lemmas.below.BoundLemmas.{length-slashed_bytes, slashed_len-cons}
 
--- if vs is not empty, and no component of vs begins or ends with a slash, the join of the root and
--- vs is as long as the root and vs with a slash for each, minus 1 if the root needs no separator
+-- if vs is not empty, and no component of vs begins or ends with a slash, the length of the join of
+-- the root and vs is the root's length plus the length of vs with a slash for each component, minus
+-- 1 if the root needs no separator
 pub length-joined : (root : List ℕ) (vs : List Value) → AllByRecursion IsUnslashedValue vs
     → 0 < slashed_len vs
     → length (below_of root vs) + from_bool (needs_no_separator root) ≡ length root + slashed_len vs
@@ -40,7 +41,7 @@ length-joined root (v ∷ vs) h some = omega (
       in n),
 )
 
--- without names, the length of a join is the root's length
+-- if vs is empty, the join of the root and vs is as long as the root
 pub length-nameless : (root : List ℕ) (vs : List Value) → slashed_len vs ≡ 0
     → length (below_of root vs) ≡ length root
 length-nameless root [] e = ap length (below_of-nil root refl)
@@ -95,9 +96,9 @@ joined {out} {new} {start} root (v ∷ vs) h puts same size =
     sym cut ∙ ap (λ n. drop n (slash ∷ new)) (sym at) ∙ bytes in
     rw e (append_assoc root (slash ∷ []) names ∙ ap (λ s. root ++ s) (sym rest))))
 
--- if `new` is `old` with `whole` written over its beginning, and `old` is at least as long as
--- `whole`, then the first n bytes of `new` and any bytes after it begin with `whole`, if n is at
--- least the length of `whole`
+-- if `new` is `old` with `whole` written over its beginning, `old` is at least as long as `whole`,
+-- and n is at least the length of `whole`, then the first n bytes of `new` and `spare` after it
+-- begin with `whole`
 pub written_over : {whole new : List ℕ} {len n : ℕ} (old spare : List ℕ)
     → new ≡ buffer_after whole old → len ≡ length whole → length whole ≤ length old
     → len ≤ n → take len (take n (new ++ spare)) ≡ whole

@@ -44,8 +44,8 @@ parent_dir_count-push_parent_dirs (suc n) us h =
     ap (λ us. parent_dir_count (push_parent_dirs n us)) (push_parent_dir_grows us h)
     ∙ (let more = parent_dir_count-push_parent_dirs n (ParentDir ∷ us) h in omega arith)
 
--- if n of the `..` taken so far have not dropped a name yet, and v is the last of the remaining
--- components vs, `Taken` is true after v is taken
+-- if vs remains of `all`, n of the `..` taken from `all` have not dropped a name yet (`Leaves`),
+-- and v is the last component of vs, then `Taken` is true after v is taken
 pub taken : {n : ℕ} {vs all : List Value} {v w : Value} (m : ℕ) (ws : List Value) → Leaves n vs all
     → n ≡ m → vs ≡ ws ++ v ∷ [] → v ≡ w → Taken m w ws all
 unfolding remaining_parent_dirs

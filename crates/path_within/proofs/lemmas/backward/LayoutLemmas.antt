@@ -100,14 +100,15 @@ all_names s n l =
     ) in
     ap (λ k. drop k (names_below (values s))) none
 
--- the canonical form of n times `..` and then names is their bytes, with slashes between them
+-- the canonical form of n times `..` and then the names vs consists of the bytes of these
+-- components, with slashes between them
 pub spelling_of-parent_dir_run : (n : ℕ) (vs : List Value) → AllNames vs
     → spelling_of (replicate n ParentDir ++ vs) ≡ slashed_bytes (replicate n ParentDir ++ vs)
 spelling_of-parent_dir_run n vs h =
     spelling_of-straight (replicate n ParentDir ++ vs) (straight n vs h)
 
--- n times `..` and then names, with slashes between them, have a length of 3 * n plus the length of
--- the names with a slash for each, minus 1
+-- the length of n times `..` and then vs, with slashes between them, is 3 * n plus the length of vs
+-- with a slash for each component, minus 1; without components it is 0
 pub length-parent_dir_run : (n : ℕ) (vs : List Value)
     → length (slashed_bytes (replicate n ParentDir ++ vs)) ≡ (3 * n + slashed_len vs) - 1
 length-parent_dir_run n vs = omega (
@@ -179,7 +180,7 @@ are_layout_names l = names_append (names_in l.names) (names_in l.more)
     (are_last_names l.names.count (values l.names.path.bytes.now))
     (are_last_names l.more.count (values l.more.path.bytes.now))
 
--- with a root, the canonical form of a layout is a slash and then the names, with slashes between
+-- if a layout has a root, its canonical form is a slash and then its names, with slashes between
 -- them
 pub layout-rooted : (l : Layout) → l.has_root ≡ true
     → spelling_of (layout_values l) ≡ slash ∷ slashed_bytes (layout_names l)
@@ -187,8 +188,8 @@ layout-rooted l r =
     ap (λ b. spelling_of (cond b (RootDir ∷ layout_names l)
     (replicate l.parent_dirs ParentDir ++ layout_names l))) r ∙ spelling_of-root (layout_names l)
 
--- without a root, the canonical form of a layout is `..` and then the names, with slashes between
--- them
+-- if a layout has no root, its canonical form consists of its `..` and then its names, with slashes
+-- between all of them
 pub layout-rootless : (l : Layout) → l.has_root ≡ false
     → spelling_of (layout_values l)
     ≡ slashed_bytes (replicate l.parent_dirs ParentDir ++ layout_names l)
@@ -205,8 +206,8 @@ layout_names-len l = omega (
   l.more.len_is,
 )
 
--- if a layout has a root, its canonical form has one byte for the root, and the length of its names
--- with slashes only between them
+-- if a layout has a root, its canonical form is one byte longer than its names with slashes between
+-- them
 pub length-rooted_layout : (l : Layout) → l.has_root ≡ true
     → length (spelling_of (layout_values l)) ≡ 1 + ((l.names.len + l.more.len) - 1)
 length-rooted_layout l r = omega (

@@ -15,7 +15,8 @@ pub slashed_len-append : (vs ws : List Value)
     → slashed_len (vs ++ ws) ≡ slashed_len vs + slashed_len ws
 slashed_len-append vs ws = sum_by-append (λ v. 1 + length (value_bytes v)) vs ws
 
--- one more name at the end adds its bytes and a slash to the length
+-- adding `name` after ws adds the length of `name`, and 1 for its slash, to the length of ws with a
+-- slash for each component
 pub slashed_len-push : (ws : List Value) (name : List ℕ)
     → slashed_len (ws ++ Normal name ∷ []) ≡ slashed_len ws + (1 + length name)
 slashed_len-push ws name = omega (arith, slashed_len-append ws (Normal name ∷ []))

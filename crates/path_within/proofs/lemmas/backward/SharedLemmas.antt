@@ -202,8 +202,8 @@ not_filler_at_name s n h = is_filler-drop s n ∙ by_test (ltb n (length s))
     (λ t. let here = get_or_default s n 0 47 (ltb-true n (length s) t) in grind (arith, here))
     (λ t. let past = get_or_past s n 47 (ltb-false n (length s) t) in grind (arith, past))
 
--- two paths have the same components up to the end of their common directory if a name starts there
--- in both
+-- if n is the end of the common directory of s and t, and a name starts at index n in both, then s
+-- and t have the same components up to n
 pub share_prefix : (s t : List ℕ) (n : ℕ) → n ≡ common_dir_of s t → name_starts_at s n ≡ true
     → name_starts_at t n ≡ true → SharePrefix s t n
 unfolding values

@@ -118,8 +118,8 @@ no_relative_path-roots s t differ = by_test (is_rooted s)
     to_root (x ∷ v) w h = grind arith
 
 -- if s and t both have a root or both have none, and equally many `..` remain of both, the relative
--- path has a `..` for each resolved name of s that is not shared, and then the resolved names of t
--- that are not shared; shared are those in their common prefix
+-- path from s to t has a `..` for each resolved name of s after the common prefix of both paths'
+-- resolved names, and then the resolved names of t after this prefix
 pub relative_path-shared : (s t : List ℕ) → is_rooted s ≡ is_rooted t
     → remaining_parent_dirs (values s) ≡ remaining_parent_dirs (values t)
     → (let v = names_below (values s) in let w = names_below (values t) in

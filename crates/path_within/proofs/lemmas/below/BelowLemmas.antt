@@ -33,7 +33,8 @@ use Rattle.path_within.proofs.lemmas.names_only.NamesOnlyLemmas.{names_only_has_
 use Rattle.path_within.proofs.lemmas.stack.ResolveLemmas.{values-resolved}
 use Rattle.path_within.proofs.lemmas.names_only.RequestLemmas.{names_down}
 
--- a slash and then the path b, resolved: these bytes have the root and the resolved names of b
+-- the resolved bytes of a slash and then the path b; their components are the root and the resolved
+-- names of b
 abbrev rooted : List ℕ → List ℕ
 rooted b = resolved_bytes_of (slash ∷ b)
 
@@ -131,7 +132,7 @@ is_below {s} root b h e =
 -- ---- bytes
 
 -- the join of the root and the resolved names of b is the root's bytes and then the bytes `more`;
--- it is no longer than the root prefix and b together
+-- the join is no longer than the root prefix and b together
 record AfterRoot (root b : List ℕ) : Type 0 where
   more : List ℕ
   is : root ++ more ≡ below_of root (names_below (values b))

@@ -42,8 +42,8 @@ sum_by-resolve_onto f ks (v ∷ vs) = omega (
 sum_by-reverse : (f : Value → ℕ) (vs : List Value) → sum_by f (reverse vs) ≡ sum_by f vs
 sum_by-reverse f vs = sum_by-IsPermutation f vs (reverse vs) (IsPermutation-reverse vs)
 
--- the sum of f over the names that remain after resolving is at most the sum of f over all
--- components
+-- the sum of f over the names that remain of vs after resolving is at most the sum of f over all
+-- components of vs
 pub sum_by-names_below : (f : Value → ℕ) (vs : List Value)
     → sum_by f (names_below vs) ≤ sum_by f vs
 sum_by-names_below f vs =

@@ -1,4 +1,4 @@
--- A path of names only is resolved already: it is names, or the root and then names.
+-- A path of names only is resolved already: it consists of names, or of the root and then names.
 use Rattle.std.proofs.Common.{◌≡◌, ℕ, true, false, cond, not, List, [], ◌∷◌, ◌++◌, drop, length}
 use Rattle.std.proofs.Common.{refl, sym, ap, subst, ◌∙◌, arith}
 use Rattle.std.specs.List.{list_all, slice_split}

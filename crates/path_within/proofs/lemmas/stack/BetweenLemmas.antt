@@ -37,7 +37,8 @@ take-shared (x ∷ v) (y ∷ w) = let n = shared_count v w in grind (
   same_value-Decides x y,
 )
 
--- putting the same prefix before two lists adds its length to the number of components they share
+-- putting the prefix f before two lists x and y adds the length of f to the length of their common
+-- prefix
 pub shared_count-behind : (f x y : List Value)
     → shared_count (f ++ x) (f ++ y) ≡ length f + shared_count x y
 shared_count-behind [] x y = grind arith

@@ -25,7 +25,7 @@ escapes_from zero (ParentDir ∷ vs) = true
 escapes_from (suc n) (ParentDir ∷ vs) = escapes_from n vs
 escapes_from n (Normal name ∷ vs) = escapes_from (suc n) vs
 
--- some prefix has more `..` than n plus the number of its names
+-- some prefix of the components vs has more `..` than n plus the number of names in this prefix
 abbrev pub GoesAboveFrom : ℕ → List Value → Type 0
 GoesAboveFrom n vs =
     (k : ℕ) × (n + count_by is_name (take k vs) < count_by is_parent_dir (take k vs))
@@ -35,8 +35,8 @@ count_by-cons : (p : Value → Bool) (v : Value) (vs : List Value)
     → count_by p (v ∷ vs) ≡ cond (p v) 1 0 + count_by p vs
 count_by-cons p v vs = sum_by-cons (λ v. cond (p v) 1 0) v vs
 
--- if v changes the depth from n to m and vs go above the start from depth m, then v and vs go above
--- the start from depth n
+-- if v changes the depth from n to m, and vs goes above the start from depth m, then v and vs
+-- together go above the start from depth n
 one_more : (n m : ℕ) (v : Value) (vs : List Value)
     → n + cond (is_name v) 1 0 ≡ m + cond (is_parent_dir v) 1 0
     → GoesAboveFrom m vs → GoesAboveFrom n (v ∷ vs)
@@ -44,8 +44,8 @@ one_more n m v vs e (k, h) =
     let names = count_by-cons is_name v (take k vs) in
     let parent_dirs = count_by-cons is_parent_dir v (take k vs) in (suc k, omega arith)
 
--- if components without a root escape from depth n, some prefix has more `..` than n plus the
--- number of its names
+-- if vs has no root and escapes from depth n, some prefix of vs has more `..` than n plus the
+-- number of names in this prefix
 escapes_from-goes : (n : ℕ) (vs : List Value) → NoRoot vs → escapes_from n vs ≡ true
     → GoesAboveFrom n vs
 escapes_from-goes n [] r e = absurd (let d : false ≡ true = e in cc)
@@ -59,8 +59,8 @@ escapes_from-goes zero (ParentDir ∷ vs) r e =
 escapes_from-goes (suc n) (ParentDir ∷ vs) r e =
     one_more (suc n) n ParentDir vs (omega arith) (escapes_from-goes n vs r e)
 
--- if the first k components have more `..` than n plus the number of their names, the components
--- escape from depth n
+-- if the first k components of vs have more `..` than n plus the number of names among them, vs
+-- escapes from depth n
 goes-escapes_from : (n k : ℕ) (vs : List Value)
     → n + count_by is_name (take k vs) < count_by is_parent_dir (take k vs) → escapes_from n vs
     ≡ true

@@ -26,13 +26,14 @@ pub names_all : (vs : List Value) → list_all is_name vs ≡ true → AllNames 
 names_all [] e = tt
 names_all (v ∷ vs) e = grind (arith, names_all vs)
 
--- resolving names onto a stack puts all of them on top
+-- resolving the names vs onto the stack ks puts all of them on top of ks, the last one highest
 pub resolve_onto-names : (ks vs : List Value) → AllNames vs → resolve_onto ks vs ≡ reverse_aux vs ks
 resolve_onto-names ks [] h = refl
 resolve_onto-names ks (Normal name ∷ vs) h = resolve_onto-names (Normal name ∷ ks) vs h
 resolve_onto-names ks (v ∷ vs) h = absurd h
 
--- resolving zero or more `..` and then names onto a stack of only `..` puts all of them on top
+-- if vs is zero or more `..` and then names, resolving vs onto a stack of only `..` puts all of vs
+-- on top, the last component highest
 resolve_onto-straight : (us vs : List Value) → AllParentDirs us → ParentDirsThenNames vs
     → resolve_onto us vs ≡ reverse_aux vs us
 resolve_onto-straight us [] h k = refl
@@ -55,7 +56,7 @@ parent_dirs_rotate : (vs : List Value) → ParentDir ∷ parent_dirs_for vs ≡ 
 parent_dirs_rotate [] = refl
 parent_dirs_rotate (v ∷ vs) = ap (λ us. ParentDir ∷ us) (parent_dirs_rotate vs)
 
--- resolving names and then as many `..` onto a stack leaves the stack unchanged
+-- resolving names, and then a `..` for each of them, onto a stack leaves the stack unchanged
 pub resolve_onto-parent_dir_run : (ks vs : List Value) → AllNames vs
     → resolve_onto (resolve_onto ks vs) (parent_dirs_for vs) ≡ ks
 resolve_onto-parent_dir_run ks [] h = refl
@@ -93,7 +94,8 @@ pub straight_rootless : (vs : List Value) → ParentDirsThenNames vs → list_an
 straight_rootless [] h = refl
 straight_rootless (v ∷ vs) h = grind (arith, straight_rootless vs, names_straight vs)
 
--- the canonical form of zero or more `..` and then names is their bytes, with slashes between them
+-- the canonical form of zero or more `..` and then names consists of the bytes of these components,
+-- with slashes between them
 pub spelling_of-straight : (vs : List Value) → ParentDirsThenNames vs
     → spelling_of vs ≡ slashed_bytes vs
 unfolding spelling_of

@@ -26,7 +26,8 @@ IsStack-resolve_onto ks [] h = h
 IsStack-resolve_onto ks (v ∷ vs) h =
     IsStack-resolve_onto (push_component ks v) vs (IsStack-push_component ks v h)
 
--- the stack after two lists of components is the stack after one and then the other
+-- resolving vs and ws together onto a stack leaves the same stack as resolving vs and then ws onto
+-- it
 pub resolve_onto-append : (ks vs ws : List Value) → resolve_onto ks (vs ++ ws)
     ≡ resolve_onto (resolve_onto ks vs) ws
 resolve_onto-append ks [] ws = refl
