@@ -78,8 +78,8 @@ impl<'a> Pieces<'a> {
         }
     }
 
-    // Takes and returns the last piece. Always inlined, so that a loop over the names keeps the
-    // fields of `self` in registers.
+    // Takes and returns the last remaining piece, or returns `None` if no piece remains. Always
+    // inlined, so that a loop over the names keeps the fields of `self` in registers.
     #[inline(always)]
     fn next_back(&mut self) -> Option<Piece<'a>>
         ensures none { result ≡ None → remaining_values self.old ≡ [] }

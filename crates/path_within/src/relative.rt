@@ -91,8 +91,8 @@ fn names_only_steps<'a>(from: Path<'_>, to: Path<'a>) -> Layout<'a>
     )
 }
 
-// Takes the last `count` names that remain after resolving. Returns the length of these names, with
-// a slash for each.
+// Takes the last `count` names that remain of the pieces in `rest` after resolving. Returns the
+// length of these names, with a slash for each.
 fn skip_last_names(rest: &mut Pieces<'_>, count: usize) -> usize
     requires few { length (remaining_values rest.old) < 2 ^ 64 }
     requires some { count ≤ length (names_below (remaining_values rest.old)) }

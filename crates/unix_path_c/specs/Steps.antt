@@ -9,8 +9,8 @@ use Rattle.unix_path_c.specs.Walks.{part_value, remaining_parts}
 use Rattle.unix_path_c.specs.declared.walks.Part.{Part}
 use Rattle.unix_path_c.specs.declared.walks.Walk.{Walk}
 
--- s ends where its last component ends; its first component has this kind and `size` bytes, and
--- together with the filler after it `step` bytes
+-- s ends where its last component ends; the first component of s has this kind and `size` bytes,
+-- and `step` bytes together with the filler after it
 pub record StartsWithPart (s : List ℕ) (size step kind : ℕ) : Type 0 where
   pub ends : EndsInPart s
   pub value : Value

@@ -24,7 +24,7 @@ remaining path walk =
 abbrev pub part_from : ℕ → paths.Part → paths.Part
 part_from at p = record { start = p.start + at; end = p.end + at; value = p.value }
 
--- the components of the rest, with their indices in the path
+-- the components of the rest of a walk, with their indices in the path
 abbrev pub remaining_parts : List ℕ → Walk → List paths.Part
 remaining_parts path walk = map (part_from walk.front) (parts (remaining path walk))
 

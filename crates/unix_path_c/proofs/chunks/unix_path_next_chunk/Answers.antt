@@ -7,14 +7,15 @@ use Rattle.unix_path_c.proofs.lemmas.walks.ChunkLemmas.{first_chunk_fits}
 use Rattle.unix_path_c.proofs.chunks.unix_path_next_chunk.Goals as goal
 use Rattle.unix_path_c.proofs.chunks.unix_path_next_chunk.Goals.{In-Some}
 
--- the chunk that `next` of the chunks returned is the first chunk of the bytes from index `next` on
+-- the chunk that the iterator returned, and then the chunks that remain in it, are the chunks of
+-- the path's bytes from index `next` on
 taken : (c : In-Some) → chunks_of (drop c.args.next.now c.args.path.now)
     ≡ chunk_of c.in-Some.first ∷ remaining_chunks c.next.new.self
 taken c = sym (ap chunks_of (c.from_bytes.ensures
     ∙ slice_range-from c.args.path.now c.args.next.now))
     ∙ sym c.chunks.ensures.pending ∙ c.in-Some.ensures.steps
 
--- the chunk that `next` of the chunks returned does not end past the path's end
+-- the chunk that the iterator returned ends within the path
 inside : (c : In-Some) → c.args.next.now + length c.in-Some.first.valid.now
     + length c.in-Some.first.broken.now ≤ length c.args.path.now
 inside c = omega (

@@ -25,7 +25,7 @@ use Rattle.path_within.proofs.lemmas.below.BelowLemmas.{length-below}
 pub use Rattle.path_within.proofs.lemmas.below.BoundLemmas.{length-join_of, length-resolved}
 use Rattle.path_within.proofs.lemmas.relative.RelativePathBoundLemmas.{length-relative_path}
 
--- a canonical form is never longer than the path
+-- the canonical form of a path is never longer than the path
 pub length-spelling_of : (s : List ℕ) → length (spelling_of (values s)) ≤ length s
 length-spelling_of s = ⊎_elim (λ same. omega (arith, ap length same))
     (λ longer. omega (arith, longer)) (spelling_of-shortest s s refl)
@@ -69,8 +69,8 @@ length-below_of root s =
       length-root_prefix root,
     )
 
--- a path with an extension added at an index is at most one byte longer than the path and the
--- extension together
+-- a path with an extension added at an index, or the unchanged path if there is no index, is at
+-- most one byte longer than the path and the extension together
 added_fits : (s x : List ℕ) (end : Option ℕ)
     → length (added_extension_at s x end) ≤ length s + 1 + length x
 added_fits s x end = by_test (eqb (length x) 0) (λ e. rw e (omega arith)) (λ e. rw e (by end))
@@ -98,8 +98,8 @@ length-dot_before x = by_test (eqb (length x) 0)
     (λ e. omega (arith, ap (λ c. length {A = ℕ} (cond c [] (46 ∷ []))) e))
     (λ e. omega (arith, ap (λ c. length {A = ℕ} (cond c [] (46 ∷ []))) e))
 
--- a path whose bytes after an index are replaced by an extension is at most one byte longer than
--- the path and the extension together
+-- a path whose bytes after an index are replaced by an extension, or the unchanged path if there is
+-- no index, is at most one byte longer than the path and the extension together
 extended_fits : (s x : List ℕ) (end : Option ℕ)
     → length (option_map_or (λ end. (take end s ++ dot_before x) ++ x) end s)
     ≤ length s + 1 + length x
@@ -131,8 +131,8 @@ pub ruleset bounds = (
   length-with_extension_of,
 )
 
--- a relative path has at most `3 * (from + 1) / 2 + to` bytes, where `from` and `to` are the
--- lengths of both paths
+-- the canonical form of a relative path has at most `3 * (from + 1) / 2 + to` bytes, where `from`
+-- and `to` are the lengths of both paths
 pub relative_path_bound : (from to : List ℕ) (n : ℕ)
     → Some n ≡ option_map (λ steps. length (spelling_of steps))
     (relative_path_of (values from) (values to))

@@ -6,8 +6,8 @@ use Rattle.path_runs.specs.Overlay.{overlay}
 use Rattle.path_runs.proofs.lemmas.lists.OverlayLemmas.{overlay-bytes_over, overlay-first}
 use Rattle.path_runs.proofs.lemmas.lists.OverlayLemmas.{buffer_after-fits}
 
--- if three runs fit in a buffer, writing them one after the other to its beginning is the same as
--- writing all of them at once, which is `buffer_after`
+-- if `start`, `separator` and `end` together fit in the buffer `old`, writing them one after the
+-- other to its beginning is the same as writing all of them at once, which is `buffer_after`
 pub buffer_after-three : {one two three : List ℕ} (old start separator end : List ℕ) (n : ℕ)
     → n ≡ length start + length separator → n + length end ≤ length old
     → one ≡ overlay 0 start old → two ≡ overlay (length start) separator one

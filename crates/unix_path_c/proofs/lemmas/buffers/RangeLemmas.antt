@@ -20,7 +20,8 @@ raised_end key = slice_set key (length key - 1) (slice_index key (length key - 1
 length-raised_end : (key : List ℕ) → length (raised_end key) ≡ length key
 length-raised_end key = length-set key (length key - 1) (slice_index key (length key - 1) + 1)
 
--- the end of the key's range has n bytes, and is written to the beginning of the buffer if it fits
+-- the end of the key's range has n bytes, and `new` is `old` with this end written to its
+-- beginning, or `old` if the end does not fit
 abbrev pub WritesEnd : List ℕ → ℕ → List ℕ → List ℕ → Type 0
 WritesEnd key n old new = (end : List ℕ) × IsRangeEnd key (Some end) × (length end ≡ n)
     × (new ≡ buffer_after end old)

@@ -29,12 +29,12 @@ some_bytes s some = by_test (ltb 0 (length s)) (λ e. ltb-true _ _ e)
     (λ e. absurd (some
     (ap values (nil_from_length s (omega (arith, ltb-false _ _ e))) ∙ values-nil)))
 
--- dropping the first of several components leaves the components after it
+-- dropping the first component of a list leaves the components after it
 middle-first : (p : Part) (ps : List Part) → middle 1 0 (p ∷ ps) ≡ ps
 middle-first p ps = take_all (length (p ∷ ps) - (1 + 0)) ps (omega arith)
 
--- the components after the first one are the components of the rest after it, with their indices in
--- the whole string
+-- the components of s after its first one are the components of the rest after it, with their
+-- indices in s
 after_first : (s : List ℕ) (b : BeginsWith s) (h : Middle s 1 0)
     → b.more ≡ map (part_at h.at) (parts h.rest_bytes)
 after_first s b h =
@@ -51,7 +51,7 @@ last_end-after_first p at w b =
     ap (λ ps. last_end p (map (part_at at) ps)) b.is ∙ last_end-part_at at q b.more
     ∙ ap (λ ps. parts_end ps + at) (sym b.is)
 
--- `TakesFromFront` is true if the first component is the only one
+-- `TakesFromFront` is true of the first component of s if s has no other component
 takes_alone : (s : List ℕ) (b : BeginsWith s) (h : Middle s 1 0) → length h.rest_bytes ≡ 0
     → TakesFromFront s b.value (length (rest s 0 0)) (length (rest s 1 0))
 takes_alone s b h e =
@@ -76,7 +76,7 @@ takes_alone s b h e =
       in_range = length-rest_whole-le s;
     }
 
--- `TakesFromFront` is true if other components come after the first one
+-- `TakesFromFront` is true of the first component of s if other components come after it
 takes_more : (s : List ℕ) (b : BeginsWith s) (h : Middle s 1 0) → 0 < length h.rest_bytes
     → TakesFromFront s b.value (length (rest s 0 0)) (length (rest s 1 0))
 takes_more s b h l =

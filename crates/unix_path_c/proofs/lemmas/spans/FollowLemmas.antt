@@ -46,8 +46,8 @@ Follow-inner : (at : ℕ) (s : List ℕ) → Follow at (inner_parts at s)
 unfolding inner_parts
 Follow-inner at s = Follow-pieces at (slice_split is_slash s)
 
--- the first piece of a string, up to its first slash or its end, is as long as the component's
--- bytes
+-- the first piece of s, which ends at the first slash or at the end of s, is as long as the bytes
+-- of its component
 position_or_len-first_piece : (s : List ℕ)
     → position_or_len is_slash s ≡ length (value_bytes (first_value (first_piece s)))
 position_or_len-first_piece s =

@@ -58,7 +58,7 @@ bytes_at_only s p at w b stands alone =
     (ap (λ k. take (length (value_bytes b.value)) (drop k s)) index
     ∙ stands_in s w (value_bytes b.value) at 0 stands b.stands)
 
--- the last component's bytes are at its index
+-- if p is the last component of s, s contains the bytes of p at p's index
 bytes_at_last : (s : List ℕ) (ps : List Part) (p : Part) → parts s ≡ ps ++ p ∷ []
     → take (length (value_bytes p.value)) (drop p.start s) ≡ value_bytes p.value
 bytes_at_last s ps p e =
@@ -73,7 +73,8 @@ bytes_at_last s ps p e =
     (parts-none h.rest_bytes (omega (arith, ltb-false _ _ none))) in
     absurd (let size = ap length no in omega (arith, size)))
 
--- the components before the last one are the components of the rest before it
+-- if p is the last component of s, the components before p are the components of the rest of s
+-- before p
 before_last : (s : List ℕ) (ps : List Part) (p : Part) → parts s ≡ ps ++ p ∷ []
     → ps ≡ parts (rest s 0 1)
 before_last s ps p e =
@@ -83,7 +84,7 @@ before_last s ps p e =
     ∙ part_at-zero (parts h.rest_bytes)
     ∙ ap parts (sym (rest-middle s 0 1 h))
 
--- the components of the rest before the last component end where the rest ends
+-- the components of the rest of s before its last component end where this rest ends
 parts_end-rest : (s : List ℕ) → parts_end (parts (rest s 0 1)) ≡ length (rest s 0 1)
 parts_end-rest s =
     let h = middle_of s 0 1 in

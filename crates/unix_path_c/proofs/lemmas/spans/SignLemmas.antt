@@ -21,7 +21,7 @@ order_of-sign_of Less = refl
 order_of-sign_of Equal = refl
 order_of-sign_of Greater = refl
 
--- an order is determined by its sign
+-- if n is the sign of the order o, o is `order_of n`
 order_from : (o : Ordering) (n : ℤ) → n ≡ sign_of o → o ≡ order_of n
 order_from o n e = sym (order_of-sign_of o) ∙ ap order_of (sym e)
 

@@ -18,7 +18,7 @@ pub remaining_chunks-past : (path : List ℕ) (at : ℕ) → length path < at �
 remaining_chunks-past path at past =
     chunks_of-empty (drop at path) (omega (arith, length-drop at path))
 
--- the chunks after the first chunk are the chunks of the bytes after the first chunk
+-- the chunks of s after its first chunk are the chunks of the bytes after the first chunk
 chunks_after : (s : List ℕ) (c : Chunk) (cs : List Chunk) → chunks_of s ≡ c ∷ cs
     → chunks_of (drop (chunk_len c) s) ≡ cs
 chunks_after [] c cs e = let h = chunks_of-nil in cc
@@ -27,7 +27,8 @@ chunks_after (b ∷ bs) c cs e =
     ap (λ x. chunks_of (drop (chunk_len x) (b ∷ bs))) (sym (first_chunk_is (b ∷ bs) c cs e))
     ∙ (cc)
 
--- if the first chunk of s has the valid UTF-8 v and the invalid bytes b, s begins with v and then b
+-- if the first chunk of s has the valid UTF-8 v and the invalid bytes b, and cs are the chunks
+-- after it, then s is v, b and the bytes of cs
 first_chunk_begins : (s v b : List ℕ) (cs : List Chunk)
     → chunks_of s ≡ record { valid = v; broken = b } ∷ cs
     → s ≡ (v ++ b) ++ flat_map (λ (x : Chunk). x.valid ++ x.broken) cs

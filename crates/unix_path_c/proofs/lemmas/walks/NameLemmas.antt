@@ -51,7 +51,9 @@ module _ (s : List ℕ) (start : ℕ) (some : 0 < length s) (last : IsOrdinary s
   no_parent_dir : ends_with_parent_dir s ≡ false
   no_parent_dir = rw last.no_dot refl
 
-  -- the last component is a name, and the rest before it is the first `before` bytes
+  -- if the first `before` bytes of s have the components of the bytes before index `start`, and do
+  -- not end in filler, then the last component of s is the name at `start`, and these bytes are the
+  -- rest before it
   pub name_last : (before : ℕ) → before ≤ start → parts (take before s) ≡ parts (take start s)
       → (0 < before → is_trailing s (before - 1) ≡ false) → EndsInName s before start
   name_last before l same trimmed =

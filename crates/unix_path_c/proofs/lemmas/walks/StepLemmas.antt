@@ -17,14 +17,15 @@ pub has_remaining : {s left : List ℕ} → left ≡ s → eqb (length left) 0 �
 has_remaining same some = subst (λ s. 0 < length s) same (omega (arith, eqb-false _ 0 some))
 
 module _ (path : List ℕ) (walk : Walk) (some : 0 < length (remaining path walk)) where
-  -- a step over the first component ends in the path
+  -- a step over the first component in the rest of the walk ends within the path
   pub first_fits : {size step kind : ℕ} → StartsWithPart (remaining path walk) size step kind
       → walk.front + step ≤ length path
   first_fits h =
       let b = is_between path walk some in
       omega (arith, b.size, b.in_order, b.in_range, h.in_range)
 
-  -- a step over the first component removes that component
+  -- a step over the first component in the rest of the walk removes this component
+  -- (`TakenFromFront`)
   pub takes_first_part : {size step kind : ℕ} → StartsWithPart (remaining path walk) size step kind
       → TakenFromFront path walk (record { front = walk.front + step; back = walk.back })
       (record { start = walk.front; length = size; kind = kind })
@@ -41,14 +42,14 @@ module _ (path : List ℕ) (walk : Walk) (some : 0 < length (remaining path walk
       h.size_is h.kind_is (omega (arith, whole, b.size, b.in_order))
       (omega (arith, behind, length-drop step s, h.in_range, b.size, b.in_order))
 
-  -- a name at the end of the rest starts in the path
+  -- a name at the end of the rest of the walk starts within the path
   pub last_fits : {before start : ℕ} → EndsInName (remaining path walk) before start
       → walk.front + start ≤ length path
   last_fits h =
       let b = is_between path walk some in
       omega (arith, b.size, b.in_order, b.in_range, h.in_range)
 
-  -- a step over a name at the end of the rest removes that name
+  -- a step over a name at the end of the rest of the walk removes this name (`TakenFromBack`)
   pub takes_last_name : {before start n : ℕ} → EndsInName (remaining path walk) before start
       → n ≡ length (remaining path walk) → TakenFromBack path walk
       (record { front = walk.front; back = walk.front + before })

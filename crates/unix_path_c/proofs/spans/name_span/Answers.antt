@@ -7,7 +7,7 @@ use Rattle.unix_path_c.specs.declared.spans.Span.{Span}
 use Rattle.unix_path_c.proofs.spans.name_span.Goals as goal
 use Rattle.unix_path_c.proofs.spans.name_span.Goals.{After-span_ending_at}
 
--- the span has the bytes of the file name, and ends where the last component ends
+-- the span has the bytes of the file name, and ends where the path's last component ends
 is_span : (c : After-span_ending_at) → IsSpanOf c.args.path.bytes.now c.last_end.result
     c.in-Some.name.bytes.now c.span_ending_at.result
 is_span c =

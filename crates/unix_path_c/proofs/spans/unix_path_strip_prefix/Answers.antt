@@ -4,7 +4,7 @@ use Rattle.unix_path_c.proofs.lemmas.spans.StretchLemmas.{IsSpanOf, is_span_of}
 use Rattle.unix_path_c.proofs.spans.unix_path_strip_prefix.Goals as goal
 use Rattle.unix_path_c.proofs.spans.unix_path_strip_prefix.Goals.{After-span_ending_at}
 
--- the span has the bytes that follow the base, and ends where the last component ends
+-- the span has the bytes of the rest after the base, and ends where the path's last component ends
 is_span : (c : After-span_ending_at) → IsSpanOf c.args.path.now c.last_end.result
     c.in-Ok.rest.bytes.now c.span_ending_at.result
 is_span c =
