@@ -13,9 +13,9 @@ ROW = re.compile(r"([\w:]+)[^|#]*\| (\w+)(?: of (\w+))? \| (\d+)(?: of (\d+) byt
 
 @dataclasses.dataclass(frozen=True)
 class Row:
-    """A call; the test that makes it and the test's crate, or the input of pathtool and pathtool;
-    the number of allocations that the call makes there, and of how many bytes in all, if its
-    documentation says so; and the number of the test's other allocations."""
+    """A call; the test that makes the call and the test's crate or, for pathtool, the name of an
+    input and `pathtool`; the number of allocations that the call makes there; their bytes in all,
+    if the call's documentation says how many; and the number of the test's other allocations."""
     call: str
     test: str
     crate: str
