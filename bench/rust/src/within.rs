@@ -60,8 +60,9 @@ pub fn join_verbatim(root: &Path, request: &Path) -> Option<PathBuf> {
 }
 
 /// Returns the relative path from one path to another, lexically. Both paths are resolved, and the
-/// components that both start with are dropped. The result is `..` for each name that remains of
-/// `from`, followed by what remains of `to`. Returns `None` if no path without a root leads there.
+/// components that both then start with are dropped. The result is a `..` for each name in the rest
+/// of `from`, followed by the rest of `to`. Returns `None` if no path without a root leads from
+/// `from` to `to`.
 pub fn relative_path(from: &Path, to: &Path) -> Option<PathBuf> {
     let (from, to) = (resolved(from), resolved(to));
     if from.has_root() != to.has_root() {

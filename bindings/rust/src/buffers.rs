@@ -160,7 +160,7 @@ pub fn join_beneath<'o>(root: &[u8], request: &[u8], out: &'o mut [u8]) -> Resul
 /// The request is resolved as in a process whose root directory is `root`. This is
 /// [`join_beneath`], except that leading slashes are dropped, and a `..` at the root stays at the
 /// root, so no request escapes. A server that should refuse such a `..` calls [`join_beneath`] with
-/// what follows the leading slashes.
+/// the request without its leading slashes.
 ///
 /// Fails with `Nul` if and only if the request has a NUL byte.
 ///
@@ -202,9 +202,8 @@ pub fn join_verbatim<'o>(
 /// Finds the relative path from one path to another, lexically.
 ///
 /// Both paths are resolved, and the components that both then start with are dropped. The result is
-/// a `..` for each name that remains of the first path, followed by what remains of the other. An
-/// empty result means the current directory. Its length is at most `3 * (from.len() + 1) / 2 +
-/// to.len()`.
+/// a `..` for each name in the rest of `from`, followed by the rest of `to`. An empty result means
+/// the current directory. Its length is at most `3 * (from.len() + 1) / 2 + to.len()`.
 ///
 /// Symbolic links are not followed: if a component is one, the result may lead elsewhere.
 ///

@@ -21,9 +21,10 @@ pub record Leaves (n : ℕ) (vs all : List Value) : Type 0 where
   pub stack : (ks : List Value) → push_parent_dirs n (resolve_onto ks vs) ≡ resolve_onto ks all
   pub space : n + length vs ≤ length all
 
--- the fact about `all` after v was taken from its end and ws remain, if n of the `..` taken before
--- have not dropped a name yet: a root leaves neither names nor `..`; a name is the last name if n
--- is 0, and otherwise is dropped; `..` adds one to n
+-- the fact about `all` once v has been taken from its end and ws remain, if n of the `..` taken
+-- before v have not dropped a name yet: a root v leaves neither a name nor a `..`; a name v is the
+-- last name if n is 0, and otherwise one of the n `..` drops it; a `..` v adds one to n; a `.`
+-- changes nothing
 abbrev pub Taken : ℕ → Value → List Value → List Value → Type 0
 Taken n RootDir ws all = HasParentDirs 0 all
 Taken n CurDir ws all = Leaves n ws all
