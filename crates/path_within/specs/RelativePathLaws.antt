@@ -29,8 +29,8 @@ NoRelativePath =
     (from to b : List ℕ) → relative_path_of (values from) (values to) ≡ None → is_rooted b ≡ false
     → resolved_bytes_of (join_of from b) ≢ resolved_bytes_of to
 
--- the canonical form of `steps`, the relative path from `from` to `to`, has at most 3 * (length
--- from + 1) / 2 + length to bytes
+-- if `steps` is the relative path from `from` to `to`, the canonical form of `steps` has at most
+-- 3 * (length from + 1) / 2 + length to bytes
 abbrev pub RelativePathIsShort : Type 0
 RelativePathIsShort =
     (from to : List ℕ) (steps : List Value)

@@ -344,8 +344,8 @@ impl<P: AsRef<Path>> Extend<P> for PathBuf {
     }
 }
 
-/// Pushes the paths in order onto an empty path. For all components of a path, the result is its
-/// canonical form.
+/// Pushes the paths in order onto an empty path. If they are the components of one path, the result
+/// is the canonical form of that path.
 impl<P: AsRef<Path>> FromIterator<P> for PathBuf {
     #[inline]
     fn from_iter<I: IntoIterator<Item = P>>(paths: I) -> PathBuf {

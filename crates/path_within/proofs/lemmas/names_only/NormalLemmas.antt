@@ -13,7 +13,7 @@ use Rattle.path_within.proofs.lemmas.stack.ResolveLemmas.{values-resolved}
 use Rattle.path_within.proofs.lemmas.stack.RelativePathLemmas.{list_all-names, names_all}
 use Rattle.path_within.proofs.lemmas.stack.RelativePathLemmas.{resolved_of-normal}
 
--- the test for names is true if and only if all components are names
+-- the test `is_name` is true of each component of vs if and only if vs has only names (`AllNames`)
 pub names_iff : (vs : List Value) → IsTrue (list_all is_name vs) ↔ AllNames vs
 names_iff vs = (names_all vs, list_all-names vs)
 

@@ -62,8 +62,8 @@ rest_fits s n none = by_test (is_rooted s)
     after_root_fits (suc n) ns none =
         omega (arith, sum_by-take-drop (λ v. 1 + length (value_bytes v)) ns n)
 
--- the canonical form of `steps`, the relative path from `from` to `to`, has at most 3 * (length
--- from + 1) / 2 + length to bytes
+-- if `steps` is the relative path from `from` to `to`, the canonical form of `steps` has at most
+-- 3 * (length from + 1) / 2 + length to bytes
 pub length-relative_path : (from to : List ℕ) (steps : List Value)
     → relative_path_of (values from) (values to) ≡ Some steps
     → 2 * length (spelling_of steps) ≤ 3 * (length from + 1) + 2 * length to

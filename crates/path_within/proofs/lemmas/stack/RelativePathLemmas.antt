@@ -16,12 +16,12 @@ use Rattle.path_within.proofs.lemmas.stack.StackLemmas.{resolve_onto-append, nam
 use Rattle.path_within.proofs.lemmas.stack.StackLemmas.{push_parent_dir_grows}
 use Rattle.path_within.proofs.lemmas.stack.BetweenLemmas.{parent_dirs_for}
 
--- the test for names is true for names
+-- if vs has only names (`AllNames`), the test `is_name` is true of each component of vs
 pub list_all-names : (vs : List Value) → AllNames vs → list_all is_name vs ≡ true
 list_all-names [] h = refl
 list_all-names (v ∷ vs) h = grind (arith, list_all-names vs)
 
--- the test for names is true only for names
+-- if the test `is_name` is true of each component of vs, vs has only names (`AllNames`)
 pub names_all : (vs : List Value) → list_all is_name vs ≡ true → AllNames vs
 names_all [] e = tt
 names_all (v ∷ vs) e = grind (arith, names_all vs)
