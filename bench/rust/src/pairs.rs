@@ -128,8 +128,8 @@ fn answer(path: &[u8], near: &mut Vec<u8>, random: &mut Random, digest: &mut Dig
     walk(other, random.next(), digest);
 }
 
-/// Runs the job for `count` paths, alternating files of a tree and requests, and after one in 64 of
-/// them for a deep path.
+/// Runs the job for `count` paths, which alternate between files of a tree and requests, and also
+/// for a deep path after one in 64 of them.
 pub fn run(seed: u64, count: u64) -> u64 {
     let mut digest = Digest::default();
     let mut random = Random::new(seed);
