@@ -13,7 +13,7 @@ use crate::recode::names_to_path;
 use crate::runs::{Lead, Run, next_run, past_lead, run_in};
 use unix_bytes::buffers::write_at;
 
-// Returns the length of the path of a key; `None` if it is the key of no path.
+// Returns the length of the path of a key; `None` if no path has the key.
 pub(crate) fn path_len(key: &[u8]) -> Option<usize>
     ensures some { IfSome result (λ len. HasPath key.now len) }
     ensures none { result ≡ None → IsKey key.now → ⊥ }
@@ -28,8 +28,8 @@ pub(crate) fn path_len(key: &[u8]) -> Option<usize>
     Some(len)
 }
 
-// Returns the length of the path of a key before other components; `None` if it is the key of no
-// path.
+// Returns the length of the path of a key with a slash after its last component, which a root
+// doesn't need; `None` if no path has the key.
 #[inline]
 fn text_len(key: &[u8]) -> Option<usize>
     ensures some { IfSome result (λ len. ReadsAs key.now len) }
