@@ -17,7 +17,7 @@ lends_value V s v r = LendsSo (the_row V) V s r
     (λ t x. table_of t ≡ set_value (is_at (values_cmp v)) (table_of s.now) x)
     (λ t. table_of t ≡ table_of s.now)
 
--- the same for a result: if r is an error, the tree is unchanged
+-- the same as `lends_value`, for a result: if r is an error, the tree is unchanged
 abbrev pub lends_found : {E : Type 0} (V : RattleType) → MutBor (PathTree V.Denot) → List Value
     → Result (MutBor V.Denot) E → Fml
 lends_found V s v r = LendsSoOk (the_row V) V s r
