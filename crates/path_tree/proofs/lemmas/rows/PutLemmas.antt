@@ -33,8 +33,7 @@ module _ {V : Type 0} (all : List (Key × V)) (old : List (List Value × V)) whe
 
   module _ (left : List (Key × V)) (new : List (List Value × V)) (h : PutsLast all old left new)
       (others : List (Key × V)) (k : Key) (x : V) (is : left ≡ others ++ (k, x) ∷ []) where
-    -- if k, the last key of `left`, is inserted, the entries `others` before it remain to be
-    -- inserted
+    -- then one more
     pub puts_one : (more : List (List Value × V))
         → more ≡ insert_entry values_cmp new (key_values k.items) x → PutsLast all old others more
     puts_one more put = record {
@@ -43,7 +42,7 @@ module _ {V : Type 0} (all : List (Key × V)) (old : List (List Value × V)) whe
       rows = put ∙ ap (λ l. insert_entry values_cmp l (key_values k.items) x) h.rows;
     }
 
-    -- if all keys are keys of paths, so is k, the last key of `left`
+    -- whose key is the key of a path
     pub one_own : Own (λ (k : Key). k.items) all → is_own k.items ≡ true
     one_own own = (all_rest (λ (k : Key). is_own k.items ≡ true) others ((k, x) ∷ h.done)
         (subst (λ l. AllByRecursion (λ (k : Key). is_own k.items ≡ true) (keys_of l))
