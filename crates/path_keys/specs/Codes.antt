@@ -10,7 +10,7 @@ use Rattle.path_keys.specs.Keys.{code, key_of, raised}
 use Rattle.path_keys.specs.declared.codes.Code.{Code}
 use Rattle.path_keys.specs.declared.codes.Code.TheVariants.{Root, Dot, Up, Name}
 
--- the byte of a name that b represents in a key
+-- the byte of a name for which a key has the byte b
 abbrev pub lowered : ℕ → ℕ
 lowered b = if nat_le b slash then b - 1 else b
 
@@ -60,26 +60,26 @@ pub record TakesCode (first : Bool) (s : List ℕ) (v : Value) : Type 0 where
 abbrev pub HasNoCode : Bool → List ℕ → Type 0
 HasNoCode first s = (v : Value) (x : List ℕ) → Fits first v → code v ++ x ≡ s → ⊥
 
--- the bytes of a component before other components in a path: a slash for the root, and otherwise
--- its bytes and a slash
+-- the text of a component, its bytes before other components in a path: a slash for the root, and
+-- otherwise the component's bytes and a slash
 abbrev pub slashed : Value → List ℕ
 slashed RootDir = slash ∷ []
 slashed CurDir = cur_dir ++ slash ∷ []
 slashed ParentDir = parent_dir ++ slash ∷ []
 slashed (Normal name) = name ++ slash ∷ []
 
--- the bytes of these components before other components in a path, one after the other
+-- the text of these components, their bytes before other components in a path, one after the other
 unfoldable pub text_of : List Value → List ℕ
 text_of vs = flat_map slashed vs
 
--- the key is the key of components of a path, whose bytes before other components are n bytes
+-- the key is the key of components of a path, whose text has n bytes
 pub record ReadsAs (key : List ℕ) (n : ℕ) : Type 0 where
   pub vs : List Value
   pub fit : AllFit true vs
   pub key_is : key_of vs ≡ key
   pub len_is : n ≡ length (text_of vs)
 
--- the path that a key reads back as: it has the key, and is in canonical form
+-- the key reads back as the path: the path has this key, and is in canonical form
 pub record IsRead (key path : List ℕ) : Type 0 where
   pub key_is : key_of (values path) ≡ key
   pub spelled : path ≡ spelling_of (values path)

@@ -21,7 +21,7 @@ pub(crate) fn path_len(key: &[u8]) -> Option<usize>
     let Some(len) = text_len(key) else {
         return None;
     };
-    // Only a lone root has no slash after it.
+    // The root as the only component has no slash after it, and the empty path has no bytes.
     if len > 1 {
         return Some(len - 1);
     }

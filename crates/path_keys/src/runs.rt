@@ -119,8 +119,8 @@ pub(crate) fn next_run(bytes: &[u8], room: usize) -> Option<Run<'_>>
     run_in(bytes)
 }
 
-// Returns the run with which these bytes begin; `None` if they are the key of no components that
-// may follow others.
+// Returns the run with which these bytes begin; `None` if they are not the key of one or more
+// components that may follow others.
 #[inline(always)]
 pub(crate) fn run_in(bytes: &[u8]) -> Option<Run<'_>>
     ensures some { IfSome result (λ run. TakesRun bytes.now run) }

@@ -101,7 +101,8 @@ impl KeyFilter {
         self.remaining = self.remaining.saturating_sub((new != word) as usize);
     }
 
-    // Returns true if the filter is to be rebuilt for a tree of so many entries.
+    // Returns true if the filter has to be rebuilt for a tree of so many entries: no further bit
+    // may be set, and the tree has more entries than a tree without a filter.
     #[inline]
     pub(crate) fn is_saturated(&self, entries: usize) -> bool {
         self.remaining == 0 && entries > UNFILTERED_MAX

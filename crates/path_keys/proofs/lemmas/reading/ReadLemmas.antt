@@ -39,7 +39,7 @@ fit_next (u ∷ us) w ws h = behind us h.1
     behind [] h = h.0
     behind (u ∷ us) h = behind us h.1
 
--- a list with one more component is not empty
+-- after us and v, the next component is not the first
 pub starts-push : (us : List Value) (v : Value) → starts (us ++ v ∷ []) ≡ false
 starts-push [] v = refl
 starts-push (u ∷ us) v = refl

@@ -40,7 +40,7 @@ fit_rest (u ∷ us) ws h = behind us h.1
     behind [] h = h
     behind (u ∷ us) h = behind us h.1
 
--- if vs is not empty, us and vs together are not empty
+-- if vs is not empty, the next component after us and vs is not the first
 pub starts-more : (us vs : List Value) → 0 < length vs → starts (us ++ vs) ≡ false
 starts-more [] [] l = absurd (omega arith)
 starts-more [] (v ∷ vs) l = refl

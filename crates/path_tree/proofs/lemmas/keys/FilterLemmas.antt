@@ -130,7 +130,7 @@ has_bit-none mask hash words none =
 -- a key that fails a test
 module _ {K V : Type 0} (bytes_of : K → List ℕ) (test : List ℕ → Bool) (key : List ℕ)
     (fails : test key ≡ false) where
-  -- `lookup-filtered`, by recursion on the entries
+  -- the same as `lookup-filtered`, with the test stated by recursion on the entries
   lookup-fails : (entries : List (K × V))
       → AllByRecursion (λ k. test (bytes_of k) ≡ true) (keys_of entries)
       → lookup (is_it bytes_of key) entries ≡ None

@@ -50,7 +50,7 @@ module _ {K : Type 0} (bytes_of : K → List ℕ) (key : List ℕ) (v : List Val
 
 module _ {K V : Type 0} (bytes_of : K → List ℕ) (key : List ℕ) (v : List Value)
     (stands : StandsFor key v) where
-  -- `lookup-rows_by`, by recursion on the entries
+  -- the same as `lookup-rows_by`, with `AllOwn` instead of `Own`, by recursion on the entries
   lookup-all_own : (entries : List (K × V)) → AllOwn bytes_of entries
       → lookup (is_it bytes_of key) entries
       ≡ lookup (is_at (values_cmp v)) (rows_by bytes_of entries)
@@ -68,7 +68,7 @@ module _ {K V : Type 0} (bytes_of : K → List ℕ) (key : List ℕ) (v : List V
       ≡ lookup (is_at (values_cmp v)) (rows_by bytes_of entries)
   lookup-rows_by entries all = lookup-all_own entries (all_own bytes_of entries all)
 
-  -- `remove-rows_by`, by recursion on the entries
+  -- the same as `remove-rows_by`, with `AllOwn` instead of `Own`, by recursion on the entries
   remove-all_own : (entries : List (K × V)) → AllOwn bytes_of entries
       → rows_by bytes_of (remove_entry (is_it bytes_of key) entries)
       ≡ remove_entry (is_at (values_cmp v)) (rows_by bytes_of entries)
@@ -93,7 +93,7 @@ module _ {K V : Type 0} (bytes_of : K → List ℕ) (key : List ℕ) (v : List V
       ≡ remove_entry (is_at (values_cmp v)) (rows_by bytes_of entries)
   remove-rows_by entries all = remove-all_own entries (all_own bytes_of entries all)
 
-  -- `set_value-rows_by`, by recursion on the entries
+  -- the same as `set_value-rows_by`, with `AllOwn` instead of `Own`, by recursion on the entries
   set_value-all_own : (entries : List (K × V)) (x : V) → AllOwn bytes_of entries
       → rows_by bytes_of (set_value (is_it bytes_of key) entries x)
       ≡ set_value (is_at (values_cmp v)) (rows_by bytes_of entries) x
@@ -120,7 +120,7 @@ module _ {K V : Type 0} (bytes_of : K → List ℕ) (key : List ℕ) (v : List V
 
 module _ {K V : Type 0} (bytes_of : K → List ℕ) (key : K) (v : List Value)
     (stands : StandsFor (bytes_of key) v) where
-  -- `insert-rows_by`, by recursion on the entries
+  -- the same as `insert-rows_by`, with `AllOwn` instead of `Own`, by recursion on the entries
   insert-all_own : (entries : List (K × V)) (x : V) → AllOwn bytes_of entries
       → rows_by bytes_of (insert_entry (keys_cmp bytes_of) entries key x)
       ≡ insert_entry values_cmp (rows_by bytes_of entries) v x

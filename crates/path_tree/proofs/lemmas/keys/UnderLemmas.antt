@@ -110,7 +110,7 @@ all-under base none v =
 
 module _ {K V : Type 0} (bytes_of : K → List ℕ) (test : K → Bool) (keep : List Value → Bool)
     (is : (k : K) → is_own (bytes_of k) ≡ true → test k ≡ keep (key_values (bytes_of k))) where
-  -- `filter-rows_by`, by recursion on the entries
+  -- the same as `filter-rows_by`, with `AllOwn` instead of `Own`, by recursion on the entries
   filter-all_own : (entries : List (K × V)) → AllOwn bytes_of entries
       → rows_by bytes_of (filter (λ e. test e.0) entries)
       ≡ filter (λ row. keep row.0) (rows_by bytes_of entries)
@@ -147,7 +147,7 @@ module _ {K V : Type 0} (bytes_of : K → List ℕ) where
     behind-all_own k entries own all.1 behind.1,
   )
 
-  -- `sorted-rows_by`, by recursion on the entries
+  -- the same as `sorted-rows_by`, with `AllOwn` instead of `Own`, by recursion on the entries
   sorted-all_own : (entries : List (K × V)) → AllOwn bytes_of entries
       → IsStrictlySortedBy (keys_cmp bytes_of) (keys_of entries)
       → IsStrictlySortedBy values_cmp (keys_of (rows_by bytes_of entries))

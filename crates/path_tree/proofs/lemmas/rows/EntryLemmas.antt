@@ -46,20 +46,20 @@ sorted-key_entries [] sorted = tt
 sorted-key_entries (e ∷ es) sorted =
     (greater_entries e.0 es sorted.0, sorted-key_entries es sorted.1)
 
--- `keys-own`, by recursion on the entries
+-- the same as `keys-own`, with both statements by recursion on the entries
 all_keys : {V : Type 0} (es : List (Key × V)) → AllOwn items_of es
     → AllByRecursion IsKey (keys_of (key_entries es))
 all_keys [] own = tt
 all_keys (e ∷ es) own =
     ((spelling_of (key_values e.0.items), own-is e.0.items own.0), all_keys es own.1)
 
--- the bytes of each key of a tree are the key of a path
+-- if all keys of the entries are `Own`, the bytes of each key are the key of a path
 pub keys-own : {V : Type 0} (es : List (Key × V)) → Own items_of es
     → All IsKey (keys_of (key_entries es))
 keys-own es own =
     All-from_recursion IsKey (keys_of (key_entries es)) (all_keys es (all_own items_of es own))
 
--- `is_key-entry`, by recursion on the entries
+-- the same as `is_key-entry`, with `AllOwn` instead of `Own`, by recursion on the entries
 is_key-all_own : {V : Type 0} (es : List (Key × V)) → AllOwn items_of es → (i : ℕ) (e : Key × V)
     → slice_get es i ≡ Some e → IsKey e.0.items
 is_key-all_own {V} [] all i e is =
@@ -70,7 +70,7 @@ is_key-all_own {V} (x ∷ es) all zero e is =
     (spelling_of (key_values x.0.items), own-is x.0.items all.0)
 is_key-all_own (x ∷ es) all (suc i) e is = is_key-all_own es all.1 i e is
 
--- the key of the entry at index i of a tree is the key of a path
+-- if all keys of the entries are `Own`, the bytes of the key at index i are the key of a path
 pub is_key-entry : {V : Type 0} (es : List (Key × V)) → Own items_of es → (i : ℕ) (e : Key × V)
     → slice_get es i ≡ Some e → IsKey e.0.items
 is_key-entry es own = is_key-all_own es (all_own items_of es own)
@@ -131,7 +131,7 @@ endless-starts base none key =
     ∙ (begins_told key [] (starts_with eqb key []) refl).1 (key, refl))
 
 module _ {V : Type 0} (base : List ℕ) (own : is_own base ≡ true) where
-  -- `rows-entries_under`, by recursion on the entries
+  -- the same as `rows-entries_under`, with `AllOwn` instead of `Own`, by recursion on the entries
   under-all_own : (es : List (Key × V)) → AllOwn items_of es
       → map (λ e. (key_values e.0, e.1)) (entries_under base (key_entries es))
       ≡ rows_under (key_values base) (key_rows es)

@@ -12,8 +12,8 @@ use Rattle.path_tree.proofs.lemmas.rows.WalkLemmas.{sorted_first, sorted_others}
 abbrev FindsAt : {W : Type 0} → List (List ℕ × W) → List (List ℕ × W) → List (List ℕ) → Type 0
 FindsAt other now keys = AllByRecursion (λ key. entry_at key now ≡ entry_at key other) keys
 
--- the entries that remain are sorted, and the cursor's entries have at their keys what the other
--- tree has
+-- the entries `rest` of the walk are sorted, and `now`, the entries of the cursor, have at their
+-- keys what the other tree has
 pub record Merges {V W : Type 0} (other now : List (List ℕ × W)) (rest : List (List ℕ × V))
     : Type 0 where
   pub sorted : IsStrictlySortedBy bytes_cmp (keys_of rest)

@@ -52,7 +52,8 @@ module _ {V : Type 0} (v : List Value) (x : V) where
         | Greater ↦ (all.0, all_insert w less rows all.1)
       ]
 
-  -- `sorted-insert`, by the order of the inserted row and the first one
+  -- if the rows are sorted, and stay sorted after an insertion at v, then the same is true with one
+  -- row before them, where o is the order of v and this row
   sorted-by : (row : List Value × V) (rows : List (List Value × V)) (o : Ordering)
       → values_cmp v row.0 ≡ o
       → AllByRecursion (λ u. values_cmp row.0 u ≡ Less) (keys_of rows)

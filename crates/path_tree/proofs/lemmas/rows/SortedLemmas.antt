@@ -143,7 +143,7 @@ module _ {K V : Type 0} (bytes_of : K → List ℕ) where
       ap (bytes_cmp (bytes_of q)) (sym alike) ∙ is in
       let both = rw (is, there) at same in both
 
-  -- `same_entries`, by the order of the first keys
+  -- the same as `same_entries` for lists that are not empty, where o is the order of the first keys
   same_by : (e f : K × V) (es fs : List (K × V))
       → AllByRecursion (λ l. keys_cmp bytes_of e.0 l ≡ Less) (keys_of es)
       → AllByRecursion (λ l. keys_cmp bytes_of f.0 l ≡ Less) (keys_of fs)
