@@ -28,8 +28,8 @@ pub(crate) fn path_len(key: &[u8]) -> Option<usize>
     Some(len)
 }
 
-// Returns the length of the path of a key with a slash after its last component, which a root
-// doesn't need; `None` if no path has the key.
+// Returns the length of the path of a key and of a slash after it, which isn't counted for `/` and
+// the empty path. Returns `None` if no path has the key.
 #[inline]
 fn text_len(key: &[u8]) -> Option<usize>
     ensures some { IfSome result (λ len. ReadsAs key.now len) }

@@ -47,7 +47,7 @@ impl KeyFilter {
         }
     }
 
-    // Returns a filter of two to four bytes for each of so many keys, with no bit set.
+    // Returns a filter for so many keys, with two to four bytes for each key, and no bit set.
     fn zeroed(alloc: Global, keys: usize) -> Result<KeyFilter, AllocError> {
         let count = (keys / 4).next_power_of_two();
         Ok(KeyFilter {

@@ -49,7 +49,8 @@ impl<V> PathTree<V> {
         self.entries.get_mut(key)
     }
 
-    // Inserts the value at the path of this key, and returns the old one.
+    // Inserts the value at the path of this key, and returns the old value; `None` if there was
+    // none.
     pub(super) fn put(&mut self, key: Vec<u8>, value: V) -> Result<Option<V>, AllocError>
     where
         V: Drop,

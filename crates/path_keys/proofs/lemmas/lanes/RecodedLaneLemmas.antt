@@ -12,7 +12,7 @@ use Rattle.path_keys.specs.Codes.{lowered}
 use Rattle.path_keys.specs.NameBytes.{coded, decoded, recoded}
 use Rattle.path_keys.specs.declared.recode.Recoding.{Recoding}
 
--- what the code computes in the lane of the byte x is the byte x, recoded
+-- in the lane of the byte x, the code computes the byte x, recoded
 lane_recoded : (how : Recoding) (x : ℕ)
     → cond (top 7 (lane (eqb x how.mark))) how.other
     (cond (top 7 (lane (ltb x how.limit))) ((x + how.step) % 256) x) ≡ recoded how x
@@ -20,7 +20,7 @@ lane_recoded how x =
     ap₂ (λ a b. cond a how.other (cond b ((x + how.step) % 256) x)) (top_lane (eqb x how.mark))
     (top_lane (ltb x how.limit))
 
--- what the code computes in all lanes of the bytes xs is the bytes xs, recoded
+-- in the lanes of the bytes xs, the code computes the bytes xs, recoded
 selected : (how : Recoding) (xs : List ℕ)
     → sel_l (map (top 7) (map (λ x. lane (eqb x how.mark)) xs)) (map (λ _. how.other) xs)
     (sel_l (map (top 7) (map (λ x. lane (ltb x how.limit)) xs))

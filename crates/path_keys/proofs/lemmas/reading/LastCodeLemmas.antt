@@ -28,7 +28,8 @@ LastIs key us None = us ≡ []
 LastIs key us (Some last) = EndsIn key us last.start (code_value last.code)
     × (last.start ≤ length key) × IsRaised last.code
 
--- `rest` is what follows in the key after the codes that were read, and `last` is the last of these
+-- `rest` is the rest of the key after the codes that were read, and `last` is the last of these
+-- codes
 pub record WalksTo (key rest : List ℕ) (first : Bool) (last : Option LastCode) : Type 0 where
   pub len : ℕ
   pub reads : ReadsTo key rest first len

@@ -54,8 +54,8 @@ takes_within {first} {s} {v} h = omega (
   length-drop (length (code v)) s,
 )
 
--- `rest` is what follows in the key after the codes of components that may be a path's, whose text
--- has `len` bytes; `first` is true if no code was read
+-- `rest` is the rest of the key after the codes of some components, which may be all components of
+-- a path, and whose text has `len` bytes; `first` is true if no code was read
 pub record ReadsTo (key rest : List ℕ) (first : Bool) (len : ℕ) : Type 0 where
   pub us : List Value
   pub fit : AllFit true us

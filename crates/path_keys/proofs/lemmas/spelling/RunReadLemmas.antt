@@ -89,8 +89,9 @@ text_short (v ∷ vs) = omega (
   length-append (code v) (key_of vs),
 )
 
--- `rest` is what follows in the key after the codes of components that may be a path's, whose text
--- has `len` bytes; if `key` is a path's key, `rest` is the key of components that may follow others
+-- `rest` is the rest of the key after the codes of some components, which may be all components of
+-- a path, and whose text has `len` bytes; if `key` is a path's key, `rest` is the key of components
+-- that may follow others
 pub record ReadsRuns (key rest : List ℕ) (len : ℕ) : Type 0 where
   pub us : List Value
   pub fit : AllFit true us

@@ -21,7 +21,8 @@ zero-raised b h = grind (arith, nat_tests)
 pub raised-zero : (b : ℕ) → is_slash b ≡ false → nat_cmp (raised b) 0 ≡ Greater
 raised-zero b h = grind (arith, nat_tests)
 
--- `ordering_then`, which lets a second comparison decide if the first is equal, is associative
+-- `ordering_then` is associative: of three comparisons, the first one that isn't `Equal` decides
+-- either way
 pub ordering_then-assoc : (p q r : Ordering)
     → ordering_then (ordering_then p q) r ≡ ordering_then p (ordering_then q r)
 ordering_then-assoc Less q r = refl

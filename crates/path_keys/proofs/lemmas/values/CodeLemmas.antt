@@ -45,7 +45,7 @@ bytes_cmp-codes CurDir (Normal (b ∷ m)) x y h k = rw (zero-raised b k.0.0) ref
 bytes_cmp-codes ParentDir (Normal (b ∷ m)) x y h k = rw (zero-raised b k.0.0) refl
 bytes_cmp-codes v w x y h k = refl
 
--- if p, or else q, leads to `Equal`, both p and q are `Equal`
+-- if `ordering_then p q` is `Equal`, p and q are both `Equal`
 ordering_then-tied : (p q : Ordering) → ordering_then p q ≡ Equal → (p ≡ Equal) × (q ≡ Equal)
 ordering_then-tied Equal q e = (refl, e)
 ordering_then-tied p q e = absurd (cc)

@@ -152,16 +152,16 @@ module _ {K V : Type 0} (bytes_of : K → List ℕ) (test : List ℕ → Bool) (
   lookup-filtered entries all =
       lookup-fails entries (recursion_from_All (λ k. test (bytes_of k) ≡ true) _ all)
 
--- the keys before the rest `left` of all entries are `marked`: a filter that has all marked keys
--- and the keys of `left` has all keys
+-- the filter `marked` has the keys of all entries before the rest `left`: each filter that has all
+-- keys of `marked` and the keys of `left` has the keys of all entries
 abbrev pub FiltersRest : {K V : Type 0} → (K → List ℕ) → (List ℕ → Bool) → List (K × V)
     → List (K × V) → Type 0
 FiltersRest bytes_of marked left all = (more : List ℕ → Bool)
     → ((key : List ℕ) → marked key ≡ true → more key ≡ true)
     → AllKeys bytes_of more left → AllKeys bytes_of more all
 
--- if `new` has the key of the entry e, and each key that `old` has, then a walk whose keys before e
--- are in `old` goes on after e with `new`
+-- if the filter `old` has the keys of all entries before e, and the filter `new` has the key of e
+-- and each key that `old` has, then `new` has the keys of all entries before the rest after e
 pub filters_more : {K V : Type 0} (bytes_of : K → List ℕ) (old new : List ℕ → Bool) (e : K × V)
     (left all : List (K × V)) → FiltersRest bytes_of old (e ∷ left) all
     → new (bytes_of e.0) ≡ true → ((key : List ℕ) → old key ≡ true → new key ≡ true)

@@ -25,8 +25,8 @@ finds_all : {W : Type 0} (other now : List (List ℕ × W)) → now ≡ other �
 finds_all other now is [] = tt
 finds_all other now is (key ∷ keys) = (ap (entry_at key) is, finds_all other now is keys)
 
--- if the cursor has all entries of the other tree, and the entries of the walk are sorted, the walk
--- can begin
+-- if the cursor has all entries of the other tree, and the entries of the walk are sorted, `Merges`
+-- holds of both
 pub merges_first : {V W : Type 0} (other now : List (List ℕ × W)) (rest : List (List ℕ × V))
     → now ≡ other → IsStrictlySortedBy bytes_cmp (keys_of rest) → Merges other now rest
 merges_first other now rest is sorted =
@@ -42,8 +42,8 @@ module _ {W : Type 0} (other now new : List (List ℕ × W)) (key : List ℕ)
   finds_still (q ∷ keys) less same =
       (greater q less.0 ∙ same.0, finds_still keys less.1 same.1)
 
-  -- if the first entry that remains has the key `key`, the walk can go on after it, with the cursor
-  -- that passed `key`
+  -- if the first entry of the walk has the key `key`, `Merges` holds of the entries after it, and
+  -- of the cursor after it passed `key`
   pub merges_more : {V : Type 0} (x : V) (rest : List (List ℕ × V))
       → Merges other now ((key, x) ∷ rest) → Merges other new rest
   merges_more x rest h = record {

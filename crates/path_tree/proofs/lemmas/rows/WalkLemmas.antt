@@ -93,10 +93,11 @@ module _ {K V : Type 0} (keep : K × V → Bool) where
       (all_filter (λ l. cmp e.0 l ≡ Less) es sorted.0, sorted-filter cmp es sorted.1))
       (λ fails. rw fails (sorted-filter cmp es sorted.1))
 
--- a test p that is true of each key after a key of which it is true
+-- a test p that stays true: if it is true of a key, it is true of all greater keys
 module _ {K : Type 0} (cmp : K → K → Ordering) (p : K → Bool)
     (goes_on : (k l : K) → p k ≡ true → cmp k l ≡ Less → p l ≡ true) where
-  -- if p is true of k, it is true of all keys that are greater
+  -- if p stays true of greater keys, and is true of k, it is true of all of ls, which are greater
+  -- than k
   all_behind : (k : K) (ls : List K) → p k ≡ true → AllByRecursion (λ l. cmp k l ≡ Less) ls
       → AllByRecursion (λ l. p l ≡ true) ls
   all_behind k [] is less = tt
@@ -104,14 +105,16 @@ module _ {K : Type 0} (cmp : K → K → Ordering) (p : K → Bool)
 
 module _ {K V : Type 0} (cmp : K → K → Ordering) (p : K → Bool)
     (goes_on : (k l : K) → p k ≡ true → cmp k l ≡ Less → p l ≡ true) where
-  -- if p is true of the first key of sorted entries, it is true of all their keys
+  -- if p stays true of greater keys, and is true of the first key of sorted entries, it is true of
+  -- all their keys
   pub all_from_first : (e : K × V) (es : List (K × V))
       → IsStrictlySortedBy cmp (keys_of (e ∷ es)) → p e.0 ≡ true
       → AllByRecursion (λ l. p l ≡ true) (keys_of (e ∷ es))
   all_from_first e es sorted is =
       (is, all_behind cmp p goes_on e.0 (keys_of es) is (sorted_first cmp e es sorted))
 
-  -- the entries of sorted entries whose keys pass p are the last ones
+  -- if p stays true of greater keys, the entries whose keys pass p are the last ones of sorted
+  -- entries
   pub suffix-filter : (es : List (K × V)) → IsStrictlySortedBy cmp (keys_of es)
       → (before : List (K × V)) × (es ≡ before ++ filter (λ e. p e.0) es)
   suffix-filter [] sorted = ([], refl)
@@ -121,7 +124,8 @@ module _ {K V : Type 0} (cmp : K → K → Ordering) (p : K → Bool)
       let others = suffix-filter es (sorted_others cmp e es sorted) in
       (e ∷ others.0, rw fails (ap (λ l. e ∷ l) others.1)))
 
-  -- if the key of e fails p, all keys before e fail it, so the filter keeps no entry before e
+  -- if p stays true of greater keys, and the key of e fails p, the filter keeps no entry that is
+  -- before e in sorted entries
   pub filter-suffix : (before : List (K × V)) (e : K × V) (rest : List (K × V))
       → IsStrictlySortedBy cmp (keys_of (before ++ e ∷ rest)) → p e.0 ≡ false
       → filter (λ e. p e.0) (before ++ e ∷ rest) ≡ filter (λ e. p e.0) (e ∷ rest)
