@@ -9,8 +9,8 @@ use Rattle.path_tree.specs.Tree.{table_of}
 use Rattle.path_tree.specs.contracts.tree.PathTree.{the_row}
 use Rattle.path_tree.specs.declared.tree.PathTree.{PathTree}
 
--- after the borrow, the tree behind s has the last value behind r in the row at v; if r is `None`,
--- the tree is unchanged
+-- after the borrow, the tree that s refers to has, at v, the last value that r referred to; if r is
+-- `None`, the tree is unchanged
 abbrev pub lends_value : (V : RattleType) → MutBor (PathTree V.Denot) → List Value
     → Option (MutBor V.Denot) → Fml
 lends_value V s v r = LendsSo (the_row V) V s r
