@@ -10,7 +10,7 @@ use Rattle.path_keys.specs.Keys.{code, key_of, raised}
 use Rattle.path_keys.specs.declared.codes.Code.{Code}
 use Rattle.path_keys.specs.declared.codes.Code.TheVariants.{Root, Dot, Up, Name}
 
--- the byte of a name that b represents in a key
+-- the byte of a name for which a key has the byte b
 abbrev pub lowered : ℕ → ℕ
 lowered b = if nat_le b slash then b - 1 else b
 
@@ -21,15 +21,15 @@ pub record IsName (name : List ℕ) : Type 0 where
   pub no_dot : bytes_eq name cur_dir ≡ false
   pub no_up : bytes_eq name parent_dir ≡ false
 
--- v may be a component of a path, its first one if `first` is true: only the first may be a root or
--- a `.`
+-- v may be the first component of a path if `first` is true, and a later one otherwise: only the
+-- first may be a root or a `.`
 abbrev pub Fits : Bool → Value → Type 0
 Fits first RootDir = first ≡ true
 Fits first CurDir = first ≡ true
 Fits first ParentDir = ⊤
 Fits first (Normal name) = IsName name
 
--- these may be all components of a path if `first` is true, and the components after its first one
+-- these may be all components of a path if `first` is true, and the components after others
 -- otherwise
 abbrev pub AllFit : Bool → List Value → Type 0
 AllFit first [] = ⊤
@@ -42,47 +42,49 @@ code_value Dot = CurDir
 code_value Up = ParentDir
 code_value (Name bytes) = Normal (map lowered bytes.now)
 
--- the bytes of a name in the key are the raised bytes of the name
+-- if the code is a name's, its bytes are the raised bytes of the name that they represent
 abbrev pub IsRaised : Code → Type 0
 IsRaised Root = ⊤
 IsRaised Dot = ⊤
 IsRaised Up = ⊤
 IsRaised (Name bytes) = map raised (map lowered bytes.now) ≡ bytes.now
 
--- these bytes begin with the code of v, which may be a path's component there
+-- s begins with the code of v, which may be the first component of a path if `first` is true, and a
+-- later one otherwise
 pub record TakesCode (first : Bool) (s : List ℕ) (v : Value) : Type 0 where
   pub fits : Fits first v
   pub is : s ≡ code v ++ drop (length (code v)) s
 
--- these bytes begin with the code of no component that a path may have there
+-- s doesn't begin with the code of a component that may be the first of a path if `first` is true,
+-- and a later one otherwise
 abbrev pub HasNoCode : Bool → List ℕ → Type 0
 HasNoCode first s = (v : Value) (x : List ℕ) → Fits first v → code v ++ x ≡ s → ⊥
 
--- the bytes of a component before other components in a path: a slash for the root, and otherwise
--- its bytes and a slash
+-- the text of a component, its bytes before other components in a path: a slash for the root, and
+-- otherwise the component's bytes and a slash
 abbrev pub slashed : Value → List ℕ
 slashed RootDir = slash ∷ []
 slashed CurDir = cur_dir ++ slash ∷ []
 slashed ParentDir = parent_dir ++ slash ∷ []
 slashed (Normal name) = name ++ slash ∷ []
 
--- the bytes of these components before other components in a path, one after the other
+-- the text of these components, their bytes before other components in a path, one after the other
 unfoldable pub text_of : List Value → List ℕ
 text_of vs = flat_map slashed vs
 
--- the key is the key of components of a path, whose bytes before other components are n bytes
+-- the key is the key of components of a path, whose text has n bytes
 pub record ReadsAs (key : List ℕ) (n : ℕ) : Type 0 where
   pub vs : List Value
   pub fit : AllFit true vs
   pub key_is : key_of vs ≡ key
   pub len_is : n ≡ length (text_of vs)
 
--- the path that a key reads back as: it has the key, and is in canonical form
+-- the key reads back as the path: the path has this key, and is in canonical form
 pub record IsRead (key path : List ℕ) : Type 0 where
   pub key_is : key_of (values path) ≡ key
   pub spelled : path ≡ spelling_of (values path)
 
--- the path that the key reads back as has n bytes
+-- the key reads back as a path of n bytes
 pub record HasPath (key : List ℕ) (n : ℕ) : Type 0 where
   pub path : List ℕ
   pub read : IsRead key path

@@ -3,7 +3,8 @@ use Rattle.std.specs.Prelude.{◌≡◌, ℕ, ◌+◌, List, [], ◌∷◌, ◌+
 use Rattle.std.specs.List.{flat_map}
 use Rattle.unix_path.specs.Parts.{slash, Value, RootDir, CurDir, ParentDir, Normal, values}
 
--- the byte in a key for the byte b of a name: b + 1 if b is less than a slash, which no name has
+-- the byte in a key for the byte b of a name: b + 1 if b is less than a slash, and b otherwise; no
+-- name has a slash
 abbrev pub raised : ℕ → ℕ
 raised b = if nat_lt b slash then b + 1 else b
 

@@ -3,7 +3,7 @@ use Rattle.std.specs.Prelude.{◌≡◌, ℕ, List, [], ◌∷◌, ◌++◌, tak
 use Rattle.unix_path.specs.Parts.{Value}
 use Rattle.path_keys.specs.Keys.{key_of}
 
--- v is the last of these components, and the bytes of the key before index `start` are the key of
+-- v is the last of the components vs, and the bytes of the key before index `start` are the key of
 -- the components before v
 pub record EndsIn (key : List ℕ) (vs : List Value) (start : ℕ) (v : Value) : Type 0 where
   pub front : List Value

@@ -5,15 +5,15 @@ use Rattle.path_keys.specs.Keys.{raised}
 use Rattle.path_keys.specs.Codes.{lowered}
 use Rattle.path_keys.specs.declared.recode.Recoding.{Recoding}
 
--- the byte in a key for the byte b of a run of names: the end mark of a name for a slash
+-- the byte in a key for the byte b of a run of names; for a slash it is the end mark 0
 abbrev pub coded : ℕ → ℕ
 coded b = if b == slash then 0 else raised b
 
--- the byte of a path that b represents among names in a key: a slash for an end mark
+-- the byte in a path for the byte b of a run of names in a key; for an end mark it is a slash
 abbrev pub decoded : ℕ → ℕ
 decoded b = if b == 0 then slash else lowered b
 
--- the byte b, changed in one of these two ways
+-- the byte b, changed in the way `how`
 abbrev pub recoded : Recoding → ℕ → ℕ
 recoded how b = if b == how.mark then how.other
     else (if nat_lt b how.limit then (b + how.step) % 256 else b)

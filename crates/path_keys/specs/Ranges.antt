@@ -11,7 +11,7 @@ use Rattle.unix_path.specs.Prefixes.{IsPrefixOf}
 abbrev pub bytes_cmp : List ℕ → List ℕ → Ordering
 bytes_cmp = slice_cmp nat_cmp
 
--- the bytes are in the range from `first` on, before `end` if the range has an end
+-- the bytes are not less than `first`, and less than `end` if there is an end
 abbrev pub InRange : List ℕ → Option (List ℕ) → List ℕ → Type 0
 InRange first end s = (is_le (bytes_cmp first s) ≡ true)
     × IfSome end (λ end. bytes_cmp s end ≡ Less)

@@ -11,7 +11,7 @@ use Rattle.path_keys.specs.declared.runs.Run.{Run}
 use Rattle.path_keys.specs.declared.runs.Run.TheVariants.{Names}
 use Rattle.path_keys.specs.declared.runs.Run.TheVariants as run_variants
 
--- the bytes of a lead before other components in a path
+-- the text of a lead: its bytes before other components in a path
 abbrev pub lead_text : Lead → List ℕ
 lead_text Absent = []
 lead_text Root = slash ∷ []
@@ -22,13 +22,13 @@ abbrev pub run_code : Run → List ℕ
 run_code run_variants.ParentDir = code ParentDir
 run_code (Names bytes) = bytes.now ++ 0 ∷ []
 
--- the bytes of a run before other components in a path
+-- the text of a run: its bytes before other components in a path
 abbrev pub run_text : Run → List ℕ
 run_text run_variants.ParentDir = slashed ParentDir
 run_text (Names bytes) = map decoded bytes.now ++ slash ∷ []
 
--- the key begins with the lead, and `rest` follows it; if it is a path's key, `rest` is the key of
--- components that may follow others
+-- the key begins with the lead, and `rest` follows it; if `key` is a path's key, `rest` is the key
+-- of components that may follow others
 pub record BeginsLead (key rest : List ℕ) (lead : Lead) : Type 0 where
   pub vs : List Value
   pub fit : AllFit true vs

@@ -14,11 +14,13 @@ use Rattle.path_keys.specs.NameBytes.{coded}
 abbrev pub ends_name_run : List ℕ → ℕ → Bool
 ends_name_run = ends_name_run_of slash dot
 
--- the first such slash of s is at this index, or s has none and is this long
+-- n is the index of the first slash of s after which no name begins, or the length of s if it has
+-- none
 abbrev pub FirstStop : List ℕ → ℕ → Type 0
 FirstStop = IsNameRunEnd slash dot
 
--- the bytes in a key of what s begins with: of `..`, or else of the names in its first n bytes
+-- the bytes in a key of the run at the beginning of s: of `..`, or else of the names in the first n
+-- bytes of s
 abbrev pub run_key : List ℕ → ℕ → List ℕ
 run_key s n = if starts_with_parent_dir s then 0 ∷ 3 ∷ [] else (map coded (take n s) ++ 0 ∷ [])
 
@@ -28,7 +30,8 @@ pub record IsRun (s : List ℕ) (n : ℕ) : Type 0 where
   pub in_range : n ≤ length s
   pub split : key_of (inner_values s) ≡ run_key s n ++ key_of (inner_values (drop n s))
 
--- `more` follows the first n bytes of the key, and these overwrite the beginning of the old buffer
+-- `key` is n bytes followed by `more`, and `new` is the buffer `old` with these n bytes written
+-- over its beginning
 pub record BeginsKey (key more : List ℕ) (n : ℕ) (old new : List ℕ) : Type 0 where
   pub lead : List ℕ
   pub key_is : key ≡ lead ++ more

@@ -45,7 +45,7 @@ impl<'a> Code<'a> {
         }
     }
 
-    // Returns the bytes of a name in the key.
+    // Returns the bytes of the name in the key; `None` if this is not the code of a name.
     #[inline]
     pub(crate) fn name(self) -> Option<&'a [u8]>
         ensures value { option_map (λ name. map lowered name.now) result
@@ -62,8 +62,8 @@ impl<'a> Code<'a> {
     }
 }
 
-// Returns the name with whose code these bytes begin, as its bytes in the key; `None` if they begin
-// with the code of no name.
+// Returns the name at the beginning of these bytes, as its bytes in the key; `None` if they don't
+// begin with the code of a name.
 #[inline]
 fn name_in(bytes: &[u8]) -> Option<&[u8]>
     ensures some { IfSome result
@@ -90,8 +90,8 @@ fn name_in(bytes: &[u8]) -> Option<&[u8]>
     Some(name)
 }
 
-// Returns the code that is 0 and this mark; `None` if it is the code of no component that may be
-// there.
+// Returns the code that is 0 and this mark. Returns `None` if no component has this code, or if
+// only the first component of a path may have it and `first` is false.
 #[inline]
 fn mark_code<'a>(mark: u8, first: bool) -> Option<Code<'a>>
     ensures some { IfSome result
@@ -115,8 +115,8 @@ fn mark_code<'a>(mark: u8, first: bool) -> Option<Code<'a>>
     None
 }
 
-// Returns the code with which these bytes begin; `None` if they begin with the code of no component
-// that may be there: as the first one of a path if `first` is true, and after others otherwise.
+// Returns the code with which these bytes begin. Returns `None` if they don't begin with the code
+// of a component that may be the first of a path if `first` is true, and a later one otherwise.
 #[inline]
 pub(crate) fn code_in(bytes: &[u8], first: bool) -> Option<Code<'_>>
     ensures some { IfSome result (λ found. TakesCode first bytes.now (code_value found)) }

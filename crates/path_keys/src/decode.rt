@@ -13,7 +13,7 @@ use crate::recode::names_to_path;
 use crate::runs::{Lead, Run, next_run, past_lead, run_in};
 use unix_bytes::buffers::write_at;
 
-// Returns the length of the path of a key; `None` if it is the key of no path.
+// Returns the length of the path of a key; `None` if no path has the key.
 pub(crate) fn path_len(key: &[u8]) -> Option<usize>
     ensures some { IfSome result (λ len. HasPath key.now len) }
     ensures none { result ≡ None → IsKey key.now → ⊥ }
@@ -21,15 +21,15 @@ pub(crate) fn path_len(key: &[u8]) -> Option<usize>
     let Some(len) = text_len(key) else {
         return None;
     };
-    // Only a lone root has no slash after it.
+    // The root as the only component has no slash after it, and the empty path has no bytes.
     if len > 1 {
         return Some(len - 1);
     }
     Some(len)
 }
 
-// Returns the length of the path of a key before other components; `None` if it is the key of no
-// path.
+// Returns the length of the path of a key and of a slash after it, which isn't counted for `/` and
+// the empty path. Returns `None` if no path has the key.
 #[inline]
 fn text_len(key: &[u8]) -> Option<usize>
     ensures some { IfSome result (λ len. ReadsAs key.now len) }

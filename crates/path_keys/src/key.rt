@@ -147,7 +147,8 @@ impl PathKey {
         bytes
     }
 
-    /// Returns the key of the parent, as `key_parent` does.
+    /// Returns the key of the parent of this key's path, like `key_parent`; `None` if there is
+    /// none.
     ///
     /// For the key of `a/b` it is 61 00.
     #[must_use]
@@ -159,7 +160,8 @@ impl PathKey {
         key_parent(self.as_bytes())
     }
 
-    /// Returns the bytes of the file name in the key, as `key_name` does.
+    /// Returns the bytes of the file name of this key's path in the key, like `key_name`; `None` if
+    /// there is no file name.
     ///
     /// For the key of `a/b.c` they are 62 2F 63.
     #[must_use]

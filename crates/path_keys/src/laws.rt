@@ -28,8 +28,8 @@ pub fn keys_begin()
 /// the rest, which `Path::strip_prefix` returns.
 ///
 /// To rename a directory in a store, a caller therefore replaces the key of the directory at the
-/// beginning of each key. The empty path can't be renamed so: the rest may begin with a root or a
-/// `.`, whose codes are in no key after others.
+/// beginning of each key. The empty path can't be renamed this way: the rest may begin with a root
+/// or a `.`, whose codes occur only at the beginning of a key.
 ///
 /// The key of `a/b` without `a` is 61 00, followed by the key of `b`, 62 00.
 pub fn key_of_stripped()
@@ -46,7 +46,7 @@ pub fn key_of_join()
 
 /// The key of a path has at most two bytes more than the path.
 ///
-/// A caller can choose the length of a buffer by it.
+/// So a buffer with two bytes more than the path is always long enough.
 ///
 /// The path `/a` has 2 bytes, and its key has 4.
 pub fn key_is_short()

@@ -1,4 +1,4 @@
-//! The parent and the name of a key's path, as slices of the key, and its prefixes.
+//! The parent and the file name of a key's path, as slices of the key, and a test for prefixes.
 ghost use Rattle.std.specs.Prelude.{◌≡◌, ◌↔◌, ◌≤◌, ℕ, [], List, length, map, None, IfSome, IsTrue};
 ghost use Rattle.std.specs.Prelude.{option_map};
 ghost use Rattle.unix_path.specs.Names.{file_name_of};

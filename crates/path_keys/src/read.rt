@@ -61,7 +61,7 @@ impl From<AllocError> for KeyError {
     }
 }
 
-// Returns the path of a key, of `len` bytes.
+// Returns the path of a key. The path has `len` bytes.
 fn read_text(alloc: Global, key: &[u8], len: usize) -> Result<Vec<u8>, AllocError>
     requires { HasPath key.now len }
     ensures read { IfOk result (λ text. IsRead key.now text.items) }

@@ -1,4 +1,5 @@
-//! What a key begins with: a lead, and then each `..`, or names up to another mark.
+//! The runs of a key: a lead, and then each `..`, and names up to the next code that isn't a
+//! name's.
 ghost use Rattle.std.specs.Prelude.{◌≡◌, ◌<◌, ◌^◌, length, None, IfSome};
 ghost use Rattle.unix_path.specs.Parts.{ParentDir};
 ghost use Rattle.unix_path.specs.Prefixes.{IsPrefixOf};
@@ -17,7 +18,8 @@ pub(crate) enum Lead {
 }
 
 impl Lead {
-    // Returns its length in a path before other components.
+    // Returns the length of this lead in a path with components after it, including the slash after
+    // a `.`.
     #[inline(always)]
     pub(crate) fn len_in_path(self) -> usize
         ensures { result ≡ length (lead_text self) }
@@ -30,14 +32,14 @@ impl Lead {
     }
 }
 
-// A key's lead, and what follows it.
+// A key's lead, and the rest of the key after it.
 #[derive(Clone, Copy)]
 pub(crate) struct Started<'a> {
     pub(crate) lead: Lead,
     pub(crate) rest: &'a [u8],
 }
 
-// Returns the lead of a key, and what follows it.
+// Splits a key into its lead and the rest after it.
 #[inline(always)]
 pub(crate) fn past_lead(key: &[u8]) -> Started<'_>
     ensures { BeginsLead key.now result.rest.now result.lead }
@@ -67,7 +69,7 @@ pub(crate) fn past_lead(key: &[u8]) -> Started<'_>
     absent
 }
 
-// What a key begins with after its lead.
+// A run of a key after its lead.
 #[derive(Clone, Copy)]
 pub(crate) enum Run<'a> {
     // A `..`.
@@ -77,7 +79,7 @@ pub(crate) enum Run<'a> {
 }
 
 impl<'a> Run<'a> {
-    // Returns its length in the key.
+    // Returns the length of this run in the key.
     #[inline(always)]
     pub(crate) fn len(self) -> usize
         requires { length (run_code self) < 2 ^ 64 }
@@ -89,7 +91,7 @@ impl<'a> Run<'a> {
         }
     }
 
-    // Returns its length in a path before other components.
+    // Returns the length of this run in a path with components after it, including its last slash.
     #[inline(always)]
     pub(crate) fn text_len(self) -> usize
         requires { length (run_text self) < 2 ^ 64 }
@@ -117,8 +119,8 @@ pub(crate) fn next_run(bytes: &[u8], room: usize) -> Option<Run<'_>>
     run_in(bytes)
 }
 
-// Returns the run with which these bytes begin; `None` if they are the key of no components that
-// may follow others.
+// Returns the run with which these bytes begin; `None` if they are not the key of one or more
+// components that may follow others.
 #[inline(always)]
 pub(crate) fn run_in(bytes: &[u8]) -> Option<Run<'_>>
     ensures some { IfSome result (λ run. TakesRun bytes.now run) }
@@ -130,8 +132,9 @@ pub(crate) fn run_in(bytes: &[u8]) -> Option<Run<'_>>
     names_in(bytes)
 }
 
-// Returns the names with which these bytes begin, up to a mark or the end; `None` if no name
-// begins them, or the last one has no end mark, so that the bytes are no key.
+// Returns the names at the beginning of these bytes, up to the next code that isn't a name's, or
+// the end. Returns `None` if the bytes don't begin with a name, or if the last name has no end
+// mark, so that the bytes are not a key.
 #[inline(always)]
 fn names_in(bytes: &[u8]) -> Option<Run<'_>>
     requires { IsPrefixOf (code ParentDir) bytes.now → ⊥ }

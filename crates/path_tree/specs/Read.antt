@@ -10,7 +10,8 @@ use Rattle.path_keys.specs.Codes.{lowered}
 abbrev pub marked : ℕ → Value
 marked mark = if mark == 1 then RootDir else (if mark == 2 then CurDir else ParentDir)
 
--- the components of the rest of a key, after these bytes of a name, or after the 0 of a mark (None)
+-- the components of the rest of a key, after these bytes of a name, or after the 0 of a mark
+-- (`None`)
 unfoldable pub values_from : Option (List ℕ) → List ℕ → List Value
 values_from name [] = []
 values_from None (b ∷ key) = marked b ∷ values_from (Some []) key
@@ -24,7 +25,7 @@ values_from (Some (a ∷ name)) (b ∷ key) =
 abbrev pub key_values : List ℕ → List Value
 key_values key = values_from (Some []) key
 
--- the path in canonical form with the components of these bytes has these bytes as its key. No
--- public clause cites this word
+-- these bytes are the key of a path: of the canonical form of the components that they represent.
+-- No public clause cites this word
 abbrev pub is_own : List ℕ → Bool
 is_own key = bytes_eq (key_of (values (spelling_of (key_values key)))) key

@@ -32,7 +32,7 @@ entry_at key entries = lookup (is_at (bytes_cmp key)) entries
 abbrev pub entries_under : {V : Type 0} → List ℕ → List (List ℕ × V) → List (List ℕ × V)
 entries_under base entries = filter (λ e. starts_with eqb e.0 base) entries
 
--- the components that each key represents, with its value
+-- the rows of these entries: the components that each key represents, with its value
 abbrev pub key_rows : {V : Type 0} → List (Key × V) → List (List Value × V)
 key_rows entries = map (λ e. (key_values e.0.items, e.1)) entries
 

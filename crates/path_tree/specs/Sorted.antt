@@ -8,11 +8,11 @@ use Rattle.unix_path.specs.Order.{values_cmp}
 use Rattle.unix_path.specs.Parts.{Value, values}
 use Rattle.unix_path.specs.declared.path.Path.{Path}
 
--- the components of each item's path, with the item's value
+-- the rows of these items: the components of each item's path, with the item's value
 abbrev pub rows_in : {V : Type 0} → List (Path × V) → List (List Value × V)
 rows_in items = map (λ item. (values item.0.bytes.now, item.1)) items
 
--- the paths of an iterator's items are strictly increasing, and the rows are the items' rows
+-- the paths of an iterator's items are strictly increasing, and `rows` are the rows of the items
 pub record ListsAll {V S : Type 0} (steps : S → Option (Path × V) → S → Type 0) (items : S)
     (rows : List (List Value × V)) : Type 0 where
   pub entries : List (Path × V)

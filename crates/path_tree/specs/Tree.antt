@@ -8,6 +8,7 @@ use Rattle.path_tree.specs.declared.tree.PathTree.{PathTree}
 abbrev pub entries_of : {V : Type 0} → PathTree V → List (List ℕ × V)
 entries_of tree = key_entries tree.entries.entries
 
--- the components of each path of the tree, in path order, with the value at that path
+-- the rows of a tree: the components of each path of the tree, in path order, with the value at
+-- that path
 abbrev pub table_of : {V : Type 0} → PathTree V → List (List Value × V)
 table_of tree = key_rows tree.entries.entries

@@ -22,12 +22,12 @@ fn key_hash(key: &[u8]) -> u64
     hasher.finish()
 }
 
-// A set of hashes that has the hash of each key of a tree, and may have others: a bit for each. A
-// filter without words may contain any key.
+// A set of hashes, with a bit for each, that has the hash of each key of a tree, and may have
+// others. A filter without words may contain any key.
 #[derive(Drop)]
 pub(crate) struct KeyFilter {
     words: Vec<u64>,
-    // The bits of a hash that are the index of the word with its bit.
+    // The bits of a hash that are the index of its word.
     mask: u64,
     // The number of bits that may be set before the filter is rebuilt.
     remaining: usize,
@@ -47,7 +47,7 @@ impl KeyFilter {
         }
     }
 
-    // Returns a filter whose bits are not set, of two to four bytes for each of so many keys.
+    // Returns a filter for so many keys, with two to four bytes for each key, and no bit set.
     fn zeroed(alloc: Global, keys: usize) -> Result<KeyFilter, AllocError> {
         let count = (keys / 4).next_power_of_two();
         Ok(KeyFilter {
@@ -101,7 +101,8 @@ impl KeyFilter {
         self.remaining = self.remaining.saturating_sub((new != word) as usize);
     }
 
-    // Returns true if the filter is to be rebuilt for a tree of so many entries.
+    // Returns true if the filter has to be rebuilt for a tree of so many entries: no further bit
+    // may be set, and the tree has more entries than a tree without a filter.
     #[inline]
     pub(crate) fn is_saturated(&self, entries: usize) -> bool {
         self.remaining == 0 && entries > UNFILTERED_MAX

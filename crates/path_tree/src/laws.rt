@@ -24,7 +24,7 @@ pub fn keys_stand_for()
 /// The keys of a tree are keys of paths, in strictly increasing order of their bytes, and their
 /// paths are in path order.
 ///
-/// So `path_of` reads back each key that a tree lends, and each key is lent once.
+/// So `path_of` can read each key of a tree back, and no two keys of a tree are equal.
 ///
 /// With 1 at `a//b` and 2 at `a.b`, the keys are 61 00 62 00 and 61 2F 62 00.
 pub fn tree_has_keys<V>(tree: &PathTree<V>)

@@ -23,7 +23,7 @@ impl<'a> LookupKey<'a> {
     ghost use Rattle.path_tree.specs.LookupKey.{lookup_bytes};
 
     // Returns the key of the path, in the buffer if it has no more than 512 bytes. The buffer is
-    // borrowed, since a key that contains it would be copied with all of it.
+    // borrowed, because a key that contained the buffer would be copied with all of its bytes.
     #[inline]
     pub(crate) fn of(
         alloc: Global,

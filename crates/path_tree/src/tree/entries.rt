@@ -16,7 +16,7 @@ impl<V> PathTree<V> {
     ghost use Rattle.path_tree.specs.Lent.{lends_value};
     ghost use Rattle.path_tree.specs.Tree.{table_of};
 
-    // Returns the value at the path of this key.
+    // Returns the value at the path of this key; `None` if there is none.
     #[inline]
     pub(super) fn find(&self, key: &[u8]) -> Option<&V>
         requires { is_own key.now ≡ true }
@@ -25,8 +25,8 @@ impl<V> PathTree<V> {
         self.entries.get(key)
     }
 
-    // Returns the value at the path of this key. Faster than `find` for keys that the tree lacks,
-    // most of which the filter rules out.
+    // Does the same as `find`. Faster for keys that the tree lacks, because the filter rules out
+    // most of them.
     #[inline]
     pub(super) fn find_filtered(&self, key: &[u8]) -> Option<&V>
         requires { is_own key.now ≡ true }
@@ -49,7 +49,8 @@ impl<V> PathTree<V> {
         self.entries.get_mut(key)
     }
 
-    // Inserts the value at the path of this key, and returns the old one.
+    // Inserts the value at the path of this key, and returns the old value; `None` if there was
+    // none.
     pub(super) fn put(&mut self, key: Vec<u8>, value: V) -> Result<Option<V>, AllocError>
     where
         V: Drop,
@@ -81,7 +82,7 @@ impl<V> PathTree<V> {
         }
     }
 
-    // Removes and returns the value at the path of this key.
+    // Removes and returns the value at the path of this key; `None` if there is none.
     #[inline]
     pub(super) fn take(&mut self, key: &[u8]) -> Option<V>
         requires { is_own key.now ≡ true }

@@ -34,8 +34,9 @@ impl<V> PathTree<V> {
     ghost use Rattle.path_tree.specs.Cursor.{cursor_entries};
     ghost use Rattle.path_tree.specs.Tree.{entries_of};
 
-    // Returns a cursor for so many keys. It looks each key up if that takes less than a walk over
-    // all entries, which is if the tree has more than 16 entries for each key.
+    // Returns a cursor that finds so many keys. If there are fewer keys than a sixteenth of the
+    // tree's entries, the cursor looks each key up, which then takes less time than a walk over all
+    // entries.
     pub(super) fn merge_cursor(&self, keys: usize) -> MergeCursor<'_, V>
         ensures { cursor_entries result ≡ entries_of self.now }
     {
@@ -51,7 +52,8 @@ impl<V> PathTree<V> {
 impl<'a, V> MergeCursor<'a, V> {
     ghost use Rattle.path_tree.specs.Cursor.{cursor_entries};
 
-    // Returns the value at this key. After that only greater keys are found.
+    // Returns the value at this key; `None` if there is none. After the call, the cursor finds only
+    // greater keys.
     pub(super) fn find(&mut self, key: &Vec<u8>) -> Option<&'a V>
         ensures value { option_copied result
             ≡ entry_at key.now.items (cursor_entries self.old) }
@@ -66,7 +68,7 @@ impl<'a, V> MergeCursor<'a, V> {
 }
 
 impl<'a, V> EntryWalk<'a, V> {
-    // Passes the entries up to this key, and returns the value at the key.
+    // Passes the entries up to this key, and returns the value at the key; `None` if there is none.
     fn find(&mut self, key: &Vec<u8>) -> Option<&'a V>
         ensures value { option_copied result
             ≡ entry_at key.now.items (key_entries (entries_from self.old.next self.old.rest)) }

@@ -87,7 +87,7 @@ fn moved_key(alloc: Global, key: &[u8], from: &[u8], to: &[u8]) -> Result<Vec<u8
 impl<V> PathTree<V> {
     ghost use Rattle.path_tree.specs.Tree.{table_of};
 
-    // Returns the entries under `from`, with the keys that they get under `to`.
+    // Returns the entries under `from`, with the keys that they have after the move to `to`.
     fn moved(&self, from: &[u8], to: &[u8]) -> Result<Vec<(Vec<u8>, V)>, AllocError>
     where
         V: Copy,

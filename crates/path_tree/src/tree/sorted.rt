@@ -108,8 +108,8 @@ impl<V> PathTree<V> {
     /// dropped.
     ///
     /// The tree is filled at once, in time linear in the items and the bytes of their keys, whereas
-    /// `from_iter` searches the tree for each item. Allocates for each path's key, for a list of
-    /// the items twice, for the tree, and for the Bloom filter as `insert` does. `FromIterator` of
+    /// `from_iter` searches the tree for each item. Allocates for each path's key, for two lists of
+    /// the items, for the tree, and for the Bloom filter as `insert` does. `FromIterator` of
     /// `BTreeMap` does the same for a sorted list.
     ///
     /// From 1 at `a/b` and 2 at `a.b` it creates a tree with both. For 1 at `b` and 2 at `a` it

@@ -1,4 +1,4 @@
--- Bytes that are put in a buffer, each changed by the same function: one by one, or many at once.
+-- Bytes written to a buffer, each changed by the same function, one by one or many at once.
 use Rattle.std.proofs.Common.{◌≡◌, ℕ, ◌+◌, ◌<◌, ◌≤◌, List, [], ◌∷◌, ◌++◌, length, take, drop, map}
 use Rattle.std.proofs.Common.{get_or, set, refl, sym, ap, ap₂, ◌∙◌, arith}
 use Rattle.std.proofs.Common.{append_assoc, append-nil, length-append, length-set, length-drop}
@@ -13,14 +13,14 @@ use Rattle.std.proofs.Math.Seq.{take-add}
 use Rattle.std.specs.Simd.Lanes.{put_chunk}
 use Rattle.path_runs.specs.Overlay.{overlay}
 
--- the first i of these bytes, changed by f, were put in the old buffer from `at` on; what comes
--- after all of them is unchanged
+-- `out` is the buffer `old` with the first i of `bytes`, changed by f, written from index `at` on;
+-- the bytes after the range for all of `bytes` are unchanged
 pub record PutTo (f : ℕ → ℕ) (bytes old : List ℕ) (at i : ℕ) (out : List ℕ) : Type 0 where
   pub long : length out ≡ length old
   pub before : take (at + i) out ≡ take at old ++ map f (take i bytes)
   pub behind : drop (at + length bytes) out ≡ drop (at + length bytes) old
 
--- before the first byte nothing is put
+-- before the first byte is written, the buffer is `old`
 pub put_none : (f : ℕ → ℕ) (bytes old : List ℕ) (at : ℕ) → PutTo f bytes old at 0 old
 put_none f bytes old at = record {
   long = refl;
@@ -28,7 +28,8 @@ put_none f bytes old at = record {
   behind = refl;
 }
 
--- one more byte is put there
+-- if the first i bytes are written, writing the byte at index i, changed by f, writes the first i +
+-- 1
 pub put_one : (f : ℕ → ℕ) (bytes old : List ℕ) (at i : ℕ) (out new : List ℕ) (b : ℕ)
     → PutTo f bytes old at i out → i < length bytes → at + i < length old
     → b ≡ f (get_or bytes i 0) → new ≡ set out (at + i) b → PutTo f bytes old at (i + 1) new
@@ -46,7 +47,7 @@ put_one f bytes old at i out new b h l m is e =
           ∙ drop-set-lt (at + length bytes) out (at + i) b low ∙ h.behind;
     }
 
--- what was put up to i was put up to any k before it
+-- if the first i bytes are written, and k is at most i, the first k bytes are written
 pub put_fewer : (f : ℕ → ℕ) (bytes old : List ℕ) (at i k : ℕ) (out : List ℕ)
     → PutTo f bytes old at i out → k ≤ i → i ≤ length bytes → at + length bytes ≤ length old
     → PutTo f bytes old at k out
@@ -75,7 +76,8 @@ put_fewer f bytes old at i k out h l m room = record {
   behind = h.behind;
 }
 
--- what comes after a chunk is unchanged
+-- if the chunk ys, written at index i, ends at index n or before it, the bytes from n on are
+-- unchanged
 drop-put_chunk : (n i : ℕ) (xs ys : List ℕ) → i + length ys ≤ n
     → drop n (put_chunk i xs ys) ≡ drop n xs
 drop-put_chunk n i xs ys l =
@@ -84,7 +86,7 @@ drop-put_chunk n i xs ys l =
     (λ k few. get_or-drop n (put_chunk i xs ys) k 0
     ∙ get_or-put_chunk_above i xs ys (n + k) 0 (omega arith) ∙ sym (get_or-drop n xs k 0))
 
--- n more bytes are put there at once
+-- if the first i bytes are written, writing the next n bytes as one chunk writes the first i + n
 pub put_many : (n : ℕ) (f : ℕ → ℕ) (bytes old : List ℕ) (at i : ℕ) (out new : List ℕ)
     → PutTo f bytes old at i out → i + n ≤ length bytes → at + length bytes ≤ length old
     → new ≡ put_chunk (at + i) out (map f (take n (drop i bytes)))
@@ -107,7 +109,7 @@ put_many n f bytes old at i out new h l room e =
           ∙ drop-put_chunk (at + length bytes) (at + i) out block (omega arith) ∙ h.behind;
     }
 
--- all of these bytes were put there
+-- if all of `bytes` are written, `out` is `old` overwritten from `at` on with `bytes`, changed by f
 pub put_all : (f : ℕ → ℕ) (bytes old : List ℕ) (at i : ℕ) (out : List ℕ)
     → PutTo f bytes old at i out → i ≡ length bytes → out ≡ overlay at (map f bytes) old
 put_all f bytes old at i out h e =

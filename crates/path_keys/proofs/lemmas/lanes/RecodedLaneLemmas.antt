@@ -1,4 +1,4 @@
--- Bytes changed as those of names, many at once, and the two ways in which they are changed.
+-- Bytes of names recoded many at once, and the two ways of recoding: to a key, and to a path.
 use Rattle.std.proofs.Common.{◌≡◌, ℕ, ◌+◌, ◌-◌, ◌%◌, cond, eqb, List, [], ◌∷◌}
 use Rattle.std.proofs.Common.{length, map, replicate, refl, sym, ap, ap₂, ◌∙◌, arith}
 use Rattle.std.specs.Simd.Lanes.{zip2, sel_l, top}
@@ -12,7 +12,7 @@ use Rattle.path_keys.specs.Codes.{lowered}
 use Rattle.path_keys.specs.NameBytes.{coded, decoded, recoded}
 use Rattle.path_keys.specs.declared.recode.Recoding.{Recoding}
 
--- a byte as the lanes change it
+-- in the lane of the byte x, the code computes the byte x, recoded
 lane_recoded : (how : Recoding) (x : ℕ)
     → cond (top 7 (lane (eqb x how.mark))) how.other
     (cond (top 7 (lane (ltb x how.limit))) ((x + how.step) % 256) x) ≡ recoded how x
@@ -20,7 +20,7 @@ lane_recoded how x =
     ap₂ (λ a b. cond a how.other (cond b ((x + how.step) % 256) x)) (top_lane (eqb x how.mark))
     (top_lane (ltb x how.limit))
 
--- a choice between lanes that were each made of the same bytes
+-- in the lanes of the bytes xs, the code computes the bytes xs, recoded
 selected : (how : Recoding) (xs : List ℕ)
     → sel_l (map (top 7) (map (λ x. lane (eqb x how.mark)) xs)) (map (λ _. how.other) xs)
     (sel_l (map (top 7) (map (λ x. lane (ltb x how.limit)) xs))
@@ -29,7 +29,7 @@ selected : (how : Recoding) (xs : List ℕ)
 selected how [] = refl
 selected how (x ∷ xs) = ap₂ (λ c cs. c ∷ cs) (lane_recoded how x) (selected how xs)
 
--- the lanes that the code computes are the changed bytes
+-- if xs has n bytes, the n lanes that the code computes are the bytes xs, recoded
 pub recoded_lanes : (how : Recoding) (n : ℕ) (xs : List ℕ) → length xs ≡ n
     → sel_l (map (top 7) (zip2 (λ a b. lane (eqb a b)) xs (replicate n how.mark)))
     (replicate n how.other)
@@ -46,27 +46,27 @@ recoded_lanes how n xs l =
     (splat_is_map xs n how.other l) (zip2_splat (λ a b. (a + b) % 256) xs n how.step l)
     ∙ selected how xs
 
--- two changes that change each byte the same way
+-- if f and g change each byte the same way, they change the bytes of a list the same way
 same_map : (f g : ℕ → ℕ) → ((x : ℕ) → f x ≡ g x) → (xs : List ℕ) → map f xs ≡ map g xs
 same_map f g e [] = refl
 same_map f g e (x ∷ xs) = ap₂ (λ c cs. c ∷ cs) (e x) (same_map f g e xs)
 
--- the change from a path to a key
+-- the way of recoding bytes of names from a path to a key
 abbrev pub to_key : Recoding
 to_key = record { mark = 47; other = 0; limit = 47; step = 1 }
 
--- the change from a key to a path
+-- the way of recoding bytes of names from a key to a path
 abbrev pub to_path : Recoding
 to_path = record { mark = 0; other = 47; limit = 48; step = 255 }
 
--- a byte changed from a path to a key
+-- recoding the byte x from a path to a key leads to `coded x`
 recoded-to_key : (x : ℕ) → recoded to_key x ≡ coded x
 recoded-to_key x = ap (cond (eqb x 47) 0) (by_test (ltb x 47)
     (λ e. let l = ltb-true x 47 e in
     let small : (x + 1) % 256 ≡ x + 1 = omega arith in rw e small)
     (λ e. rw e refl))
 
--- a byte changed from a key to a path
+-- recoding the byte x from a key to a path leads to `decoded x`
 recoded-to_path : (x : ℕ) → recoded to_path x ≡ decoded x
 recoded-to_path x = by_test (eqb x 0)
     (λ e. rw e refl)
@@ -80,10 +80,10 @@ recoded-to_path x = by_test (eqb x 0)
     let l = ltb-false x 48 f in
     let is : x ≡ lowered x = grind (arith, nat_tests) in rw (e, f) is))
 
--- the bytes of names in a key
+-- recoding the bytes xs from a path to a key is the same as coding each of them
 pub map-to_key : (xs : List ℕ) → map (recoded to_key) xs ≡ map coded xs
 map-to_key = same_map (recoded to_key) coded recoded-to_key
 
--- and in a path
+-- recoding the bytes xs from a key to a path is the same as decoding each of them
 pub map-to_path : (xs : List ℕ) → map (recoded to_path) xs ≡ map decoded xs
 map-to_path = same_map (recoded to_path) decoded recoded-to_path

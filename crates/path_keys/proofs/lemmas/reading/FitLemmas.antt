@@ -1,4 +1,4 @@
--- Values that may be all values of a path are those of one: of their spelling.
+-- Components that may be all components of a path are those of their canonical form.
 use Rattle.std.proofs.Common.{◌≡◌, ℕ, Bool, true, false, cond, List, [], ◌∷◌, ◌++◌, map, refl}
 use Rattle.std.proofs.Common.{sym, ap, ap₂, ◌∙◌, subst}
 use Rattle.std.specs.List.{AllByRecursion, slice_split}
@@ -23,41 +23,41 @@ use Rattle.path_runs.proofs.lemmas.spelling.SpellLemmas.{spelling_of-cons}
 use Rattle.path_keys.specs.Codes.{Fits, AllFit}
 use Rattle.path_keys.proofs.lemmas.values.CodeLemmas.{IsCoded}
 
--- what may be a path's value has a code of its own
+-- if v may be a component of a path, v is `IsCoded`
 pub Fits-coded : (first : Bool) (v : Value) → Fits first v → IsCoded v
 Fits-coded first RootDir h = tt
 Fits-coded first CurDir h = tt
 Fits-coded first ParentDir h = tt
 Fits-coded first (Normal name) h = (h.no_slash, h.some)
 
--- components that may be a path's have codes of their own
+-- if vs may be components of a path, all of them are `IsCoded`
 pub AllFit-coded : (first : Bool) (vs : List Value) → AllFit first vs → AllByRecursion IsCoded vs
 AllFit-coded first [] h = tt
 AllFit-coded first (v ∷ vs) h = (Fits-coded first v h.0, AllFit-coded false vs h.1)
 
--- a piece that counts is a component that may follow others
+-- if a piece is neither empty nor `.`, its component may follow others
 piece_fits : HoldsOfPieces (Fits false)
 piece_fits p h d e = by_test (bytes_eq p parent_dir) (λ up. rw up tt)
     (λ up. rw up (record { some = d; no_slash = h; no_dot = e; no_up = up }))
 
--- components that each may follow others may do so together
+-- if each component of vs may follow others, all of vs together may follow others
 all_fit : (vs : List Value) → AllByRecursion (Fits false) vs → AllFit false vs
 all_fit [] h = tt
 all_fit (v ∷ vs) h = (h.0, all_fit vs h.1)
 
--- a component that may follow others may be the first
+-- if v may follow other components, it may also be the first one
 Fits-first : (v : Value) → Fits false v → Fits true v
 Fits-first RootDir h = refl
 Fits-first CurDir h = refl
 Fits-first ParentDir h = tt
 Fits-first (Normal name) h = h
 
--- components that may follow others may be all components
+-- if vs may follow other components, vs may also be all components of a path
 pub AllFit-first : (vs : List Value) → AllFit false vs → AllFit true vs
 AllFit-first [] h = tt
 AllFit-first (v ∷ vs) h = (Fits-first v h.0, h.1)
 
--- the components between the slashes of any string may follow a first component
+-- the components of the pieces of any string s may follow other components
 names-fit : (s : List ℕ) → AllFit false (names_of (slice_split is_slash s))
 names-fit s =
     let behind = values-hold_rooted (Fits false) piece_fits (slash ∷ s) refl in
@@ -65,13 +65,14 @@ names-fit s =
     (let e = sym (values-rooted s) ∙ behind.1 in cc) in
     subst (AllFit false) (sym same) (all_fit behind.0 behind.2)
 
--- a leading `.`, and components that may follow others, may be all components
+-- if vs may follow other components, then vs, after a leading `.` if `dot` is true, may be all
+-- components of a path
 lead-fit : (dot : Bool) (vs : List Value) → AllFit false vs
     → AllFit true (cond dot (CurDir ∷ []) [] ++ vs)
 lead-fit true vs h = (refl, h)
 lead-fit false vs h = AllFit-first vs h
 
--- the values of a path may be all values of a path
+-- the components of a path s may be all components of a path
 pub values-fit : (s : List ℕ) → AllFit true (values s)
 values-fit s = by_test (is_rooted s)
     (λ r.
@@ -82,49 +83,52 @@ values-fit s = by_test (is_rooted s)
     subst (AllFit true) (sym (values-rootless s ps r refl))
     (lead-fit (dot_first ps) (names_of ps) (names-fit s)))
 
--- the bytes of a component after the first have no slash
+-- if v may follow other components, its bytes have no slash
 fits-no_slash : (v : Value) → Fits false v → NoSlash (value_bytes v)
 fits-no_slash RootDir h = absurd (cc)
 fits-no_slash CurDir h = (refl, tt)
 fits-no_slash ParentDir h = (refl, (refl, tt))
 fits-no_slash (Normal name) h = h.no_slash
 
--- the bytes of a component after the first are a piece that counts
+-- if v may follow other components, its bytes are a piece that is neither empty nor `.`
 fits-counts : (v : Value) → Fits false v → counts (value_bytes v) ≡ true
 fits-counts RootDir h = absurd (cc)
 fits-counts CurDir h = absurd (cc)
 fits-counts ParentDir h = refl
 fits-counts (Normal name) h = rw (h.some, h.no_dot) refl
 
--- the piece of a component after the first is that component
+-- if v may follow other components, its bytes, taken as a piece, are the component v
 fits-value : (v : Value) → Fits false v → value_of_piece (value_bytes v) ≡ v
 fits-value RootDir h = absurd (cc)
 fits-value CurDir h = absurd (cc)
 fits-value ParentDir h = refl
 fits-value (Normal name) h = rw h.no_up refl
 
--- the pieces of components after the first have no slash
+-- if vs may follow other components, the bytes of each of them have no slash
 pieces-no_slash : (vs : List Value) → AllFit false vs → AllByRecursion NoSlash (map value_bytes vs)
 pieces-no_slash [] h = tt
 pieces-no_slash (v ∷ vs) h = (fits-no_slash v h.0, pieces-no_slash vs h.1)
 
--- these pieces count
+-- if vs may follow other components, the bytes of each of them are a piece that is neither empty
+-- nor `.`
 pieces-count : (vs : List Value) → AllFit false vs → AllCount (map value_bytes vs)
 pieces-count [] h = tt
 pieces-count (v ∷ vs) h = (fits-counts v h.0, pieces-count vs h.1)
 
--- these pieces are those components
+-- if vs may follow other components, the bytes of each of them, taken as pieces, are the components
+-- vs
 pieces-values : (vs : List Value) → AllFit false vs → map value_of_piece (map value_bytes vs) ≡ vs
 pieces-values [] h = refl
 pieces-values (v ∷ vs) h = ap₂ (λ u us. u ∷ us) (fits-value v h.0) (pieces-values vs h.1)
 
--- components that may follow a first, written with slashes between, are read back
+-- if vs may follow other components, their bytes joined by slashes are a path with the components
+-- vs
 inner-spelled : (vs : List Value) → AllFit false vs → values (slashed_bytes vs) ≡ vs
 inner-spelled vs h =
     values-join_with_byte (map value_bytes vs) (pieces-no_slash vs h) (pieces-count vs h)
     ∙ pieces-values vs h
 
--- values that may be all values of a path are those of their spelling
+-- if vs may be all components of a path, their canonical form has the components vs
 pub values-spelled : (vs : List Value) → AllFit true vs → values (spelling_of vs) ≡ vs
 values-spelled [] h = ap values spelling_of-nil ∙ values-nil
 values-spelled (RootDir ∷ vs) h =

@@ -1,4 +1,4 @@
--- What a key reads back as.
+-- The path that a key reads back as.
 use Rattle.std.proofs.Common.{◌≡◌, ◌<◌, ◌≤◌, ◌-◌, ℕ, List, [], length, refl, sym, ap, ◌∙◌, arith}
 use Rattle.std.proofs.Common.{◌++◌, drop, ap₂, true, Option, Some, None, is_some, IfSome, IsTrue}
 use Rattle.std.proofs.Common.{length-take-le}
@@ -17,14 +17,16 @@ use Rattle.path_keys.proofs.lemmas.values.KeyLemmas.{key_of-nil}
 use Rattle.path_keys.proofs.lemmas.values.OrderLemmas.{key_of-same}
 use Rattle.path_keys.proofs.lemmas.reading.TextLemmas.{text_of-spelled}
 
--- the spelling of the values of a key is the path that it reads back as
+-- if vs may be all components of a path, and `key` is their key, it reads back as their canonical
+-- form
 pub spelled_read : (key : List ℕ) (vs : List Value) → AllFit true vs → key_of vs ≡ key
     → IsRead key (spelling_of vs)
 spelled_read key vs fit e =
     let same = values-spelled vs fit in
     record { key_is = ap key_of same ∙ e; spelled = ap spelling_of (sym same) }
 
--- the path has a byte less than the text before others, if that has more than one
+-- if `key` reads back as components whose text has `len` bytes, more than one, its path has
+-- `len - 1` bytes
 pub path_longer : (key : List ℕ) (len : ℕ) → ReadsAs key len → 1 < len → HasPath key (len - 1)
 path_longer key len h more =
     let text = text_of h.vs in
@@ -40,7 +42,8 @@ path_longer key len h more =
       );
     }
 
--- the path has as many bytes as the text before others, if that is none or a lone root
+-- if `key` reads back as components whose text has `len` bytes, at most one, its path has `len`
+-- bytes
 pub path_lone : (key : List ℕ) (len : ℕ) → ReadsAs key len → len ≤ 1 → HasPath key len
 path_lone key len h few = record {
   path = spelling_of h.vs;
@@ -49,42 +52,46 @@ path_lone key len h few = record {
       ∙ ap length ((text_of-spelled h.vs h.fit (text_of h.vs) refl).1 (omega (arith, h.len_is)));
 }
 
--- bytes whose path has a length are a key
+-- if `key` reads back as a path of `len` bytes, it is a key
 pub path_key : (key : List ℕ) (len : ℕ) → HasPath key len → IsKey key
 path_key key len h = (h.path, h.read.key_is)
 
--- bytes are a key if and only if the length of their path is known
+-- if `len` is the length of the path of `key`, or `None` if `key` is not a key, then `key` is a key
+-- if and only if `len` isn't `None`
 pub known_key : (key : List ℕ) (len : Option ℕ) → IfSome len (λ n. HasPath key n)
     → (len ≡ None → IsKey key → ⊥)
     → (IsTrue (is_some len) → IsKey key) × (IsKey key → IsTrue (is_some len))
 known_key key None some none = (λ is. cc, λ is. absurd (none refl is))
 known_key key (Some n) some none = (λ is. path_key key n some, λ is. refl)
 
--- it is the canonical spelling of each path that has the key
+-- if `key` reads back as `path`, and is the key of s, `path` is the canonical form of s
 pub read_back : (key path s : List ℕ) → IsRead key path → key_of (values s) ≡ key
     → path ≡ spelling_of (values s)
 read_back key path s h e =
     h.spelled ∙ ap spelling_of (key_of-same (values path) (values s) (values-coded path)
     (values-coded s) (h.key_is ∙ sym e))
 
--- the length of the path of a key is that of the spelling of each path that has the key
+-- if the path of `key` has n bytes, and `key` is the key of s, the canonical form of s has n bytes
 spelled_long : {key : List ℕ} {n : ℕ} (s : List ℕ) → HasPath key n → key_of (values s) ≡ key
     → n ≡ length (spelling_of (values s))
 spelled_long {key} {n} s h e = h.len_is ∙ ap length (read_back key h.path s h.read e)
 
--- the length as `write_path_of` returns it
+-- if the path of `key` has n bytes, and `key` is the key of s, `Some n` is what `write_path_of` has
+-- to return: the length of the canonical form of s
 pub path_long : {key : List ℕ} {n : ℕ} (s : List ℕ) → HasPath key n → key_of (values s) ≡ key
     → Some n ≡ Some (length (spelling_of (values s)))
 path_long s h e = ap Some (spelled_long s h e)
 
--- a buffer that has no room for the path of a key stays as it was
+-- if `key` is the key of s, and its path has more bytes than the buffer `old`, a call that writes
+-- the canonical form of s leaves the buffer unchanged
 pub kept_back : {key old : List ℕ} {n : ℕ} (s : List ℕ) → HasPath key n
     → key_of (values s) ≡ key → length old < n → old ≡ buffer_after (spelling_of (values s)) old
 kept_back {key} {old} {n} s h e few =
     sym (cond-false _ _ _ (lt-leb (length (spelling_of (values s))) (length old)
     (omega (arith, spelled_long s h e))))
 
--- a buffer in which the path of a key is written has the spelling of each path that has the key
+-- if `key` is the key of s and reads back as `path`, which fits in the buffer `old`, the buffer
+-- after a call that writes the canonical form of s is `path` and then the remaining bytes of `old`
 pub written_back : {key path : List ℕ} {n : ℕ} (old s : List ℕ) → HasPath key n
     → IsRead key path → key_of (values s) ≡ key → n ≤ length old
     → path ++ drop n old ≡ buffer_after (spelling_of (values s)) old
@@ -93,15 +100,15 @@ written_back {key} {path} {n} old s h read e room =
     ap₂ (λ p k. p ++ drop k old) (read_back key path s read e) long
     ∙ sym (buffer_after-fits (spelling_of (values s)) old (omega (arith, long)))
 
--- the empty key is that of the empty path
+-- if `key` is empty, it is the key of the empty path
 empty_values : (key : List ℕ) → key ≡ [] → key_of (values []) ≡ key
 empty_values key e = ap key_of values-nil ∙ key_of-nil ∙ sym e
 
--- no bytes are a key
+-- if `key` is empty, it is a key
 pub empty_key : (key : List ℕ) → key ≡ [] → IsKey key
 empty_key key e = ([], empty_values key e)
 
--- the path of the empty key has no bytes
+-- if `key` is empty, its path has no bytes
 pub empty_long : (key : List ℕ) (len : ℕ) → HasPath key len → key ≡ [] → len ≡ 0
 empty_long key len h e = spelled_long [] h (empty_values key e)
     ∙ ap length (ap spelling_of values-nil ∙ spelling_of-nil)

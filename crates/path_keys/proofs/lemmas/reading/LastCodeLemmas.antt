@@ -22,24 +22,26 @@ use Rattle.path_keys.proofs.lemmas.reading.FitLemmas.{AllFit-coded, values-spell
 use Rattle.path_keys.proofs.lemmas.values.OrderLemmas.{key_of-same}
 use Rattle.path_keys.proofs.lemmas.reading.ReadLemmas.{ReadsTo, reads_none, reads_one, reads_no_key}
 
--- these values are none, or the last of them has the last code
+-- the last of the components us has the last code that was read; if no code was read, us is empty
 abbrev pub LastIs : List ℕ → List Value → Option LastCode → Type 0
 LastIs key us None = us ≡ []
 LastIs key us (Some last) = EndsIn key us last.start (code_value last.code)
     × (last.start ≤ length key) × IsRaised last.code
 
--- `rest` is what is left of the key after the last code
+-- `rest` is the rest of the key after the codes that were read, and `last` is the last of these
+-- codes
 pub record WalksTo (key rest : List ℕ) (first : Bool) (last : Option LastCode) : Type 0 where
   pub len : ℕ
   pub reads : ReadsTo key rest first len
   pub last_is : LastIs key reads.us last
 
--- before the first code, all of the key is left
+-- before the first code is read, the rest is all of the key
 pub walks_none : (key : List ℕ) → WalksTo key key true None
 unfolding reads_none
 walks_none key = record { len = 0; reads = reads_none key; last_is = refl }
 
--- one more code is read
+-- if `rest` begins with the code of `next`, reading this code leads to `more`, the bytes of `rest`
+-- after it
 pub walks_one : {key rest more : List ℕ} {first : Bool} {last : Option LastCode} (next : LastCode)
     → WalksTo key rest first last → TakesCode first rest (code_value next.code)
     → IsRaised next.code → next.start ≡ length key - length rest
@@ -64,7 +66,8 @@ walks_one {key} {rest} {more} {first} {last} next h k raised at e =
       );
     }
 
--- if no code is left, the values that were read are those of each path with the key
+-- if `rest` begins with no code, the components that were read are those of each path s with the
+-- key
 walks_all : {key rest : List ℕ} {first : Bool} {last : Option LastCode}
     (h : WalksTo key rest first last) → HasNoCode first rest → (s : List ℕ)
     → key_of (values s) ≡ key → h.reads.us ≡ values s
@@ -76,7 +79,8 @@ walks_all {key} {rest} h none s e =
     (sym (append-nil (key_of h.reads.us)) ∙ ap (λ r. key_of h.reads.us ++ r) (sym empty)
     ∙ h.reads.whole ∙ sym e)
 
--- if no code is left, the last one is that of the last value of each path with the key
+-- if `rest` begins with no code, the last code that was read is that of the last component of each
+-- path with the key
 pub walks_some : {key rest : List ℕ} {first : Bool} (last : Option LastCode)
     → WalksTo key rest first last → HasNoCode first rest
     → IfSome last (λ last. (s : List ℕ) → key_of (values s) ≡ key
@@ -86,31 +90,31 @@ walks_some {key} (Some last) h none = λ s e.
     subst (λ vs. EndsIn key vs last.start (code_value last.code)) (walks_all h none s e)
     h.last_is.0
 
--- the last code begins within the key
+-- the last code that was read begins within the key
 pub walks_range : {key rest : List ℕ} {first : Bool} (last : Option LastCode)
     → WalksTo key rest first last → IfSome last (λ last. last.start ≤ length key)
 walks_range None h = tt
 walks_range (Some last) h = h.last_is.1
 
--- the last code has the raised bytes of a name
+-- if the last code that was read is the code of a name, it has the raised bytes of this name
 pub walks_raised : {key rest : List ℕ} {first : Bool} (last : Option LastCode)
     → WalksTo key rest first last → IfSome last (λ last. IsRaised last.code)
 walks_raised None h = tt
 walks_raised (Some last) h = h.last_is.2
 
--- if no code was read and none is left, each path with the key has no value
+-- if no code was read, and `rest` begins with no code, each path with the key has no component
 pub walks_empty : {key rest : List ℕ} {first : Bool} (last : Option LastCode)
     → WalksTo key rest first last → HasNoCode first rest → last ≡ None
     → (s : List ℕ) → key_of (values s) ≡ key → values s ≡ []
 walks_empty None h none is s e = sym (walks_all h none s e) ∙ h.last_is
 walks_empty (Some last) h none is s e = absurd (cc)
 
--- if no code is left but some bytes are, no path has the key
+-- if `rest` is not empty and begins with no code, no path has the key
 pub walks_no_key : {key rest : List ℕ} {first : Bool} (last : Option LastCode)
     → WalksTo key rest first last → HasNoCode first rest → 0 < length rest → IsKey key → ⊥
 walks_no_key last h none some is = reads_no_key h.reads none some is
 
--- if nothing is left, a path has the key: the canonical form of the components that were read
+-- if `rest` is empty, a path has the key: the canonical form of the components that were read
 pub walks_key : {key rest : List ℕ} {first : Bool} (last : Option LastCode)
     → WalksTo key rest first last → length rest ≡ 0 → IsKey key
 walks_key {key} {rest} last h empty = (
@@ -119,19 +123,20 @@ walks_key {key} {rest} last h empty = (
       ∙ ap (λ r. key_of h.reads.us ++ r) (sym (nil_from_length rest empty)) ∙ h.reads.whole,
 )
 
--- a key of no value has no parent and no name
+-- if s has no component, it has no parent, so there is no key of a parent
 pub no_parent : (s : List ℕ) → values s ≡ []
     → None ≡ option_map (λ parent. key_of (values parent)) (parent_of s)
 no_parent s e =
     ap (option_map (λ parent. key_of (values parent))) (parent_of-none s e)
 
--- nor has the key of a root
+-- if the last component of s is a root, it has no parent, so there is no key of a parent
 pub root_parent : (key s : List ℕ) (start : ℕ) → EndsIn key (values s) start RootDir
     → None ≡ option_map (λ parent. key_of (values parent)) (parent_of s)
 root_parent key s start h =
     ap (option_map (λ parent. key_of (values parent))) (parent_of-root s h.front h.is)
 
--- the key before the last code is that of the parent, unless the last value is a root
+-- if v, the last component of s, is no root, the bytes of the key before the code of v are the key
+-- of the parent of s
 pub front_parent : (key s : List ℕ) (start : ℕ) (v : Value) → (v ≡ RootDir → ⊥)
     → EndsIn key (values s) start v
     → Some (take start key) ≡ option_map (λ parent. key_of (values parent)) (parent_of s)
@@ -140,12 +145,13 @@ front_parent key s start v no_root h =
     ∙ ap (option_map (λ parent. key_of (values parent)))
     (parent_of-push s h.front v h.is refl no_root)
 
--- a path without components has no name
+-- if s has no component, it has no file name
 pub no_name : (s : List ℕ) → values s ≡ []
     → None ≡ option_map (λ name. map raised name) (file_name_of (values s))
 no_name s e = ap (option_map (λ name. map raised name)) (file_name_of-none s e)
 
--- the name of the last code is that of the path
+-- if `name` has the raised bytes of the name of v, the last component of s, or is `None` if v has
+-- no name, then `name` has the raised bytes of the file name of s, or is `None` if s has none
 pub last_name : (key s : List ℕ) (start : ℕ) (v : Value) (name : Option (Bor (List ℕ)))
     → EndsIn key (values s) start v → option_map (λ name. map lowered name.now) name ≡ name_of v
     → IfSome name (λ name. map raised (map lowered name.now) ≡ name.now)

@@ -19,17 +19,18 @@ use Rattle.path_keys.proofs.lemmas.values.LoweredLemmas.{lowered-NoSlash, raised
 use Rattle.path_keys.proofs.lemmas.values.LoweredLemmas.{NoZero-before}
 use Rattle.path_keys.proofs.lemmas.values.LoweredLemmas.{first_zero}
 
--- bytes that are not none differ from none
+-- if p has at least one byte, comparing it with the empty byte string finds a difference
 not_empty : (p : List ℕ) → 0 < length p → bytes_eq p [] ≡ false
 not_empty [] l = absurd (omega arith)
 not_empty (b ∷ p) l = refl
 
--- bytes that differ from none are not none
+-- if comparing p with the empty byte string finds a difference, p has at least one byte
 pub some_bytes : (p : List ℕ) → bytes_eq p [] ≡ false → 0 < length p
 some_bytes [] e = absurd (let d = e in cc)
 some_bytes (b ∷ p) e = omega arith
 
--- if bytes aren't those of p in a key, they don't read back as p
+-- if no byte of `bytes` is 0, and they aren't the raised bytes of p, then lowering them doesn't
+-- lead to p
 not_read : (bytes p : List ℕ) → NoZero bytes → bytes_eq bytes (map raised p) ≡ false
     → bytes_eq (map lowered bytes) p ≡ false
 not_read bytes p h other_bytes = by_test (bytes_eq (map lowered bytes) p)
@@ -39,7 +40,8 @@ not_read bytes p h other_bytes = by_test (bytes_eq (map lowered bytes) p)
     absurd (false≢true (sym other_bytes ∙ (bytes_eq-Decides bytes (map raised p)).1 e)))
     (λ other. other)
 
--- bytes up to a 0 are the code of a name, unless they are none, a dot's or two dots'
+-- if the first 0 of s is at index n, and the bytes before it are neither empty nor the raised bytes
+-- of `.` or `..`, s begins with the code of the name that these bytes represent
 pub takes_name : (s : List ℕ) (n : ℕ) → n ≡ position_or_len is_zero s → 0 < n → n < length s
     → bytes_eq (take n s) (slash ∷ []) ≡ false → bytes_eq (take n s) (slash ∷ slash ∷ []) ≡ false
     → TakesCode false s (Normal (map lowered (take n s)))
@@ -68,13 +70,15 @@ takes_name s n e some l no_dot no_up =
           ∙ ap₂ (λ c k. c ++ drop k s) (sym coded) (sym count);
     }
 
--- the first 0 of these bytes, at index n, follows the raised bytes of the name
+-- the first n bytes of s, at least one, are the raised bytes of the name, and at least one byte
+-- follows
 record FindsName (s name : List ℕ) (n : ℕ) : Type 0 where
   some : 0 < n
   in_range : n < length s
   is : take n s ≡ map raised name
 
--- where the code of a name begins these bytes, the first 0 follows the raised name
+-- if s begins with the code of a name, and its first 0 is at index n, the bytes before index n are
+-- the raised bytes of the name
 finds_name : (s name x : List ℕ) (n : ℕ) → n ≡ position_or_len is_zero s → IsName name
     → code (Normal name) ++ x ≡ s → FindsName s name n
 finds_name s name x n e h begins =
@@ -89,14 +93,15 @@ finds_name s name x n e h begins =
       is = ap (take n) (sym whole) ∙ take_at (map raised name) (0 ∷ x) n (sym at);
     }
 
--- no name's code begins these bytes if the first 0 is their first, or there is none
+-- if s begins with a 0 or has none, s doesn't begin with the code of a name
 pub no_name_first : (s : List ℕ) (n : ℕ) → n ≡ position_or_len is_zero s
     → (0 < n → n < length s → ⊥)
     → (name x : List ℕ) → IsName name → code (Normal name) ++ x ≡ s → ⊥
 no_name_first s n e none name x h begins =
     let found = finds_name s name x n e h begins in none found.some found.in_range
 
--- no name's code begins these bytes if the first 0 follows those of p, which is no name
+-- if the bytes of s before its first 0 are the raised bytes of p, which is no name, then s doesn't
+-- begin with the code of a name
 pub no_name_read : (s p : List ℕ) (n : ℕ) → n ≡ position_or_len is_zero s
     → bytes_eq (take n s) (map raised p) ≡ true → (IsName p → ⊥)
     → AllByRecursion (λ b. eqb b 47 ≡ false) p

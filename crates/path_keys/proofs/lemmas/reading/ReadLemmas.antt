@@ -13,12 +13,13 @@ use Rattle.path_keys.proofs.lemmas.values.OrderLemmas.{key_of-begins}
 use Rattle.path_keys.proofs.lemmas.reading.TextLemmas.{text_of-nil, text_of-cons, text_of-append}
 use Rattle.path_keys.proofs.lemmas.reading.TextLemmas.{length-slashed}
 
--- no component comes before
+-- true if no component was read before, so that the next one is the first
 abbrev pub starts : List Value → Bool
 starts [] = true
 starts (v ∷ vs) = false
 
--- components that may be all of a path, and one more that may follow them
+-- if us may be all components of a path, and v may come next, us and v may be all components of a
+-- path
 pub fit_more : (us : List Value) (v : Value) → AllFit true us → Fits (starts us) v
     → AllFit true (us ++ v ∷ [])
 fit_more [] v h k = (k, tt)
@@ -28,7 +29,7 @@ fit_more (u ∷ us) v h k = (h.0, behind us h.1)
     behind [] h = (k, tt)
     behind (u ∷ us) h = (h.0, behind us h.1)
 
--- the component that follows some components of a path may do so
+-- if us, w and ws may be all components of a path, w may come after us
 pub fit_next : (us : List Value) (w : Value) (ws : List Value) → AllFit true (us ++ w ∷ ws)
     → Fits (starts us) w
 fit_next [] w ws h = h.0
@@ -38,12 +39,12 @@ fit_next (u ∷ us) w ws h = behind us h.1
     behind [] h = h.0
     behind (u ∷ us) h = behind us h.1
 
--- a list with one more component is not empty
+-- after us and v, the next component is not the first
 pub starts-push : (us : List Value) (v : Value) → starts (us ++ v ∷ []) ≡ false
 starts-push [] v = refl
 starts-push (u ∷ us) v = refl
 
--- the code that bytes begin with is no longer than they are
+-- if s begins with the code of v, this code is not longer than s
 pub takes_within : {first : Bool} {s : List ℕ} {v : Value} → TakesCode first s v
     → length (code v) ≤ length s
 takes_within {first} {s} {v} h = omega (
@@ -53,8 +54,8 @@ takes_within {first} {s} {v} h = omega (
   length-drop (length (code v)) s,
 )
 
--- `rest` is what is left of the key after components that may be a path's, whose text has `len`
--- bytes
+-- `rest` is the rest of the key after the codes of some components, which may be all components of
+-- a path, and whose text has `len` bytes; `first` is true if no code was read
 pub record ReadsTo (key rest : List ℕ) (first : Bool) (len : ℕ) : Type 0 where
   pub us : List Value
   pub fit : AllFit true us
@@ -63,7 +64,7 @@ pub record ReadsTo (key rest : List ℕ) (first : Bool) (len : ℕ) : Type 0 whe
   pub len_is : len ≡ length (text_of us)
   pub small : len + 2 * length rest ≤ 2 * length key
 
--- before the first code, all of the key is left
+-- before the first code is read, the rest is all of the key
 unfoldable pub reads_none : (key : List ℕ) → ReadsTo key key true 0
 reads_none key = record {
   us = [];
@@ -74,7 +75,8 @@ reads_none key = record {
   small = omega arith;
 }
 
--- one more code is read
+-- if `rest` begins with the code of v, reading this code leads to `more`, the bytes of `rest` after
+-- it, and adds the text of v
 unfoldable pub reads_one : {key rest more : List ℕ} {first : Bool} {len n : ℕ} {v : Value}
     → ReadsTo key rest first len → TakesCode first rest v → more ≡ drop (length (code v)) rest
     → n ≡ len + length (slashed v) → ReadsTo key more false n
@@ -107,7 +109,7 @@ reads_one {key} {rest} {more} {first} {len} {n} {v} h k e count = record {
   );
 }
 
--- if something is left that begins with no code, no path has the key
+-- if `rest` is not empty and begins with no code, no path has the key
 pub reads_no_key : {key rest : List ℕ} {first : Bool} {len : ℕ} → ReadsTo key rest first len
     → HasNoCode first rest → 0 < length rest → IsKey key → ⊥
 reads_no_key {key} {rest} {first} {len} h none some is = by begins.0 begins.1

@@ -1,4 +1,5 @@
--- The bytes of components before others are their canonical form and a slash, except a lone root.
+-- The text of components: their bytes, each with a slash after it, except that the root is one
+-- slash. It is their canonical form and a slash, except for a lone root and for no components.
 use Rattle.std.proofs.Common.{◌≡◌, ◌<◌, ◌≤◌, ◌-◌, ◌+◌, ◌*◌, ℕ}
 use Rattle.std.proofs.Common.{false, true, List, [], ◌∷◌, ◌++◌}
 use Rattle.std.proofs.Common.{length, take, map, refl, sym, ap, ◌∙◌, arith, append_assoc}
@@ -14,22 +15,22 @@ use Rattle.path_keys.specs.Codes.{slashed, text_of, Fits, AllFit}
 use Rattle.path_keys.proofs.lemmas.values.KeyLemmas.{key_of-nil, key_of-cons}
 use Rattle.path_keys.proofs.lemmas.reading.NameLemmas.{some_bytes}
 
--- no components have no text
+-- the text of no components is empty
 pub text_of-nil : text_of [] ≡ []
 unfolding text_of
 text_of-nil = refl
 
--- the text of one component and more
+-- the text of v and vs is the text of v followed by the text of vs
 pub text_of-cons : (v : Value) (vs : List Value) → text_of (v ∷ vs) ≡ slashed v ++ text_of vs
 unfolding text_of
 text_of-cons v vs = refl
 
--- the text of components and more
+-- the text of vs and ws together is the text of vs followed by the text of ws
 pub text_of-append : (vs ws : List Value) → text_of (vs ++ ws) ≡ text_of vs ++ text_of ws
 unfolding text_of
 text_of-append vs ws = flat_map-append slashed vs ws
 
--- a value has at most one byte more in a path before others than in a key
+-- the text of v has at most one byte more than the code of v
 pub length-slashed : (v : Value) → length (slashed v) ≤ length (code v) + 1
 length-slashed RootDir = omega arith
 length-slashed CurDir = omega arith
@@ -41,21 +42,22 @@ length-slashed (Normal name) = omega (
   length-map name raised,
 )
 
--- the text of a component other than the root is its bytes and a slash
+-- if v is not the root, its text is its bytes and a slash
 slashed-inner : (v : Value) → (v ≡ RootDir → ⊥) → slashed v ≡ value_bytes v ++ slash ∷ []
 slashed-inner RootDir h = absurd (h refl)
 slashed-inner CurDir h = refl
 slashed-inner ParentDir h = refl
 slashed-inner (Normal name) h = refl
 
--- a component that may follow others is no root
+-- if v may follow other components, it is not the root
 no_root : (v : Value) → Fits false v → v ≡ RootDir → ⊥
 no_root RootDir h e = cc
 no_root CurDir h e = cc
 no_root ParentDir h e = cc
 no_root (Normal name) h e = cc
 
--- the text of components without a root: their bytes with slashes between and after them
+-- if v is not the root, and vs may follow other components, the text of v and vs is their bytes
+-- joined by slashes, and a slash at the end
 pub text_of-slashed : (v : Value) (vs : List Value) → (v ≡ RootDir → ⊥) → AllFit false vs
     → text_of (v ∷ vs) ≡ slashed_bytes (v ∷ vs) ++ slash ∷ []
 text_of-slashed v [] n h =
@@ -68,19 +70,20 @@ text_of-slashed v (w ∷ vs) n h =
     ∙ append_assoc (value_bytes v) (slash ∷ []) (more ++ slash ∷ [])
     ∙ sym (append_assoc (value_bytes v) (slash ∷ more) (slash ∷ []))
 
--- the text is the spelling; or it is a slash longer, and the spelling isn't empty
+-- `text` has at most one byte and is `spelled`, or it is `spelled`, which is not empty, and a slash
 pub data IsText (text spelled : List ℕ) : Type 0 where
   lone : length text ≤ 1 → text ≡ spelled → IsText text spelled
   longer : 0 < length spelled → text ≡ spelled ++ slash ∷ [] → IsText text spelled
 
--- values have a byte when they are spelled with slashes between, if the first has one
+-- if v has at least one byte, v and vs joined by slashes have at least one byte
 spelled_some : (v : Value) (vs : List Value) → 0 < length (value_bytes v)
     → 0 < length (slashed_bytes (v ∷ vs))
 spelled_some v [] l = l
 spelled_some v (w ∷ vs) l =
     omega (arith, length-append (value_bytes v) (slash ∷ slashed_bytes (w ∷ vs)))
 
--- the text of values of which the first is no root is a slash longer than their spelling
+-- if v is not the root and has a byte, and vs may follow other components, the text of v and vs is
+-- their canonical form and a slash
 text_longer : (v : Value) (vs : List Value) → (v ≡ RootDir → ⊥) → 0 < length (value_bytes v)
     → AllFit false vs → IsText (text_of (v ∷ vs)) (spelling_of (v ∷ vs))
 text_longer v vs n l h =
@@ -88,14 +91,15 @@ text_longer v vs n l h =
     longer (omega (arith, spelled_some v vs l, ap length e))
     (text_of-slashed v vs n h ∙ ap (λ s. s ++ slash ∷ []) (sym e))
 
--- a component that may follow others has a byte
+-- if v may follow other components, it has at least one byte
 value_some : (v : Value) → Fits false v → 0 < length (value_bytes v)
 value_some RootDir h = absurd (cc)
 value_some CurDir h = absurd (cc)
 value_some ParentDir h = omega arith
 value_some (Normal name) h = some_bytes name h.some
 
--- the text of a root, and of components after it
+-- if vs may follow other components, the text of the root and vs is their canonical form, with a
+-- slash after it if vs is not empty
 text_rooted : (vs : List Value) → AllFit false vs
     → IsText (text_of (RootDir ∷ vs)) (spelling_of (RootDir ∷ vs))
 text_rooted [] h =
@@ -109,7 +113,8 @@ text_rooted (v ∷ vs) h =
     ∙ ap (λ t. slash ∷ t) (text_of-slashed v vs (no_root v h.0) h.1)
     ∙ ap (λ s. s ++ slash ∷ []) (sym e))
 
--- the text of components is their canonical form, or one slash longer
+-- if vs may be all components of a path, their text is their canonical form, with a slash after it
+-- unless there is no component or only the root
 pub text_is : (vs : List Value) → AllFit true vs → IsText (text_of vs) (spelling_of vs)
 text_is [] h = lone (omega (arith, ap length text_of-nil)) (text_of-nil ∙ sym spelling_of-nil)
 text_is (RootDir ∷ vs) h = text_rooted vs h.1
@@ -118,7 +123,8 @@ text_is (ParentDir ∷ vs) h = text_longer ParentDir vs (λ e. cc) (omega arith)
 text_is (Normal name ∷ vs) h =
     text_longer (Normal name) vs (λ e. cc) (value_some (Normal name) h.0) h.1
 
--- what is left of the text without its last byte, and when that is taken
+-- `spelled` is the text without its last byte if the text has more than one byte, and otherwise the
+-- text
 trimmed_text : {text spelled : List ℕ} → IsText text spelled
     → (1 < length text → take (length text - 1) text ≡ spelled)
     × (length text ≤ 1 → text ≡ spelled)
@@ -131,7 +137,8 @@ trimmed_text {text} {spelled} (longer l e) =
       λ few. absurd (omega (arith, count)),
     )
 
--- the text without a last slash, unless it is a lone root, is the spelling
+-- if vs may be all components of a path, their canonical form is their text without its last byte
+-- if the text has more than one byte, and otherwise their text
 pub text_of-spelled : (vs : List Value) → AllFit true vs → (text : List ℕ) → text ≡ text_of vs
     → (1 < length text → take (length text - 1) text ≡ spelling_of vs)
     × (length text ≤ 1 → text ≡ spelling_of vs)

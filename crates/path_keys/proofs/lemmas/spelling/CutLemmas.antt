@@ -1,4 +1,4 @@
--- A path written run by run, where there is no room for a last slash.
+-- A path written run by run to a buffer in which its last slash doesn't fit.
 use Rattle.std.proofs.Common.{◌≡◌, ◌≤◌, ◌+◌, ◌-◌, ℕ, List, [], ◌∷◌, ◌++◌}
 use Rattle.std.proofs.Common.{length, take, drop, refl, sym, ap, ap₂, ◌∙◌, arith, subst, ◌<◌}
 use Rattle.std.proofs.Common.{length-append, length-take-le, take_all, append_assoc, append-nil}
@@ -26,7 +26,9 @@ use Rattle.path_keys.proofs.lemmas.spelling.SpellLemmas.{spells_one, spells_all}
 use Rattle.path_keys.proofs.lemmas.spelling.SpellLemmas.{spells_long}
 use Rattle.path_keys.proofs.lemmas.reading.TextLemmas.{IsText, lone, longer, text_is}
 
--- bytes that are put in a buffer of which a beginning is kept are put in that, as far as they go
+-- if `at + m` is at most the length of `old`, writing `bytes` at index `at` and then keeping the
+-- first `at + m` bytes is the same as keeping these first and then writing only the first m of
+-- `bytes`
 overlay-take : (at m : ℕ) (bytes old : List ℕ) → at + m ≤ length old
     → take (at + m) (overlay at bytes old) ≡ overlay at (take m bytes) (take (at + m) old)
 overlay-take at m bytes old l =
@@ -58,7 +60,8 @@ overlay-take at m bytes old l =
     (take_all m bytes few)))
     (cases_lt m (length bytes))
 
--- bytes put first in a buffer of which a beginning is kept are put first in that, as far as they go
+-- if m is at most the length of `old`, writing `bytes` at the beginning and then keeping the first
+-- m bytes is the same as keeping these first and then writing only the first m of `bytes`
 cut_first : (m : ℕ) (bytes old : List ℕ) → m ≤ length old
     → take m (overlay 0 bytes old) ≡ overlay 0 (take m bytes) (take m old)
 cut_first m bytes old l =
@@ -67,8 +70,9 @@ cut_first m bytes old l =
     ∙ overlay-take 0 m bytes old (omega arith)
     ∙ ap (λ n. overlay 0 (take m bytes) (take n old)) whole
 
--- the text of some values of the key is written to a buffer that has room for all of it, and of
--- which the beginning is `out`
+-- `out` is the beginning of a buffer in which all text of the key's components fits, and in which
+-- the text of the components before `rest` is written; that buffer is at most one byte longer than
+-- `out`
 pub record SpellsCut (key rest old : List ℕ) (at : ℕ) (out : List ℕ) : Type 0 where
   pub wide : List ℕ
   pub wide_out : List ℕ
@@ -77,7 +81,8 @@ pub record SpellsCut (key rest old : List ℕ) (at : ℕ) (out : List ℕ) : Typ
   pub enough : length old ≤ length wide
   pub cut : out ≡ take (length old) wide_out
 
--- the text of the lead is written, as far as there is room
+-- if the path of the key is as long as `old`, and the key begins with `lead`, writing the text of
+-- `lead`, as far as it fits, leaves the text of the rest to be written
 pub cut_lead : {key rest old out : List ℕ} {lead : Lead} {at : ℕ} → HasPath key (length old)
     → BeginsLead key rest lead → out ≡ overlay 0 (take (length old) (lead_text lead)) old
     → at ≡ length (lead_text lead) → SpellsCut key rest old at out
@@ -123,7 +128,7 @@ cut_lead {key} {rest} {old} {out} {lead} {at} h k is_put ends =
         ))) (omega (arith, long)) (omega (arith, long))
         (sym (take_at old (0 ∷ []) (length old) refl))
 
--- the text of what is left of the key has at most a byte more than there is room
+-- the text of the components in `rest` has at most one byte more than the buffer has from `at` on
 pub cut_leaves : {key rest old out : List ℕ} {at : ℕ}
     → SpellsCut key rest old at out
     → (at ≤ length old + 1) × LeavesText rest (length old + 1 - at)
@@ -148,18 +153,19 @@ cut_leaves {key} {rest} {old} {out} {at} h =
       },
     )
 
--- there is room for the text of the next run, except a last slash
+-- if `rest` begins with `run`, the text of `run` ends at most one byte after the end of the buffer
 pub cut_room : {key rest old out : List ℕ} {at : ℕ} {run : Run}
     → SpellsCut key rest old at out → TakesRun rest run
     → at + length (run_text run) ≤ length old + 1
 cut_room h k = omega (arith, h.few, spells_room h.spells k)
 
--- a run has a byte in a path
+-- the text of a run has at least one byte
 text_some : (run : Run) → 0 < length (run_text run)
 text_some run_variants.ParentDir = omega arith
 text_some (Names bytes) = omega (arith, length-append (map decoded bytes.now) (slash ∷ []))
 
--- the text of one more run is written, as far as there is room
+-- if `rest` begins with `run`, writing the text of `run` at index `at`, as far as it fits, leaves
+-- the text of the rest after `run` to be written
 pub cut_one : {key rest old out more new : List ℕ} {at end : ℕ} {run : Run}
     → SpellsCut key rest old at out → TakesRun rest run
     → more ≡ drop (length (run_code run)) rest
@@ -182,7 +188,8 @@ cut_one {key} {rest} {old} {out} {more} {new} {at} {end} {run} h k e is_put ends
           ∙ ap (λ k. take k (overlay at (run_text run) h.wide_out)) whole;
     }
 
--- if no run is left, the path is written
+-- if no run is left, and the path of the key is as long as the buffer, the buffer has the path of
+-- the key
 pub cut_all : {key rest old out : List ℕ} {at : ℕ}
     → SpellsCut key rest old at out → HoldsNone rest → HasPath key (length old)
     → IsRead key out

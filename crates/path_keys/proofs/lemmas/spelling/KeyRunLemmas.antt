@@ -1,4 +1,4 @@
--- Names in a key up to a stop, and what they are in a path.
+-- Names in a key up to the first end mark after which no name begins, and their bytes in a path.
 use Rattle.std.proofs.Common.{◌≡◌, ◌<◌, ◌+◌, ℕ, Bool, false, eqb}
 use Rattle.std.proofs.Common.{List, [], ◌∷◌}
 use Rattle.std.proofs.Common.{◌++◌, length, take, drop, map, get_or, refl, sym, ap, ap₂, ◌∙◌}
@@ -31,7 +31,7 @@ use Rattle.path_keys.proofs.lemmas.writing.StretchLemmas.{some_piece}
 use Rattle.path_keys.proofs.lemmas.writing.StretchLemmas.{stretch_key}
 use Rattle.path_keys.proofs.lemmas.reading.TextLemmas.{text_of-slashed}
 
--- a byte of a key is read back to itself
+-- decoding a byte of a key and coding the result leads back to the byte
 coded-decoded : (b : ℕ) → coded (decoded b) ≡ b
 coded-decoded b = grind (arith, nat_tests)
 
@@ -43,12 +43,13 @@ decoded-slash b = grind (arith, nat_tests)
 decoded-dot : (b : ℕ) → eqb (decoded b) 46 ≡ eqb b 47
 decoded-dot b = grind (arith, nat_tests)
 
--- bytes of a key are read back to themselves
+-- decoding bytes of a key and coding the results leads back to the bytes
 map-coded-decoded : (t : List ℕ) → map coded (map decoded t) ≡ t
 map-coded-decoded [] = refl
 map-coded-decoded (b ∷ t) = ap₂ (λ c s. c ∷ s) (coded-decoded b) (map-coded-decoded t)
 
--- the byte at i of the path
+-- the byte at index k of the decoded bytes t is the decoded byte at index k of t; past the end of
+-- t, a slash counts as the decoded 0
 decoded_at : (t : List ℕ) (k : ℕ) → get_or (map decoded t) k 47 ≡ decoded (get_or t k 0)
 decoded_at t k = ⊎_elim
     (λ inside. get_or-map decoded t k 0 47 inside)
@@ -57,7 +58,7 @@ decoded_at t k = ⊎_elim
     ∙ sym (ap decoded (get_or_past t k 0 past)))
     (cases_lt k (length t))
 
--- names begin in the path where they do in the key
+-- no name begins at index i of the decoded bytes t if and only if no name begins at index i of t
 no_name_starts_at-decoded : (t : List ℕ) (i : ℕ)
     → no_name_starts_at 47 46 (map decoded t) i ≡ no_name_starts_at 0 47 t i
 no_name_starts_at-decoded t i =
@@ -70,43 +71,45 @@ no_name_starts_at-decoded t i =
         (ap₂ (λ x y. x && y) (decoded-dot a) (ap₂ (λ x y. x || y) (decoded-slash b)
         (ap₂ (λ x y. x && y) (decoded-dot b) (decoded-slash c))))
 
--- a stop is in the path where it is in the key
+-- if i is less than the length of t, a run of names ends at index i of the decoded bytes t if and
+-- only if one ends at index i of t
 ends_name_run-decoded : (t : List ℕ) (i : ℕ) → i < length t
     → ends_name_run (map decoded t) i ≡ ends_name_run_of 0 47 t i
 ends_name_run-decoded t i l =
     ap₂ (λ x y. x && y) (ap (λ x. eqb x 47) (get_or-map decoded t i 0 0 l)
     ∙ decoded-slash (get_or t i 0)) (no_name_starts_at-decoded t (i + 1))
 
--- the byte of a name is read back from a key
+-- if b is no slash, raising b and decoding the result leads back to b
 decoded-raised : (b : ℕ) → is_slash b ≡ false → decoded (raised b) ≡ b
 decoded-raised b h = grind (arith, nat_tests)
 
--- the bytes of a name are read back from a key
+-- if p has no slash, raising all bytes of p and decoding the results leads back to p
 pub map-decoded-raised : (p : List ℕ) → AllByRecursion (λ b. is_slash b ≡ false) p
     → map decoded (map raised p) ≡ p
 map-decoded-raised [] h = refl
 map-decoded-raised (b ∷ p) h =
     ap₂ (λ c s. c ∷ s) (decoded-raised b h.0) (map-decoded-raised p h.1)
 
--- names may follow others, or be first
+-- if ps are names, they may be the components of a path, or follow other components
 pub names_fit : (first : Bool) (ps : List (List ℕ)) → AllByRecursion IsName ps
     → AllFit first (map Normal ps)
 names_fit first [] h = tt
 names_fit first (p ∷ ps) h = (h.0, names_fit false ps h.1)
 
--- the bytes of names as components are the names
+-- the components that are the names ps have the bytes ps
 value_bytes-names : (ps : List (List ℕ)) → map value_bytes (map Normal ps) ≡ ps
 value_bytes-names [] = refl
 value_bytes-names (p ∷ ps) = ap (λ qs. p ∷ qs) (value_bytes-names ps)
 
--- the bytes of names before others
+-- if p and ps are names, their text is p and ps joined by slashes, and a slash at the end
 text_of-names : (p : List ℕ) (ps : List (List ℕ)) → AllByRecursion IsName (p ∷ ps)
     → text_of (map Normal (p ∷ ps)) ≡ join_with_byte slash (p ∷ ps) ++ slash ∷ []
 text_of-names p ps h =
     text_of-slashed (Normal p) (map Normal ps) (λ e. cc) (names_fit false ps h.1)
     ∙ ap (λ qs. join_with_byte slash qs ++ slash ∷ []) (value_bytes-names (p ∷ ps))
 
--- bytes at which a name begins hold names up to the first stop
+-- if a name begins at index 0 of s, and the run of names ends at index n within s, s begins with
+-- the run of the names in its first n bytes
 pub names_run : (names : Bor (List ℕ)) (s : List ℕ) (n : ℕ) → no_name_starts_at 0 47 s 0 ≡ false
     → IsNameRunEnd 0 47 s n → n < length s → names.now ≡ take n s → TakesRun s (Names names)
 names_run names s n e h l is =

@@ -1,4 +1,4 @@
--- Names and stops in the bytes of a key.
+-- Where names begin in the bytes of a key, and where runs of names end.
 use Rattle.std.proofs.Common.{◌≡◌, ◌<◌, ◌+◌, ℕ, Bool, true, false, eqb, List, [], ◌∷◌}
 use Rattle.std.proofs.Common.{◌++◌, length, map, get_or, refl, sym, ap, ◌∙◌}
 use Rattle.std.proofs.Common.{subst, arith, append_assoc, length-append, ◌&&◌, ◌||◌}
@@ -15,25 +15,26 @@ use Rattle.path_keys.proofs.lemmas.values.KeyLemmas.{key_of-nil, key_of-cons}
 use Rattle.path_keys.proofs.lemmas.values.LoweredLemmas.{raised-no_zero}
 use Rattle.unix_path.proofs.lemmas.name_run_ends.NameRunEndLemmas.{ends_name_run-append}
 
--- an end mark before a mark or nothing is a stop
+-- if r is empty or begins with a 0, a run of names ends at an end mark before r
 mark_stops : (r : List ℕ) → get_or r 0 0 ≡ 0 → ends_name_run_of 0 47 (0 ∷ r) 0 ≡ true
 mark_stops [] e = refl
 mark_stops (x ∷ r) e =
     ap (λ y. eqb y 0 || (eqb y 47 && (eqb (get_or r 0 0) 0 || (eqb (get_or r 0 0) 47
     && eqb (get_or r 1 0) 0)))) e
 
--- the key of values of which the first is a name
+-- the key of the name q and vs is the raised bytes of q, an end mark, and the key of vs
 named_key : (q : List ℕ) (vs : List Value)
     → key_of (Normal q ∷ vs) ≡ map raised q ++ (0 ∷ key_of vs)
 named_key q vs = key_of-cons (Normal q) vs ∙ append_assoc (map raised q) (0 ∷ []) (key_of vs)
 
--- an index in the bytes at which a stop is
+-- a run of names ends at some index within s
 record NameRunEnds (s : List ℕ) : Type 0 where
   at : ℕ
   in_range : at < length s
   is : ends_name_run_of 0 47 s at ≡ true
 
--- after a name, an end mark before a mark or nothing is a stop
+-- if the key of vs is empty or begins with a 0, a run of names ends within the key of the name q
+-- and vs
 stops_here : (q : List ℕ) (vs : List Value) → get_or (key_of vs) 0 0 ≡ 0
     → NameRunEnds (key_of (Normal q ∷ vs))
 stops_here q vs e = subst NameRunEnds (sym (named_key q vs)) (record {
@@ -42,7 +43,7 @@ stops_here q vs e = subst NameRunEnds (sym (named_key q vs)) (record {
   is = ends_name_run-append 0 47 (map raised q) (0 ∷ key_of vs) 0 ∙ mark_stops (key_of vs) e;
 })
 
--- the key of values of which the first is a name has a stop
+-- if vs may follow other components, a run of names ends within the key of the name q and vs
 key_stops : (q : List ℕ) (vs : List Value) → AllFit false vs → NameRunEnds (key_of (Normal q ∷ vs))
 key_stops q [] h = stops_here q [] (ap (λ k. get_or k 0 0) key_of-nil)
 key_stops q (RootDir ∷ vs) h = absurd (let d = h.0 in cc)
@@ -59,11 +60,11 @@ key_stops q (Normal r ∷ vs) h =
       is = ends_name_run-append 0 47 front rest more.at ∙ more.is;
     })
 
--- a byte that is a raised dot was a dot
+-- if b is no slash, the byte in a key for b is 47 if and only if b is a dot
 raised-dot : (b : ℕ) → is_slash b ≡ false → eqb (raised b) 47 ≡ eqb b 46
 raised-dot b h = grind (arith, nat_tests)
 
--- where the raised bytes of a name are, a name begins
+-- if q is a name, a name begins at index 0 of the raised bytes of q, followed by an end mark and r
 name_begins : (q r : List ℕ) → IsName q → no_name_starts_at 0 47 (map raised q ++ (0 ∷ r)) 0 ≡ false
 name_begins [] r h = absurd (let e = h.some in let k : true ≡ false = e in cc)
 name_begins (x ∷ []) r h =
@@ -92,7 +93,8 @@ name_begins (x ∷ y ∷ z ∷ q) r h =
     by a b c d e f g h = rw (f, g, h) (by_test b (λ i. rw i (by_test d (λ j. rw j refl)
         (λ j. rw j refl))) (λ i. rw i refl))
 
--- bytes at which a name begins and that have no stop are no key
+-- if a name begins at index 0 of s, but no run of names ends within s, then s is not the key of one
+-- or more components that may follow others
 pub no_stop_none : (s : List ℕ) → no_name_starts_at 0 47 s 0 ≡ false
     → IsNameRunEnd 0 47 s (length s)
     → HoldsNone s
@@ -104,7 +106,8 @@ no_stop_none s e h (Normal q) vs fit is =
     let name_run_ends = subst NameRunEnds is (key_stops q vs fit.1) in
     false≢true (sym (h.none_before name_run_ends.at name_run_ends.in_range) ∙ name_run_ends.is)
 
--- bytes at which neither a name begins nor a `..` are no key
+-- if s begins neither with a name nor with the code of `..`, then s is not the key of one or more
+-- components that may follow others
 pub no_name_none : (s : List ℕ) → no_name_starts_at 0 47 s 0 ≡ true
     → (IsPrefixOf (code ParentDir) s → ⊥) → HoldsNone s
 no_name_none s e up RootDir vs fit is = true≢false (sym fit.0)

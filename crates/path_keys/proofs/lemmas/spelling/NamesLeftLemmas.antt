@@ -1,5 +1,5 @@
--- The key of components without a `..` is as long as their text, which is the key with each byte
--- changed.
+-- The key of names is as long as their text, which is the key with each byte decoded. Each `..`
+-- makes the text longer than the key.
 use Rattle.std.proofs.Common.{◌≡◌, ◌<◌, ◌≤◌, ◌-◌, ℕ, false, List, [], ◌∷◌}
 use Rattle.std.proofs.Common.{◌++◌, length, take, map, refl, sym, ap, ap₂, ◌∙◌}
 use Rattle.std.proofs.Common.{subst, arith, append_assoc, append-nil, length-append}
@@ -17,7 +17,7 @@ use Rattle.path_keys.proofs.lemmas.values.KeyLemmas.{key_of-nil, key_of-cons}
 use Rattle.path_keys.proofs.lemmas.spelling.KeyRunLemmas.{map-decoded-raised, names_fit}
 use Rattle.path_keys.proofs.lemmas.reading.TextLemmas.{text_of-nil, text_of-cons}
 
--- a component after others has no fewer bytes in a path than in a key
+-- if v is not the root, its code is at most as long as its text
 code_shorter : (v : Value) → (v ≡ RootDir → ⊥) → length (code v) ≤ length (slashed v)
 code_shorter RootDir h = absurd (h refl)
 code_shorter CurDir h = omega arith
@@ -29,7 +29,7 @@ code_shorter (Normal name) h = omega (
   length-map name raised,
 )
 
--- components after others have no fewer bytes in a path than in a key
+-- if ws may follow other components, their key is at most as long as their text
 key_shorter : (ws : List Value) → AllFit false ws → length (key_of ws) ≤ length (text_of ws)
 key_shorter [] h = omega (arith, ap length key_of-nil)
 key_shorter (w ∷ ws) h = omega (
@@ -42,13 +42,14 @@ key_shorter (w ∷ ws) h = omega (
   length-append (slashed w) (text_of ws),
 )
 
--- components that are these names
+-- all components of ws are names
 record AreNames (ws : List Value) : Type 0 where
   names : List (List ℕ)
   is : ws ≡ map Normal names
   hold : AllByRecursion IsName names
 
--- components after others whose text is no longer than their key are names
+-- if ws may follow other components, and their text is at most as long as their key, all components
+-- of ws are names
 are_names : (ws : List Value) → AllFit false ws → length (text_of ws) ≤ length (key_of ws)
     → AreNames ws
 are_names [] h l = record { names = []; is = refl; hold = tt }
@@ -77,7 +78,7 @@ are_names (Normal name ∷ ws) h l =
       hold = (h.0, more.hold);
     }
 
--- the text of names is their key with each byte changed
+-- if ps are names, their text is their key with each byte decoded
 text_of-key : (ps : List (List ℕ)) → AllByRecursion IsName ps
     → text_of (map Normal ps) ≡ map decoded (key_of (map Normal ps))
 text_of-key [] h = text_of-nil ∙ ap (map decoded) (sym key_of-nil)
@@ -90,12 +91,12 @@ text_of-key (p ∷ ps) h =
     ∙ map-append decoded (map raised p ++ 0 ∷ []) (key_of rest)
     ∙ ap (λ c. c ++ map decoded (key_of rest)) (map-append decoded (map raised p) (0 ∷ [])))
 
--- the key of names ends in an end mark
+-- the last byte of the key is an end mark
 record EndsInMark (key : List ℕ) : Type 0 where
   front : List ℕ
   is : key ≡ front ++ 0 ∷ []
 
--- the key of a name and more names ends in an end mark
+-- the last byte in the key of the name p and the names ps is an end mark
 ends_in_mark : (p : List ℕ) (ps : List (List ℕ)) → EndsInMark (key_of (map Normal (p ∷ ps)))
 ends_in_mark p [] = record {
   front = map raised p;
@@ -111,7 +112,8 @@ ends_in_mark p (q ∷ ps) =
           ∙ sym (append_assoc (map raised p ++ 0 ∷ []) more.front (0 ∷ []));
     }
 
--- names whose key is all that is left are a run
+-- if s is not empty, and is the key of names, s begins with the run of these names, whose bytes are
+-- all bytes of s except the last end mark
 all_names : (bytes : Bor (List ℕ)) (s : List ℕ) (ws : List Value) → AreNames ws
     → s ≡ key_of ws → 0 < length s → bytes.now ≡ take (length s - 1) s → TakesRun s (Names bytes)
 all_names bytes s ws h e l is = by h.names h.is h.hold

@@ -9,7 +9,7 @@ use Rattle.path_keys.specs.declared.runs.Run.TheVariants as run_variants
 use Rattle.path_keys.proofs.lemmas.values.KeyLemmas.{key_of-nil, key_of-cons}
 use Rattle.path_keys.proofs.lemmas.reading.TextLemmas.{text_of-nil, text_of-cons}
 
--- bytes that begin with the code of a `..` begin with that run
+-- if s begins with the code of a `..`, s begins with the run that is this `..`
 pub parent_run : (s : List ℕ) → IsPrefixOf (code ParentDir) s → TakesRun s run_variants.ParentDir
 parent_run s begins = record {
   vs = ParentDir ∷ [];

@@ -21,7 +21,8 @@ use Rattle.path_keys.proofs.lemmas.reading.ReadLemmas.{starts}
 use Rattle.path_keys.proofs.lemmas.reading.TextLemmas.{text_of-nil, text_of-cons, text_of-append}
 use Rattle.path_keys.proofs.lemmas.reading.TextLemmas.{length-slashed}
 
--- components that may be all of a path, and more that may follow others
+-- if us may be all components of a path, and vs may follow other components, us and vs together may
+-- be all components of a path
 pub fit_all : (us vs : List Value) → AllFit true us → AllFit false vs → AllFit true (us ++ vs)
 fit_all [] vs h k = AllFit-first vs k
 fit_all (u ∷ us) vs h k = (h.0, behind us h.1)
@@ -30,7 +31,7 @@ fit_all (u ∷ us) vs h k = (h.0, behind us h.1)
     behind [] h = k
     behind (u ∷ us) h = (h.0, behind us h.1)
 
--- the components after some components of a path may follow them
+-- if us and ws together may be all components of a path, ws may come after us
 pub fit_rest : (us ws : List Value) → AllFit true (us ++ ws) → AllFit (starts us) ws
 fit_rest [] ws h = h
 fit_rest (u ∷ us) ws h = behind us h.1
@@ -39,13 +40,13 @@ fit_rest (u ∷ us) ws h = behind us h.1
     behind [] h = h
     behind (u ∷ us) h = behind us h.1
 
--- a list with more components is not empty
+-- if vs is not empty, the next component after us and vs is not the first
 pub starts-more : (us vs : List Value) → 0 < length vs → starts (us ++ vs) ≡ false
 starts-more [] [] l = absurd (omega arith)
 starts-more [] (v ∷ vs) l = refl
 starts-more (u ∷ us) vs l = refl
 
--- a run has a byte, and at most twice as many in a path
+-- the code of a run has at least one byte, and its text has at most twice as many bytes as its code
 pub run_small : (run : Run)
     → (0 < length (run_code run)) × (length (run_text run) ≤ 2 * length (run_code run))
 run_small run_variants.ParentDir = (omega arith, omega arith)
@@ -54,7 +55,7 @@ run_small (Names bytes) =
     let text = length-append (map decoded bytes.now) (slash ∷ []) in
     (omega (arith, code), omega (arith, code, text, length-map bytes.now decoded))
 
--- a run has at most a byte more in a key than in a path
+-- the code of a run has at most one byte more than its text
 pub code_small : (run : Run) → length (run_code run) ≤ length (run_text run) + 1
 code_small run_variants.ParentDir = omega arith
 code_small (Names bytes) = omega (
@@ -64,7 +65,7 @@ code_small (Names bytes) = omega (
   length-map bytes.now decoded,
 )
 
--- the run that bytes begin with is no longer than they are
+-- if s begins with `run`, the code of `run` is not longer than s
 pub run_within : {s : List ℕ} {run : Run} → TakesRun s run
     → length (run_code run) ≤ length s
 run_within {s} {run} h = omega (
@@ -74,7 +75,7 @@ run_within {s} {run} h = omega (
   length-drop (length (run_code run)) s,
 )
 
--- values have at most twice as many bytes in a path as in a key
+-- the text of vs has at most twice as many bytes as the key of vs
 text_short : (vs : List Value) → length (text_of vs) ≤ 2 * length (key_of vs)
 text_short [] = omega (arith, ap length text_of-nil)
 text_short (v ∷ vs) = omega (
@@ -88,8 +89,9 @@ text_short (v ∷ vs) = omega (
   length-append (code v) (key_of vs),
 )
 
--- `rest` is what is left of the key after components that may be a path's, whose text has `len`
--- bytes; in a path's key it is the key of components that may follow others
+-- `rest` is the rest of the key after the codes of some components, which may be all components of
+-- a path, and whose text has `len` bytes; if `key` is a path's key, `rest` is the key of components
+-- that may follow others
 pub record ReadsRuns (key rest : List ℕ) (len : ℕ) : Type 0 where
   pub us : List Value
   pub fit : AllFit true us
@@ -98,7 +100,8 @@ pub record ReadsRuns (key rest : List ℕ) (len : ℕ) : Type 0 where
   pub len_is : len ≡ length (text_of us)
   pub small : len + 2 * length rest ≤ 2 * length key
 
--- the lead is read
+-- if the key begins with `lead`, reading `lead` leads to `rest`, the bytes of the key after it, and
+-- adds the text of `lead`
 pub reads_lead : {key rest : List ℕ} {lead : Lead} {len : ℕ} → BeginsLead key rest lead
     → len ≡ length (lead_text lead) → ReadsRuns key rest len
 reads_lead {key} {rest} {lead} {len} h count = record {
@@ -117,7 +120,8 @@ reads_lead {key} {rest} {lead} {len} h count = record {
   );
 }
 
--- one more run is read
+-- if `rest` begins with `run`, reading this run leads to `more`, the bytes of `rest` after it, and
+-- adds the text of `run`
 pub reads_run : {key rest more : List ℕ} {len n : ℕ} {run : Run}
     → ReadsRuns key rest len → TakesRun rest run
     → more ≡ drop (length (run_code run)) rest
@@ -151,7 +155,8 @@ reads_run {key} {rest} {more} {len} {n} {run} h k e count = record {
   );
 }
 
--- if something is left that is the key of no values, no path has the key
+-- if `rest` is not empty, and is not the key of one or more components that may follow others, no
+-- path has the key
 pub reads_no_run : {key rest : List ℕ} {len : ℕ} → ReadsRuns key rest len
     → HoldsNone rest → 0 < length rest → IsKey key → ⊥
 reads_no_run {key} {rest} {len} h none some is = by begins.0 begins.1

@@ -20,7 +20,8 @@ use Rattle.path_keys.proofs.lemmas.values.KeyLemmas.{key_of-append}
 use Rattle.path_keys.proofs.lemmas.values.OrderLemmas.{key_of-begins, key_of-same}
 use Rattle.path_keys.proofs.lemmas.reading.TextLemmas.{text_of-append, text_of-nil}
 
--- the text of some values of the key is written at the beginning of `old`; the others are left
+-- `out` is `old` with the text of some components of the key written over its beginning, up to
+-- index `at`; `rest` is the key of the remaining components, whose text fits too
 pub record SpellsOn (key rest old : List ℕ) (at : ℕ) (out : List ℕ) : Type 0 where
   pub us : List Value
   pub ws : List Value
@@ -31,7 +32,8 @@ pub record SpellsOn (key rest old : List ℕ) (at : ℕ) (out : List ℕ) : Type
   pub room : length (text_of (us ++ ws)) ≡ length old
   pub written : WritesOn (text_of (us ++ ws)) old at out (text_of ws)
 
--- the text of the lead is written
+-- if the text of the key's components is as long as `old`, and the key begins with `lead`, writing
+-- the text of `lead` at the beginning of `old` leaves the text of the rest to be written
 pub spells_lead : {key rest old out : List ℕ} {lead : Lead} {at : ℕ} → ReadsAs key (length old)
     → BeginsLead key rest lead → out ≡ overlay 0 (lead_text lead) old
     → at ≡ length (lead_text lead) → SpellsOn key rest old at out
@@ -61,18 +63,19 @@ spells_lead {key} {rest} {old} {out} {lead} {at} h k is_put ends = by begins.0 b
               (omega (arith, ends));
         }
 
--- of components that may follow others, the later ones may too
+-- if vs and ws together may follow other components, ws may follow other components
 fit_later : (vs ws : List Value) → AllFit false (vs ++ ws) → AllFit false ws
 fit_later [] ws h = h
 fit_later (v ∷ vs) ws h = fit_later vs ws h.1
 
--- the values that are left begin with those of the run that is taken
+-- the components ws begin with the components vs of the run, and the bytes of `rest` after the run
+-- are the key of the remaining components
 record NextIs (rest : List ℕ) (ws vs : List Value) (run : Run) : Type 0 where
   more : List Value
   is : ws ≡ vs ++ more
   left : drop (length (run_code run)) rest ≡ key_of more
 
--- the components that are left begin with those of the next run
+-- if `rest` is the key of ws, and begins with `run`, then ws begins with the components of `run`
 next_is : {rest : List ℕ} {run : Run} (ws : List Value) → AllFit false ws
     → rest ≡ key_of ws → (k : TakesRun rest run) → NextIs rest ws k.vs run
 next_is {rest} {run} ws h e k =
@@ -94,7 +97,7 @@ text_left : {ws : List Value} (vs more : List Value) (run : Run) → ws ≡ vs +
 text_left {ws} vs more run e text =
     ap text_of e ∙ text_of-append vs more ∙ ap (λ t. t ++ text_of more) text
 
--- there is room for the text of the next run
+-- if `rest` begins with `run`, the text of `run` fits in the buffer at index `at`
 pub spells_room : {key rest old out : List ℕ} {at : ℕ} {run : Run}
     → SpellsOn key rest old at out → TakesRun rest run
     → at + length (run_text run) ≤ length old
@@ -103,7 +106,7 @@ spells_room {key} {rest} {old} {out} {at} {run} h k =
     writes_room (run_text run) (text_of next.more) h.written
     (text_left k.vs next.more run next.is k.text_is) (omega (arith, h.room))
 
--- the buffer is as long as before
+-- `out` is as long as `old`
 pub spells_long : {key rest old out : List ℕ} {at : ℕ}
     → SpellsOn key rest old at out → length out ≡ length old
 spells_long {key} {rest} {old} {out} {at} h =
@@ -118,7 +121,8 @@ spells_long {key} {rest} {old} {out} {at} h =
       length-drop (length w.start) old,
     )
 
--- the text of one more run is written
+-- if `rest` begins with `run`, writing the text of `run` at index `at` leaves the text of the rest
+-- after `run` to be written
 pub spells_one : {key rest old out more new : List ℕ} {at end : ℕ} {run : Run}
     → SpellsOn key rest old at out → TakesRun rest run
     → more ≡ drop (length (run_code run)) rest → new ≡ overlay at (run_text run) out
@@ -140,13 +144,14 @@ spells_one {key} {rest} {old} {out} {more} {new} {at} {end} {run} h k e is_put e
           (text_left k.vs next.more run next.is k.text_is) is_put ends);
     }
 
--- if what is left is the key of no values, none are left
+-- if `rest` is the key of ws, but not the key of one or more components that may follow others,
+-- then ws is empty
 nothing_left : {rest : List ℕ} (ws : List Value) → AllFit false ws → rest ≡ key_of ws
     → HoldsNone rest → ws ≡ []
 nothing_left [] h e none = refl
 nothing_left (w ∷ ws) h e none = absurd (none w ws h (sym e))
 
--- if no run is left, the text of all values is written
+-- if no run is left in `rest`, `out` is the text of vs, the components of the key
 pub spells_all : {key rest old out : List ℕ} {at : ℕ}
     → SpellsOn key rest old at out → HoldsNone rest
     → (vs : List Value) → AllFit true vs → key_of vs ≡ key → out ≡ text_of vs

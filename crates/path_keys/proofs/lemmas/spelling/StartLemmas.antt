@@ -9,22 +9,22 @@ use Rattle.path_keys.specs.declared.runs.Lead.TheVariants.{Absent, Root, Dot}
 use Rattle.path_keys.proofs.lemmas.values.KeyLemmas.{key_of-nil, key_of-cons}
 use Rattle.path_keys.proofs.lemmas.reading.TextLemmas.{text_of-nil, text_of-cons}
 
--- two bytes, and what follows them
+-- if s has at least two bytes, a 0 and m, then s is a 0, m, and the bytes of s from index 2 on
 two_first : (s : List ℕ) (m : ℕ) → 2 ≤ length s → get_or s 0 0 ≡ 0 → get_or s 1 0 ≡ m
     → 0 ∷ m ∷ drop 2 s ≡ s
 two_first [] m l e f = absurd (omega arith)
 two_first (b ∷ []) m l e f = absurd (omega arith)
 two_first (b ∷ c ∷ s) m l e f = sym (ap₂ (λ b c. b ∷ c ∷ s) e f)
 
--- the key of one component
+-- the key of v as the only component is the code of v
 alone_key : (v : Value) → key_of (v ∷ []) ≡ code v
 alone_key v = key_of-cons v [] ∙ ap (λ k. code v ++ k) key_of-nil ∙ append-nil (code v)
 
--- the text of one component
+-- the text of v as the only component is `slashed v`
 alone_text : (v : Value) → text_of (v ∷ []) ≡ slashed v
 alone_text v = text_of-cons v [] ∙ ap (λ k. slashed v ++ k) text_of-nil ∙ append-nil (slashed v)
 
--- a key that begins with 00 01 begins with a root
+-- if s begins with 00 01, its lead is a root, and the rest begins at index 2
 pub root_lead : (s : List ℕ) → 2 ≤ length s → get_or s 0 0 ≡ 0 → get_or s 1 0 ≡ 1
     → BeginsLead s (drop 2 s) Root
 root_lead s l e f = record {
@@ -35,7 +35,7 @@ root_lead s l e f = record {
   inner = λ ws fit _. fit.1;
 }
 
--- a key that begins with 00 02 begins with a leading `.`
+-- if s begins with 00 02, its lead is a leading `.`, and the rest begins at index 2
 pub dot_lead : (s : List ℕ) → 2 ≤ length s → get_or s 0 0 ≡ 0 → get_or s 1 0 ≡ 2
     → BeginsLead s (drop 2 s) Dot
 dot_lead s l e f = record {
@@ -46,7 +46,7 @@ dot_lead s l e f = record {
   inner = λ ws fit _. fit.1;
 }
 
--- a key that begins with neither has no lead
+-- if s begins neither with 00 01 nor with 00 02, s has no lead, and the rest is s
 pub no_lead : (s : List ℕ) → ((r : List ℕ) → 0 ∷ 1 ∷ r ≡ s → ⊥)
     → ((r : List ℕ) → 0 ∷ 2 ∷ r ≡ s → ⊥) → BeginsLead s s Absent
 no_lead s root dot = record {

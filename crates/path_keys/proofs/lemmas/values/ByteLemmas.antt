@@ -8,28 +8,29 @@ use Rattle.path_runs.proofs.lemmas.spelling.PieceValueLemmas.{NoSlash}
 use Rattle.path_keys.specs.Keys.{raised}
 use Rattle.path_keys.specs.Ranges.{bytes_cmp}
 
--- two bytes that are no slash keep their order
+-- if neither a nor b is a slash, their bytes in a key are in the order of a and b
 nat_cmp-raised : (a b : ℕ) → is_slash a ≡ false → is_slash b ≡ false
     → nat_cmp (raised a) (raised b) ≡ nat_cmp a b
 nat_cmp-raised a b h k = grind (arith, nat_tests)
 
--- the end mark is less than each byte of a name
+-- if b is no slash, the end mark 0 is less than the byte in a key for b
 pub zero-raised : (b : ℕ) → is_slash b ≡ false → nat_cmp 0 (raised b) ≡ Less
 zero-raised b h = grind (arith, nat_tests)
 
--- each byte of a name is greater than the end mark
+-- if b is no slash, the byte in a key for b is greater than the end mark 0
 pub raised-zero : (b : ℕ) → is_slash b ≡ false → nat_cmp (raised b) 0 ≡ Greater
 raised-zero b h = grind (arith, nat_tests)
 
--- comparisons in a row may be grouped in any way
+-- `ordering_then` is associative: of three comparisons, the first one that isn't `Equal` decides
+-- either way
 pub ordering_then-assoc : (p q r : Ordering)
     → ordering_then (ordering_then p q) r ≡ ordering_then p (ordering_then q r)
 ordering_then-assoc Less q r = refl
 ordering_then-assoc Equal q r = refl
 ordering_then-assoc Greater q r = refl
 
--- two names, each with an end mark and more after it, are in the order of the names, or else of
--- what comes after
+-- if the names n and m have no slash, their codes followed by x and y are in the order of n and m,
+-- or in the order of x and y if n and m are equal
 pub bytes_cmp-names : (n m x y : List ℕ) → NoSlash n → NoSlash m
     → bytes_cmp ((map raised n ++ 0 ∷ []) ++ x) ((map raised m ++ 0 ∷ []) ++ y)
     ≡ ordering_then (bytes_cmp n m) (bytes_cmp x y)

@@ -1,4 +1,4 @@
--- The codes of values are in the order of the values, and none begins another.
+-- Codes are in the order of their components, and no code is a prefix of another one.
 use Rattle.std.proofs.Common.{◌≡◌, ◌<◌, ℕ, false, List, [], ◌∷◌, ◌++◌, length, Equal}
 use Rattle.std.proofs.Common.{Ordering, refl, sym, ap, ◌∙◌, arith}
 use Rattle.std.proofs.lemmas.Cmp.{tied_itself, nat_list_cmp_total}
@@ -15,22 +15,23 @@ use Rattle.path_keys.specs.Keys.{code}
 use Rattle.path_keys.specs.Ranges.{bytes_cmp}
 use Rattle.path_keys.proofs.lemmas.values.ByteLemmas.{bytes_cmp-names, zero-raised, raised-zero}
 
--- a name has a byte, and none of its bytes is a slash
+-- if the component is a name, the name is not empty and has no slash
 abbrev pub IsCoded : Value → Type 0
 IsCoded RootDir = Unit {0}
 IsCoded CurDir = Unit {0}
 IsCoded ParentDir = Unit {0}
 IsCoded (Normal name) = NoSlash name × (bytes_eq name [] ≡ false)
 
--- a piece that counts is a component with a code of its own
+-- if a piece is neither empty nor `.`, its component is `IsCoded`
 piece_coded : HoldsOfPieces IsCoded
 piece_coded p h d e = by_test (bytes_eq p parent_dir) (λ e. rw e tt) (λ e. rw e (h, d))
 
--- each name of a path has a byte, and none of its bytes is a slash
+-- each name among the components of s is not empty and has no slash
 pub values-coded : (s : List ℕ) → AllByRecursion IsCoded (values s)
 values-coded s = values-hold IsCoded tt tt piece_coded s
 
--- two codes with more after them are in the order of the components, or else of what comes after
+-- if v and w are `IsCoded`, their codes followed by x and y are in the order of v and w, or in the
+-- order of x and y if v and w are equal
 pub bytes_cmp-codes : (v w : Value) (x y : List ℕ) → IsCoded v → IsCoded w
     → bytes_cmp (code v ++ x) (code w ++ y) ≡ ordering_then (value_cmp v w) (bytes_cmp x y)
 bytes_cmp-codes (Normal n) (Normal m) x y h k = bytes_cmp-names n m x y h.0 k.0
@@ -44,12 +45,13 @@ bytes_cmp-codes CurDir (Normal (b ∷ m)) x y h k = rw (zero-raised b k.0.0) ref
 bytes_cmp-codes ParentDir (Normal (b ∷ m)) x y h k = rw (zero-raised b k.0.0) refl
 bytes_cmp-codes v w x y h k = refl
 
--- two comparisons in a row are tied only if each is
+-- if `ordering_then p q` is `Equal`, p and q are both `Equal`
 ordering_then-tied : (p q : Ordering) → ordering_then p q ≡ Equal → (p ≡ Equal) × (q ≡ Equal)
 ordering_then-tied Equal q e = (refl, e)
 ordering_then-tied p q e = absurd (cc)
 
--- two codes that begin the same bytes are of one component, and what comes after is the same
+-- if v and w are `IsCoded`, and the code of v followed by x is the code of w followed by y, then v
+-- is w, and x is y
 pub codes_split : (v w : Value) (x y : List ℕ) → IsCoded v → IsCoded w
     → code v ++ x ≡ code w ++ y → (v ≡ w) × (x ≡ y)
 codes_split v w x y h k e =
@@ -59,7 +61,7 @@ codes_split v w x y h k e =
     (sym (bytes_cmp-codes v w x y h k) ∙ tied) in
     (value_cmp-equal v w both.0, slice_cmp-IsAntisymmetric nat_cmp-IsAntisymmetric x y both.1)
 
--- a code has a byte
+-- the code of v is a byte b followed by the bytes x
 pub code-some : (v : Value) → (b : ℕ) × (x : List ℕ) × (code v ≡ b ∷ x)
 code-some RootDir = (_, _, refl)
 code-some CurDir = (_, _, refl)

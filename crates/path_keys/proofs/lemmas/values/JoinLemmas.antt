@@ -11,17 +11,18 @@ use Rattle.path_runs.proofs.lemmas.joins.ValueLemmas.{values-join_of}
 use Rattle.path_keys.specs.Keys.{key_of}
 use Rattle.path_keys.proofs.lemmas.values.KeyLemmas.{key_of-nil, key_of-append}
 
--- a path without a leading part has no root
+-- if b has no root and no leading `.`, b is not rooted
 leadless-rootless : (b : List ℕ) → leading_part b ≡ [] → is_rooted b ≡ false
 unfolding leading_part
 leadless-rootless b e = by_test (is_rooted b) (λ r. absurd (let d = rw r at e in cc)) (λ r. r)
 
--- the values of a path without a leading part are its inner values
+-- if b has no root and no leading `.`, all components of b are inner components
 leadless-values : (b : List ℕ) → leading_part b ≡ [] → values b ≡ inner_values b
 unfolding values parts
 leadless-values b e = ap (λ ps. map (λ (p : Part). p.value) (ps ++ inner_parts 0 b)) e
 
--- the key of a join with a path without a leading part is both keys
+-- if b has no root and no leading `.`, the key of a joined with b is the key of a followed by the
+-- key of b
 pub key_of-join_of : (a b : List ℕ) → leading_part b ≡ []
     → key_of (values (join_of a b)) ≡ key_of (values a) ++ key_of (values b)
 key_of-join_of [] b e =

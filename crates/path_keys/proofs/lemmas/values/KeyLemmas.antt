@@ -1,4 +1,4 @@
--- The key of values, one value after the other.
+-- The key of components is their codes, one after the other.
 use Rattle.std.proofs.Common.{◌≡◌, List, [], ◌∷◌, ◌++◌}
 use Rattle.std.proofs.Common.{refl}
 use Rattle.std.proofs.lemmas.List.Concat.{flat_map-append}
@@ -10,12 +10,12 @@ pub key_of-nil : key_of [] ≡ []
 unfolding key_of
 key_of-nil = refl
 
--- the key of one component and more
+-- the key of v and vs is the code of v followed by the key of vs
 pub key_of-cons : (v : Value) (vs : List Value) → key_of (v ∷ vs) ≡ code v ++ key_of vs
 unfolding key_of
 key_of-cons v vs = refl
 
--- the key of components and more is both keys
+-- the key of vs and ws together is the key of vs followed by the key of ws
 pub key_of-append : (vs ws : List Value) → key_of (vs ++ ws) ≡ key_of vs ++ key_of ws
 unfolding key_of
 key_of-append vs ws = flat_map-append code vs ws

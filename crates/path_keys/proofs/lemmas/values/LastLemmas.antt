@@ -10,11 +10,12 @@ use Rattle.unix_path.specs.Parts.{Value, RootDir, CurDir, ParentDir, Normal, val
 use Rattle.path_keys.specs.Keys.{code, key_of, raised, IsKey}
 use Rattle.path_keys.proofs.lemmas.values.KeyLemmas.{key_of-nil, key_of-cons}
 
--- the last of these bytes, if there is one, is less than 4
+-- if xs is not empty, its last byte is less than 4
 record EndsLow (xs : List ℕ) : Type 0 where
   low : 0 < length xs → get_or xs (length xs - 1) 0 < 4
 
--- bytes with such a last byte after others
+-- if ys is not empty and its last byte is less than 4, the last byte of xs followed by ys is less
+-- than 4
 EndsLow-append : (xs ys : List ℕ) → 0 < length ys → EndsLow ys → EndsLow (xs ++ ys)
 EndsLow-append xs ys l h = record {
   low = λ _.
@@ -34,7 +35,7 @@ EndsLow-code ParentDir = record { low = λ _. omega arith }
 EndsLow-code (Normal name) =
     EndsLow-append (map raised name) (0 ∷ []) (omega arith) (record { low = λ _. omega arith })
 
--- the last byte of the key of components is less than 4
+-- if vs is not empty, the last byte of its key is less than 4
 EndsLow-key_of : (vs : List Value) → EndsLow (key_of vs)
 EndsLow-key_of [] = record { low = λ l. absurd (omega (arith, ap length key_of-nil)) }
 EndsLow-key_of (v ∷ vs) = subst EndsLow (sym (key_of-cons v vs)) (⊎_elim
@@ -45,7 +46,7 @@ EndsLow-key_of (v ∷ vs) = subst EndsLow (sym (key_of-cons v vs)) (⊎_elim
     (EndsLow-code v))
     (cases_lt 0 (length (key_of vs))))
 
--- the last byte of a key is less than 4
+-- if `key` is a key and not empty, its last byte is less than 4
 pub last_low : (key : List ℕ) → ∥ IsKey key ∥₁ → 0 < length key
     → get_or key (length key - 1) 0 < 4
 last_low key is l = ∥∥₁_elim is (hlevel props)

@@ -9,7 +9,7 @@ use Rattle.path_runs.proofs.lemmas.spelling.LeanLemmas.{spelling_of-shortest}
 use Rattle.path_keys.specs.Keys.{raised, code, key_of}
 use Rattle.path_keys.proofs.lemmas.values.KeyLemmas.{key_of-nil, key_of-cons}
 
--- a value has at most one byte more in a key than in a path
+-- the code of v has at most one byte more than v has in a path
 length-code : (v : Value) → length (code v) ≤ length (value_bytes v) + 1
 length-code RootDir = omega arith
 length-code CurDir = omega arith
@@ -17,12 +17,12 @@ length-code ParentDir = omega arith
 length-code (Normal name) =
     omega (arith, length-append (map raised name) (0 ∷ []), length-map name raised)
 
--- the length of the key of one component and more
+-- the key of v and vs is as long as the code of v and the key of vs together
 pub length-key_of-cons : (v : Value) (vs : List Value)
     → length (key_of (v ∷ vs)) ≡ length (code v) + length (key_of vs)
 length-key_of-cons v vs = ap length (key_of-cons v vs) ∙ length-append (code v) (key_of vs)
 
--- the key of values has at most one byte more than these have with slashes between
+-- the key of vs has at most one byte more than the bytes of these components joined by slashes
 length-key_of-slashed : (vs : List Value)
     → length (key_of vs) ≤ length (slashed_bytes vs) + 1
 length-key_of-slashed [] = omega (arith, ap length key_of-nil)
@@ -36,7 +36,7 @@ length-key_of-slashed (v ∷ w ∷ vs) = omega (
   length-key_of-slashed (w ∷ vs),
 )
 
--- the key of values has at most two bytes more than their spelling
+-- the key of vs has at most two bytes more than the canonical form of vs
 length-key_of-spelled : (vs : List Value)
     → length (key_of vs) ≤ length (spelling_of vs) + 2
 unfolding spelling_of

@@ -1,4 +1,5 @@
--- Keys are in the order of the values, and begin each other as the values do.
+-- Keys are in the order of their components. The key of components is a prefix of another key if
+-- and only if the components are a prefix of those of the other key.
 use Rattle.std.proofs.Common.{◌≡◌, ℕ, List, [], ◌∷◌, ◌++◌, length, Less, Greater}
 use Rattle.std.proofs.Common.{refl, sym, ap, ap₂, ◌∙◌, arith, append_assoc}
 use Rattle.std.proofs.Common.{length-append}
@@ -16,15 +17,15 @@ use Rattle.path_keys.proofs.lemmas.values.CodeLemmas.{code-some}
 use Rattle.path_keys.proofs.lemmas.values.CodeLemmas.{code-length}
 use Rattle.path_keys.proofs.lemmas.values.KeyLemmas.{key_of-nil, key_of-cons, key_of-append}
 
--- no bytes are less than a code
+-- the empty byte string is less than bytes that begin with a code
 bytes_cmp-none : (w : Value) (y : List ℕ) → bytes_cmp [] (code w ++ y) ≡ Less
 bytes_cmp-none w y = let some = code-some w in rw some.2 refl
 
--- a code is greater than no bytes
+-- bytes that begin with a code are greater than the empty byte string
 bytes_cmp-some : (v : Value) (x : List ℕ) → bytes_cmp (code v ++ x) [] ≡ Greater
 bytes_cmp-some v x = let some = code-some v in rw some.2 refl
 
--- keys are in the order of the values
+-- if all components of vs and ws are `IsCoded`, their keys are in the order of vs and ws
 pub bytes_cmp-keys : (vs ws : List Value) → AllByRecursion IsCoded vs → AllByRecursion IsCoded ws
     → bytes_cmp (key_of vs) (key_of ws) ≡ values_cmp vs ws
 unfolding key_of
@@ -35,14 +36,16 @@ bytes_cmp-keys (v ∷ vs) (w ∷ ws) h k =
     bytes_cmp-codes v w (key_of vs) (key_of ws) h.0 k.0
     ∙ ap (ordering_then (value_cmp v w)) (bytes_cmp-keys vs ws h.1 k.1)
 
--- only the same values have the same key
+-- if all components of vs and ws are `IsCoded`, and their keys are the same, then vs and ws are the
+-- same
 pub key_of-same : (vs ws : List Value) → AllByRecursion IsCoded vs → AllByRecursion IsCoded ws
     → key_of vs ≡ key_of ws → vs ≡ ws
 key_of-same vs ws h k e =
     values_cmp-equal vs ws (sym (bytes_cmp-keys vs ws h k) ∙ ap (bytes_cmp (key_of vs)) (sym e)
     ∙ tied_itself nat_list_cmp_total (key_of vs))
 
--- if a key begins another, its values begin the other's
+-- if all components of vs and ws are `IsCoded`, and the key of vs is a prefix of the key of ws,
+-- then vs is a prefix of ws
 pub key_of-begins : (vs ws : List Value) → AllByRecursion IsCoded vs → AllByRecursion IsCoded ws
     → (x : List ℕ) → key_of vs ++ x ≡ key_of ws → IsPrefixOf vs ws
 key_of-begins [] ws h k x e = (ws, refl)
@@ -62,6 +65,6 @@ key_of-begins (v ∷ vs) (w ∷ ws) h k x e =
     let others = key_of-begins vs ws h.1 k.1 x first.1 in
     (others.0, ap₂ (λ u us. u ∷ us) first.0 others.1)
 
--- if values begin others, their key begins the other key
+-- if vs is a prefix of ws, the key of vs is a prefix of the key of ws
 pub begins-key_of : (vs ws : List Value) → IsPrefixOf vs ws → IsPrefixOf (key_of vs) (key_of ws)
 begins-key_of vs ws h = (key_of h.0, sym (key_of-append vs h.0) ∙ ap key_of h.1)

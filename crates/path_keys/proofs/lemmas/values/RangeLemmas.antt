@@ -9,28 +9,30 @@ use Rattle.std.specs.Ordering.{is_le, nat_cmp}
 use Rattle.unix_path.specs.Prefixes.{IsPrefixOf}
 use Rattle.path_keys.specs.Ranges.{bytes_cmp, end_of, InRange, IsRangeEnd, LiesUnder}
 
--- these bytes with the last one raised by one
+-- the bytes b and bs, with the last one raised by one
 abbrev last_raised : ℕ → List ℕ → List ℕ
 last_raised b bs = slice_set (b ∷ bs) (length bs) (slice_index (b ∷ bs) (length bs) + 1)
 
--- the key is not less than these bytes, and less than they are with the last one raised
+-- `key` is not less than the bytes b and bs, and less than these bytes with the last one raised by
+-- one
 abbrev LiesIn : ℕ → List ℕ → List ℕ → Type 0
 LiesIn b bs key = (is_le (bytes_cmp (b ∷ bs) key) ≡ true)
     × (bytes_cmp key (last_raised b bs) ≡ Less)
 
--- the comparison of a lesser byte
+-- if a is less than b, comparing a with b leads to `Less`
 less_is : (a b : ℕ) → a < b → nat_cmp a b ≡ Less
 less_is a b h = grind (arith, nat_tests)
 
--- the comparison of a greater byte
+-- if b is less than a, comparing a with b leads to `Greater`
 greater_is : (a b : ℕ) → b < a → nat_cmp a b ≡ Greater
 greater_is a b h = grind (arith, nat_tests)
 
--- the comparison of equal bytes
+-- comparing a with itself leads to `Equal`
 equal_is : (a : ℕ) → nat_cmp a a ≡ Equal
 equal_is a = grind (arith, nat_tests)
 
--- bytes of which the first is greater are not less than the end of a range
+-- if b is less than c, bytes that begin with c are not less than the byte b + 1, the end of the
+-- range of b
 behind-not_less : (b c : ℕ) (key : List ℕ) → b < c → bytes_cmp (c ∷ key) ((b + 1) ∷ []) ≡ Less → ⊥
 behind-not_less b c key l h = ⊎_elim
     (λ same.
@@ -44,17 +46,18 @@ behind-not_less b c key l h = ⊎_elim
     at_end [] e = cc
     at_end (x ∷ key) e = cc
 
--- bytes of which the first is less come before a range
+-- if c is less than b, bytes that begin with b are not less than or equal to bytes that begin with
+-- c
 before-not_le : (b c : ℕ) (bs key : List ℕ) → c < b
     → is_le (bytes_cmp (b ∷ bs) (c ∷ key)) ≡ true → ⊥
 before-not_le b c bs key l h = let d = rw (greater_is b c l) at h in cc
 
--- bytes of which the first is greater come after those that begin with the lesser one
+-- if b is less than c, bytes that begin with c are not less than bytes that begin with b
 after-not_less : (b c : ℕ) (bs key : List ℕ) → b < c
     → bytes_cmp (c ∷ key) (b ∷ bs) ≡ Less → ⊥
 after-not_less b c bs key l h = let d = rw (greater_is c b l) at h in cc
 
--- what lies in the range of some bytes begins with them
+-- if `key` is in the range of the bytes b and bs, it begins with them
 lies_in-begins : (b : ℕ) (bs key : List ℕ) → LiesIn b bs key → IsPrefixOf (b ∷ bs) key
 lies_in-begins b bs [] h = absurd (let d = h.0 in cc)
 lies_in-begins b [] (c ∷ key) h = ⊎_elim
@@ -74,12 +77,12 @@ lies_in-begins b (d ∷ bs) (c ∷ key) h = ⊎_elim
     (λ more. before-not_le b c (d ∷ bs) key more h.0) other))
     (cases_order b c)
 
--- no bytes are less than or equal to any
+-- the empty byte string is less than or equal to any bytes
 nil-le : (more : List ℕ) → is_le (bytes_cmp [] more) ≡ true
 nil-le [] = refl
 nil-le (x ∷ more) = refl
 
--- what begins with some bytes lies in their range
+-- bytes that begin with b and bs are in the range of b and bs
 begins-lies_in : (b : ℕ) (bs more : List ℕ) → LiesIn b bs ((b ∷ bs) ++ more)
 begins-lies_in b [] more =
     (rw (equal_is b) (nil-le more), rw (less_is b (b + 1) (omega arith)) refl)
@@ -87,7 +90,7 @@ begins-lies_in b (d ∷ bs) more =
     let others = begins-lies_in d bs more in
     (rw (equal_is b) others.0, rw (equal_is b) others.1)
 
--- byte strings begin with a base if and only if they lie in its range
+-- `key` begins with `base` if and only if it is in the range of `base`
 pub begins-lies_under : (base key : List ℕ) → IsPrefixOf base key ↔ LiesUnder base key
 unfolding end_of
 begins-lies_under [] key = (λ begins. (nil-le key, tt), λ h. (key, refl))
@@ -101,7 +104,7 @@ pub end_of-nil : end_of [] ≡ None
 unfolding end_of
 end_of-nil = refl
 
--- the end of the range of a key that isn't empty
+-- if `key` is not empty, the end of its range is the key with its last byte raised by one
 pub end_of-some : (key : List ℕ) → 0 < length key
     → end_of key ≡ Some (slice_set key (length key - 1) (slice_index key (length key - 1) + 1))
 unfolding end_of
@@ -110,12 +113,13 @@ end_of-some (b ∷ bs) l =
     let n : length bs ≡ length (b ∷ bs) - 1 = omega arith in
     ap (λ k. Some (slice_set (b ∷ bs) k (slice_index (b ∷ bs) k + 1))) n
 
--- the empty key's range has no end
+-- if `key` is empty, all byte strings begin with it, and its range has no end
 pub range_end-none : (key : List ℕ) → length key ≡ 0 → IsRangeEnd key None
 range_end-none [] l s = (λ h. (s, refl), λ begins. (nil-le s, tt))
 range_end-none (b ∷ bs) l s = absurd (omega arith)
 
--- the range of another key ends at the key with its last byte raised by one
+-- if `key` is not empty, the byte strings that begin with it are those from `key` on that are less
+-- than the key with its last byte raised by one
 pub range_end-some : (key : List ℕ) → 0 < length key → IsRangeEnd key
     (Some (slice_set key (length key - 1) (slice_index key (length key - 1) + 1)))
 range_end-some key l s =

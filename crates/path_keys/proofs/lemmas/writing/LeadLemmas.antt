@@ -14,19 +14,19 @@ use Rattle.path_runs.proofs.lemmas.joins.LeadLemmas.{dot_first, lead_by, values-
 use Rattle.path_keys.specs.Keys.{key_of}
 use Rattle.path_keys.proofs.lemmas.values.KeyLemmas.{key_of-nil, key_of-cons}
 
--- the key of the empty path
+-- if s is empty, its key is the key of its inner components
 pub lead-none : (s : List ℕ) → length s ≡ 0 → key_of (values s) ≡ key_of (inner_values s)
 lead-none s e =
     let none = nil_from_length s e in
     ap (λ s. key_of (values s)) none ∙ ap key_of (values-nil ∙ sym inner_values-nil)
     ∙ sym (ap (λ s. key_of (inner_values s)) none)
 
--- the key of a path that begins with neither
+-- if s begins neither with a slash nor with a piece `.`, its key is the key of its inner components
 pub lead-not_filler : (s : List ℕ) → is_filler s 0 ≡ false
     → key_of (values s) ≡ key_of (inner_values s)
 lead-not_filler s not_filler = ap key_of (values-not_filler s not_filler)
 
--- the key of a path that begins with a slash
+-- if s begins with a slash, its key is 00 01 and then the key of its inner components
 pub lead-root : (s : List ℕ) → 0 < length s → get_or s 0 0 ≡ 47
     → key_of (values s) ≡ (0 ∷ 1 ∷ []) ++ key_of (inner_values s)
 lead-root [] l e = absurd (omega arith)
@@ -36,7 +36,7 @@ lead-root (x ∷ s) l e =
     ∙ ap (λ c. lead_by c (dot_first (slice_split is_slash (x ∷ s))) ++ inner_values (x ∷ s)) rooted)
     ∙ key_of-cons RootDir (inner_values (x ∷ s))
 
--- the key of a path that begins with a `.` that counts
+-- if s begins with a piece `.`, its key is 00 02 and then the key of its inner components
 pub lead-dot : (s : List ℕ) → 0 < length s → is_filler s 0 ≡ true → (get_or s 0 0 ≡ 47 → ⊥)
     → key_of (values s) ≡ (0 ∷ 2 ∷ []) ++ key_of (inner_values s)
 lead-dot [] l filler e = absurd (omega arith)

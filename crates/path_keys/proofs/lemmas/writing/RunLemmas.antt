@@ -1,4 +1,4 @@
--- What a path begins with, a `..` or names with single slashes between, in a key.
+-- The run at the beginning of a path, in a key: a `..`, or names separated by single slashes.
 use Rattle.std.proofs.Common.{◌≡◌, ◌<◌, ◌≤◌, ◌+◌, ℕ, true, false, cond, eqb, List, []}
 use Rattle.std.proofs.Common.{◌∷◌, ◌++◌, length, take, drop, map, get_or, refl, sym, ap, ap₂, ◌∙◌}
 use Rattle.std.proofs.Common.{subst, arith, append-nil, eq-eqb}
@@ -31,7 +31,8 @@ use Rattle.unix_path.proofs.lemmas.filler.FillerLemmas.{values-not_filler}
 use Rattle.path_keys.proofs.lemmas.writing.StretchLemmas.{later, later_names, some_piece}
 use Rattle.path_keys.proofs.lemmas.writing.StretchLemmas.{stretch_key}
 
--- the first value of a string that begins with neither filler nor `..` is its first piece
+-- if s begins neither with filler nor with `..`, its components are its first piece, which is a
+-- name, and the inner components after this piece
 values-first : (s : List ℕ) → 0 < length s → is_filler s 0 ≡ false → starts_with_parent_dir s
     ≡ false
     → values s ≡ Normal (first_piece s) ∷ map (λ (p : Part). p.value)
@@ -43,12 +44,12 @@ values-first s l not_filler e =
     (inner_parts (position_or_len is_slash s) (drop (position_or_len is_slash s) s)))
     (first_value-name s l not_filler e)
 
--- the first piece of a string that begins with neither filler nor `..` is a name
+-- if s begins neither with filler nor with `..`, its first piece is a name
 first_name : (s : List ℕ) → 0 < length s → is_filler s 0 ≡ false → starts_with_parent_dir s ≡ false
     → IsName (first_piece s)
 first_name s l not_filler e = (subst (AllFit true) (values-first s l not_filler e) (values-fit s)).0
 
--- `..` is a run
+-- if s begins with `..`, its first two bytes are a run
 pub run-up : (s : List ℕ) → is_filler s 0 ≡ false → starts_with_parent_dir s ≡ true → IsRun s 2
 run-up s not_filler e = record {
   some = omega arith;
@@ -59,7 +60,7 @@ run-up s not_filler e = record {
       (sym (ap (λ b. cond b (0 ∷ 3 ∷ []) (map coded (take 2 s) ++ 0 ∷ [])) e));
 }
 
--- a string that is cut at a slash has the pieces before it and those after it
+-- the pieces of t, a slash and r together are the pieces of t and then the pieces of r
 pub slice_split-append : (t r : List ℕ)
     → slice_split is_slash (t ++ slash ∷ r) ≡ slice_split is_slash t ++ slice_split is_slash r
 slice_split-append [] r = refl
@@ -74,12 +75,13 @@ slice_split-append (x ∷ t) r = by_test (eqb x 47)
     ∙ sym (ap (λ ps. ps ++ slice_split is_slash r)
     (slice_split-cons_no is_slash x t e ∙ ap (onto_first x) some.2)))
 
--- the components of pieces and more
+-- the components of the pieces ps and qs together are those of ps and then those of qs
 names_of-append : (ps qs : List (List ℕ)) → names_of (ps ++ qs) ≡ names_of ps ++ names_of qs
 names_of-append ps qs = ap (map value_of_piece) (filter-append counts ps qs)
     ∙ map-append value_of_piece (filter counts ps) (filter counts qs)
 
--- a string that is cut at a slash has the values before it and those from it on
+-- the inner components of t, a slash and r together are those of t and then those of the slash and
+-- r
 inner_values-cut : (t r : List ℕ)
     → inner_values (t ++ slash ∷ r) ≡ inner_values t ++ inner_values (slash ∷ r)
 inner_values-cut t r =
@@ -87,13 +89,14 @@ inner_values-cut t r =
     ∙ names_of-append (slice_split is_slash t) (slice_split is_slash r)
     ∙ sym (ap₂ (λ vs ws. vs ++ ws) (inner_values-pieces t) (inner_values-pieces (slash ∷ r)))
 
--- the string is what comes before its first stop, and then a slash, or nothing
+-- if the run of names at the beginning of s ends at index n within s, there is a slash at index n
 cut_at : (s : List ℕ) (n : ℕ) → FirstStop s n → n < length s
     → drop n s ≡ slash ∷ drop (n + 1) s
 cut_at s n h l = drop_more s n 0 l
     ∙ ap (λ b. b ∷ drop (n + 1) s) (separator_at_end 47 46 s n h l)
 
--- the pieces of the string begin with those of what comes before its first stop
+-- if the run of names at the beginning of s ends at index n, the pieces of s begin with the pieces
+-- p and ps of the first n bytes
 whole_pieces : (s : List ℕ) (n : ℕ) → FirstStop s n → (p : List ℕ) (ps : List (List ℕ))
     → slice_split is_slash (take n s) ≡ p ∷ ps
     → (qs : List (List ℕ)) × (slice_split is_slash s ≡ p ∷ (ps ++ qs))
@@ -116,7 +119,8 @@ whole_pieces s n h p ps e = ⊎_elim
 cons_first : {p q : List ℕ} {ps qs : List (List ℕ)} → p ∷ ps ≡ q ∷ qs → p ≡ q
 cons_first e = cc
 
--- the first piece of the string is that of what comes before its first stop
+-- if the run of names at the beginning of s ends at index n, the first n bytes have the same first
+-- piece as s
 first_same : (s : List ℕ) (n : ℕ) → FirstStop s n
     → (ps : List (List ℕ)) × (slice_split is_slash (take n s) ≡ first_piece s ∷ ps)
 first_same s n h =
@@ -125,7 +129,8 @@ first_same s n h =
     let same : some.0 ≡ first_piece s = cons_first (sym rest.1 ∙ slice_split-first s) in
     (some.1, some.2 ∙ ap (λ p. p ∷ some.1) same)
 
--- the components of what comes before the first stop, and of what is left
+-- if the run of names at the beginning of s ends at index n, the inner components of s are those of
+-- the first n bytes and then those of the bytes from n on
 split_at : (s : List ℕ) (n : ℕ) → FirstStop s n
     → inner_values s ≡ inner_values (take n s) ++ inner_values (drop n s)
 split_at s n h = ⊎_elim
@@ -139,7 +144,7 @@ split_at s n h = ⊎_elim
     ∙ ap (λ vs. inner_values s ++ vs) inner_values-nil ∙ append-nil (inner_values s)))
     (cases_lt n (length s))
 
--- if the first stop is at 0, a slash is there
+-- if s is not empty, and the run of names at its beginning ends at index 0, s begins with a slash
 first_stops : (s : List ℕ) (n : ℕ) → 0 < length s → FirstStop s n → n ≤ 0
     → eqb (get_or s 0 0) 47 ≡ true
 first_stops s n l h none =
@@ -147,7 +152,8 @@ first_stops s n l h none =
     ap (λ k. eqb (get_or s k 0) 47) (sym zero_is)
     ∙ eq-eqb (get_or s n 0) 47 (separator_at_end 47 46 s n h (omega arith))
 
--- what comes before the first stop is a run of names
+-- if s begins neither with filler nor with `..`, and the run of names at its beginning ends at
+-- index n, the first n bytes of s are a run
 pub run-names : (s : List ℕ) (n : ℕ) → 0 < length s → is_filler s 0 ≡ false
     → starts_with_parent_dir s ≡ false → FirstStop s n → IsRun s n
 run-names s n l not_filler e h =

@@ -1,4 +1,4 @@
--- A stretch of names between breaks, in a key.
+-- A run of names separated by single slashes, in a key.
 use Rattle.std.proofs.Common.{◌≡◌, ◌<◌, ◌+◌, ℕ, suc, Bool, true, false, cond, eqb, List}
 use Rattle.std.proofs.Common.{[], ◌∷◌}
 use Rattle.std.proofs.Common.{◌++◌, length, map, get_or, refl, sym, ap, ap₂, ◌∙◌, subst}
@@ -21,11 +21,11 @@ use Rattle.path_keys.specs.NameBytes.{coded}
 use Rattle.path_keys.specs.Stretches.{ends_name_run}
 use Rattle.unix_path.proofs.lemmas.name_run_ends.NameRunEndLemmas.{ends_name_run-append}
 
--- the codes of pieces as of names, one after the other
+-- the codes of these pieces, each taken as a name, one after the other
 abbrev piece_codes : List (List ℕ) → List ℕ
 piece_codes ps = flat_map (λ p. map raised p ++ 0 ∷ []) ps
 
--- a string has a first piece
+-- the pieces of s are a first piece p and the pieces ps after it
 pub some_piece : (s : List ℕ)
     → (p : List ℕ) × (ps : List (List ℕ)) × (slice_split is_slash s ≡ p ∷ ps)
 some_piece [] = ([], [], refl)
@@ -35,7 +35,7 @@ some_piece (x ∷ s) = by_test (eqb x 47)
     let more = some_piece s in
     (x ∷ more.0, more.1, slice_split-cons_no is_slash x s e ∙ ap (onto_first x) more.2))
 
--- a string in a key, with an end mark, is its pieces, each with an end mark
+-- the coded bytes of s and an end mark are the codes of the pieces of s, each taken as a name
 coded-pieces : (s : List ℕ) → map coded s ++ 0 ∷ [] ≡ piece_codes (slice_split is_slash s)
 coded-pieces [] = refl
 coded-pieces (x ∷ s) = by_test (eqb x 47)
@@ -47,58 +47,59 @@ coded-pieces (x ∷ s) = by_test (eqb x 47)
     (coded-pieces s ∙ ap piece_codes some.2)
     ∙ sym (ap piece_codes (slice_split-cons_no is_slash x s e ∙ ap (onto_first x) some.2)))
 
--- pieces that are names have these as their values
+-- if all pieces ps are names, their components are these names
 pub names_of-names : (ps : List (List ℕ)) → AllByRecursion IsName ps → names_of ps ≡ map Normal ps
 names_of-names [] h = refl
 names_of-names (p ∷ ps) h =
     rw (h.0.some, h.0.no_dot, h.0.no_up) (ap (λ vs. Normal p ∷ vs) (names_of-names ps h.1))
 
--- the key of names is their pieces, each with an end mark
+-- the key of the names ps is the codes of ps, one after the other
 key_of-names : (ps : List (List ℕ)) → key_of (map Normal ps) ≡ piece_codes ps
 unfolding key_of
 key_of-names [] = refl
 key_of-names (p ∷ ps) = ap (λ k. (map raised p ++ 0 ∷ []) ++ k) (key_of-names ps)
 
--- the key of a stretch whose pieces are names
+-- if all pieces of s are names, the key of its inner components is the coded bytes of s and an end
+-- mark
 pub stretch_key : (s : List ℕ) → AllByRecursion IsName (slice_split is_slash s)
     → key_of (inner_values s) ≡ map coded s ++ 0 ∷ []
 stretch_key s h =
     ap key_of (inner_values-pieces s ∙ names_of-names (slice_split is_slash s) h)
     ∙ key_of-names (slice_split is_slash s) ∙ sym (coded-pieces s)
 
--- the pieces but the first
+-- all pieces except the first
 abbrev pub later : List (List ℕ) → List (List ℕ)
 later [] = []
 later (p ∷ ps) = ps
 
--- no byte of the string is a stop
+-- no run of names ends at an index within s
 abbrev pub Unstopped : List ℕ → Type 0
 Unstopped s = (i : ℕ) → i < length s → ends_name_run s i ≡ false
 
--- a string without a stop has none after its first byte
+-- if no run of names ends within the byte x followed by s, none ends within s
 no_end_in_both : (x : ℕ) (s : List ℕ) → Unstopped (x ∷ s) → Unstopped s
 no_end_in_both x s h = λ i l.
     sym (ends_name_run-append 47 46 (x ∷ []) s i)
     ∙ ap (ends_name_run (x ∷ s)) {x = 1 + i} {y = suc i} (omega arith) ∙ h (suc i) (omega arith)
 
--- two tests fail together if the second fails where the first holds
+-- if b is false whenever a is true, a and b are not both true
 both_fail : (a b : Bool) → (a ≡ true → b ≡ false) → (a && b) ≡ false
 both_fail true b h = h refl
 both_fail false b h = refl
 
--- if two tests fail together and the first holds, the second fails
+-- if a and b are not both true, and a is true, then b is false
 second_fails : (a b : Bool) → (a && b) ≡ false → a ≡ true → b ≡ false
 second_fails true b h e = h
 second_fails false b h e = absurd (cc)
 
--- the first piece of a string that begins with another byte than a slash begins with it
+-- p is the byte y followed by the first piece of s
 record Begun (y : ℕ) (s p : List ℕ) : Type 0 where
   more : List ℕ
   others : List (List ℕ)
   is : p ≡ y ∷ more
   rest : slice_split is_slash s ≡ more ∷ others
 
--- one byte before a string without a stop begins its first piece
+-- if y is no slash, the first piece of y followed by s is y followed by the first piece of s
 begun : (y : ℕ) (s p : List ℕ) (ps : List (List ℕ)) → eqb y 47 ≡ false
     → slice_split is_slash (y ∷ s) ≡ p ∷ ps → Begun y s p
 begun y s p ps e is =
@@ -112,13 +113,14 @@ begun y s p ps e is =
       rest = some.2;
     }
 
--- a piece is not empty if the string begins with no slash
+-- if s is not empty and doesn't begin with a slash, its first piece p is not empty
 some_first : (s p : List ℕ) (ps : List (List ℕ)) → eqb (get_or s 0 47) 47 ≡ false
     → slice_split is_slash s ≡ p ∷ ps → bytes_eq p [] ≡ false
 some_first [] p ps e is = absurd (let k : true ≡ false = e in cc)
 some_first (y ∷ s) p ps e is = ap (λ p. bytes_eq p []) (begun y s p ps e is).is
 
--- it is no `.` if the string begins neither with a slash, nor with a dot and a slash
+-- if s is not empty, and begins neither with a slash nor with a piece `.`, its first piece p is not
+-- `.`
 no_dot_first : (s p : List ℕ) (ps : List (List ℕ))
     → (eqb (get_or s 0 47) 47 || (eqb (get_or s 0 47) 46 && eqb (get_or s 1 47) 47)) ≡ false
     → slice_split is_slash s ≡ p ∷ ps → bytes_eq p (46 ∷ []) ≡ false
@@ -130,7 +132,7 @@ no_dot_first (y ∷ s) p ps e is =
     ∙ both_fail (eqb y 46) (bytes_eq b.more [])
     (λ d. some_first s b.more b.others (second_fails _ _ both.1 d) b.rest)
 
--- the first piece is a name if one begins there
+-- if a name begins at index 0 of s, the first piece p of s is a name
 first_name : (s p : List ℕ) (ps : List (List ℕ)) → no_name_starts_at 47 46 s 0 ≡ false
     → slice_split is_slash s ≡ p ∷ ps → IsName p
 first_name [] p ps e is = absurd (let k : true ≡ false = e in cc)
@@ -152,7 +154,7 @@ first_name (y ∷ s) p ps e is =
           (λ d. no_dot_first s b.more b.others (second_fails (eqb y 46) next both.1 d) b.rest);
     }
 
--- the pieces after the first of a string without a stop are names
+-- if no run of names ends within s, the pieces of s after the first one are names
 pub later_names : (s : List ℕ) → Unstopped s
     → AllByRecursion IsName (later (slice_split is_slash s))
 later_names [] h = tt
@@ -172,7 +174,7 @@ later_names (x ∷ s) h = by_test (eqb x 47)
     subst (λ qs. AllByRecursion IsName (later qs))
     (sym (slice_split-cons_no is_slash x s e ∙ ap (onto_first x) some.2)) more)
 
--- all pieces of a string without a stop are names if one begins there
+-- if a name begins at index 0 of s, and no run of names ends within s, all pieces of s are names
 pub all_pieces_names : (s : List ℕ) → no_name_starts_at 47 46 s 0 ≡ false → Unstopped s
     → AllByRecursion IsName (slice_split is_slash s)
 all_pieces_names s e h =

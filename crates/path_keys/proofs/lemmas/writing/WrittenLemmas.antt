@@ -12,7 +12,8 @@ use Rattle.path_keys.specs.Keys.{key_of}
 use Rattle.path_keys.specs.NameBytes.{coded}
 use Rattle.path_keys.specs.Stretches.{run_key, IsRun}
 
--- to put bytes in a buffer, and then more after them, is to put both there at once
+-- if `at` is at most the length of `old`, writing xs at index `at`, and then ys after xs, is the
+-- same as writing xs and ys together at index `at`
 overlay-overlay : (at : ℕ) (xs ys old : List ℕ) → at ≤ length old
     → overlay (at + length xs) ys (overlay at xs old) ≡ overlay at (xs ++ ys) old
 overlay-overlay at xs ys old l =
@@ -24,7 +25,7 @@ overlay-overlay at xs ys old l =
     ∙ ap₂ (λ bytes n. bytes ++ drop n old) (append_assoc (take at old) xs ys)
     (omega (arith, near, length-append first ys, length-append xs ys))
 
--- the bytes of names in a key are as many as in the path, and an end mark
+-- if n is at most the length of s, the first n bytes of s, coded, and an end mark are n + 1 bytes
 pub names_len : (s : List ℕ) (n : ℕ) → n ≤ length s
     → length (map coded (take n s) ++ 0 ∷ []) ≡ n + 1
 names_len s n l = omega (
@@ -34,7 +35,8 @@ names_len s n l = omega (
   length-take-le n s l,
 )
 
--- names and then an end mark are put in a buffer
+-- writing the first n bytes of s, coded, at index `at`, and then an end mark after them, is the
+-- same as writing both together, if the n bytes fit in the buffer
 pub names_put : (s : List ℕ) (at n : ℕ) (old out new : List ℕ) → n ≤ length s
     → at + n ≤ length old → out ≡ overlay at (map coded (take n s)) old
     → new ≡ overlay (at + n) (0 ∷ []) out → new ≡ overlay at (map coded (take n s) ++ 0 ∷ []) old
@@ -44,23 +46,26 @@ names_put s at n old out new l room h e =
     e ∙ ap₂ (λ k o. overlay k (0 ∷ []) o) {x = at + n} {y = at + length xs} (omega (arith, size)) h
     ∙ overlay-overlay at xs (0 ∷ []) old (omega arith)
 
--- the bytes of a run in a key, if it is a `..`
+-- if s begins with `..`, the bytes in a key of its first run are 00 03
 pub up_run : (s : List ℕ) (n : ℕ) → starts_with_parent_dir s ≡ true → run_key s n ≡ 0 ∷ 3 ∷ []
 up_run s n e = ap (λ up. cond up (0 ∷ 3 ∷ []) (map coded (take n s) ++ 0 ∷ [])) e
 
--- and if it is names
+-- if s doesn't begin with `..`, the bytes in a key of its first run are its first n bytes, coded,
+-- and an end mark
 pub names_run : (s : List ℕ) (n : ℕ) → starts_with_parent_dir s ≡ false
     → run_key s n ≡ map coded (take n s) ++ 0 ∷ []
 names_run s n e = ap (λ up. cond up (0 ∷ 3 ∷ []) (map coded (take n s) ++ 0 ∷ [])) e
 
--- there is room for the next run
+-- if the key of the inner components of s remains to be written at index `at`, and the first n
+-- bytes of s are a run, the bytes in a key of this run fit in the buffer
 pub run_fits : {whole old out : List ℕ} {at n : ℕ} (s : List ℕ)
     → WritesOn whole old at out (key_of (inner_values s)) → IsRun s n → length whole ≤ length old
     → at + length (run_key s n) ≤ length old
 run_fits {whole} {old} {out} {at} {n} s h run fits =
     writes_room (run_key s n) (key_of (inner_values (drop n s))) h run.split fits
 
--- the next run is written
+-- if the first n bytes of s are a run, and `left` has the components after it, writing the bytes in
+-- a key of this run at index `at` leaves the key of `left` to be written
 pub written_run : {whole old out new : List ℕ} {at n end : ℕ} (s left : List ℕ)
     → WritesOn whole old at out (key_of (inner_values s)) → IsRun s n
     → new ≡ overlay at (run_key s n) out → inner_values (drop n s) ≡ inner_values left

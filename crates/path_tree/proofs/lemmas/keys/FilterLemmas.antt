@@ -1,4 +1,5 @@
--- KeyFilter of keys: one that is set, those that stay, and a key that has none.
+-- The bits of a Bloom filter: the bit that an insertion sets, the bits that stay set, and a key
+-- whose bit isn't set.
 use Rattle.std.proofs.Common.{◌≡◌, ◌∙◌, ℕ, ◌*◌, ◌/◌, ◌%◌, ◌^◌, ◌<◌, ◌≤◌, Bool, true, false, cond}
 use Rattle.std.proofs.Common.{List, [], ◌∷◌, None, Less, Equal, Greater, Some, ap, arith}
 use Rattle.std.proofs.Common.{bit_and, bit_or, eq-eqb, eqb, eqb-true, get_or, le-ltb, length, ltb}
@@ -17,11 +18,11 @@ use Rattle.path_tree.specs.Hashed.{has_bit}
 use Rattle.path_tree.proofs.lemmas.keys.PassLemmas.{AllKeys}
 use Rattle.path_tree.proofs.lemmas.keys.RowLemmas.{is_it}
 
--- the bit k of a word
+-- bit k of the word
 abbrev digit : ℕ → ℕ → ℕ
 digit word k = word / 2 ^ k % 2
 
--- a bit of two words that are combined is the combined bit of each
+-- bit k of the bitwise or of a and b is the or of bit k of a and bit k of b
 digit-or : (a b k : ℕ) → digit (bit_or a b) k ≡ bit_or (digit a k) (digit b k)
 digit-or a b k = ap (λ n. n % 2) (or_shr a b k) ∙ or_mod (a / 2 ^ k) (b / 2 ^ k) 1
 
@@ -29,7 +30,7 @@ digit-or a b k = ap (λ n. n % 2) (or_shr a b k) ∙ or_mod (a / 2 ^ k) (b / 2 ^
 digit-below : (a k : ℕ) → digit a k < 2
 digit-below a k = let n = a / 2 ^ k in omega arith
 
--- 1 combined with a bit is 1
+-- if x is 1, and y is less than 2, the bitwise or of x and y is 1
 or-one : (x y : ℕ) → x ≡ 1 → y < 2 → bit_or x y ≡ 1
 or-one x y is below =
     let low = le_or_l x y in
@@ -37,30 +38,30 @@ or-one x y is below =
     let high = or_lt 1 x y fits below in
     omega (arith, low, high)
 
--- a bit that is set stays set
+-- if bit k of a is set, bit k of the bitwise or of a and b is set
 digit-or_left : (a b k : ℕ) → digit a k ≡ 1 → digit (bit_or a b) k ≡ 1
 digit-or_left a b k is = digit-or a b k ∙ or-one (digit a k) (digit b k) is (digit-below b k)
 
--- the same for a bit of the second word
+-- if bit k of b is set, bit k of the bitwise or of a and b is set
 digit-or_right : (a b k : ℕ) → digit b k ≡ 1 → digit (bit_or a b) k ≡ 1
 digit-or_right a b k is = ap (λ n. digit n k) (or_comm a b) ∙ digit-or_left b a k is
 
--- the word with the bit k alone
+-- if k is less than 64, bit k of 1 shifted left by k bits is set
 digit-one : (k : ℕ) → k < 64 → digit (1 * 2 ^ k % 2 ^ 64) k ≡ 1
 digit-one k below =
     ap (λ n. digit n k) (one_shl k 64 below ∙ sym (one-mul (2 ^ k))) ∙ ap (λ n. n % 2) (shl-shr 1 k)
 
--- the word with the bit of the hash
+-- the word with the bit of the hash set
 abbrev pub word_with : ℕ → ℕ → ℕ
 word_with word hash = bit_or word (1 * 2 ^ (hash / 2 ^ 58) % 2 ^ 64)
 
--- the words with the bit of the hash
+-- the words with the bit of the hash set
 abbrev pub words_with : ℕ → List ℕ → ℕ → List ℕ
 words_with mask words hash =
     set words (bit_and hash mask) (word_with (get_or words (bit_and hash mask) 0) hash)
 
 module _ (mask : ℕ) (words : List ℕ) (hash : ℕ) (there : bit_and hash mask < length words) where
-  -- a bit that was set is found
+  -- if there is a word for the hash, the words have the bit of the hash after it is set
   pub has_bit-set : hash < 2 ^ 64 → has_bit mask (words_with mask words hash) hash ≡ true
   unfolding has_bit
   has_bit-set fits =
@@ -78,7 +79,7 @@ module _ (mask : ℕ) (words : List ℕ) (hash : ℕ) (there : bit_and hash mask
         | false ↦ refl
       ]
 
-  -- each bit that was set before still is
+  -- each bit of the words that was set is still set after the bit of `hash` is set
   stays : (place k : ℕ) → digit (get_or words place 0) k ≡ 1
       → digit (get_or (words_with mask words hash) place 0) k ≡ 1
   stays place k is =
@@ -93,7 +94,7 @@ module _ (mask : ℕ) (words : List ℕ) (hash : ℕ) (there : bit_and hash mask
       (λ other. ap (λ w. digit w k) (get_or-set_other words slot place marked 0 other) ∙ is)
       (cases_eq place slot)
 
-  -- so each hash that was found before still is
+  -- if the words have the bit of `other`, they still have it after the bit of `hash` is set
   pub has_bit-kept : (other : ℕ) → has_bit mask words other ≡ true
       → has_bit mask (words_with mask words hash) other ≡ true
   unfolding has_bit
@@ -111,7 +112,7 @@ module _ (mask : ℕ) (words : List ℕ) (hash : ℕ) (there : bit_and hash mask
         | false ↦ λ _. refl
       ] has)
 
--- where there is no word the hash counts as marked
+-- if there is no word for the hash, its bit counts as set
 pub has_bit-outside : (mask hash : ℕ) (words : List ℕ) → length words ≤ bit_and hash mask
     → has_bit mask words hash ≡ true
 unfolding has_bit
@@ -120,16 +121,16 @@ has_bit-outside mask hash words out =
     ap (λ t. cond t (eqb (digit (get_or words place 0) (hash / 2 ^ 58)) 1) true)
     (le-ltb place (length words) out)
 
--- without words each hash is found
+-- if there are no words, the bit of each hash counts as set
 pub has_bit-none : (mask hash : ℕ) (words : List ℕ) → words ≡ [] → has_bit mask words hash ≡ true
 has_bit-none mask hash words none =
     has_bit-outside mask hash words
     (subst (λ l. length l ≤ bit_and hash mask) (sym none) (omega arith))
 
--- nothing stands at a key that fails a test which all keys pass
+-- a key that fails a test
 module _ {K V : Type 0} (bytes_of : K → List ℕ) (test : List ℕ → Bool) (key : List ℕ)
     (fails : test key ≡ false) where
-  -- `lookup-filtered`, by recursion on the entries
+  -- the same as `lookup-filtered`, with the test stated by recursion on the entries
   lookup-fails : (entries : List (K × V))
       → AllByRecursion (λ k. test (bytes_of k) ≡ true) (keys_of entries)
       → lookup (is_it bytes_of key) entries ≡ None
@@ -145,21 +146,22 @@ module _ {K V : Type 0} (bytes_of : K → List ℕ) (test : List ℕ → Bool) (
         | Greater ↦ λ _. rest
       ] refl
 
-  -- a look-up of that key finds nothing
+  -- if `key` fails a test that all keys of the entries pass, looking up `key` finds nothing
   pub lookup-filtered : (entries : List (K × V)) → AllKeys bytes_of test entries
       → lookup (is_it bytes_of key) entries ≡ None
   lookup-filtered entries all =
       lookup-fails entries (recursion_from_All (λ k. test (bytes_of k) ≡ true) _ all)
 
--- a walk that marks each key has come so far: marks that keep those made, and have those of the
--- entries left, have all
+-- the filter `marked` has the keys of all entries before the rest `left`: each filter that has all
+-- keys of `marked` and the keys of `left` has the keys of all entries
 abbrev pub FiltersRest : {K V : Type 0} → (K → List ℕ) → (List ℕ → Bool) → List (K × V)
     → List (K × V) → Type 0
 FiltersRest bytes_of marked left all = (more : List ℕ → Bool)
     → ((key : List ℕ) → marked key ≡ true → more key ≡ true)
     → AllKeys bytes_of more left → AllKeys bytes_of more all
 
--- one more key is marked
+-- if the filter `old` has the keys of all entries before e, and the filter `new` has the key of e
+-- and each key that `old` has, then `new` has the keys of all entries before the rest after e
 pub filters_more : {K V : Type 0} (bytes_of : K → List ℕ) (old new : List ℕ → Bool) (e : K × V)
     (left all : List (K × V)) → FiltersRest bytes_of old (e ∷ left) all
     → new (bytes_of e.0) ≡ true → ((key : List ℕ) → old key ≡ true → new key ≡ true)

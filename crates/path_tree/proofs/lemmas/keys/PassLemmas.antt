@@ -1,4 +1,4 @@
--- All keys of a tree pass a test, also after an insertion and after removals.
+-- If all keys of a tree pass a test, they still pass it after an insertion and after removals.
 use Rattle.std.proofs.Common.{◌≡◌, ℕ, Bool, true, false, cond, List, [], ◌∷◌}
 use Rattle.std.proofs.Common.{Result, Ok, Err, OnOk, OnErr, Ordering, sym, subst}
 use Rattle.std.proofs.lemmas.List.Elements.{All-cons, All-head, All-nil, All-tail}
@@ -12,7 +12,7 @@ abbrev pub AllKeys : {K V : Type 0} → (K → List ℕ) → (List ℕ → Bool)
 AllKeys bytes_of test entries = AllPass (λ k. test (bytes_of k)) (keys_of entries)
 
 module _ {K V : Type 0} (bytes_of : K → List ℕ) (test : List ℕ → Bool) (keep : K × V → Bool) where
-  -- the keys of entries that a filter keeps pass
+  -- if all keys of the entries pass the test, so do the keys of the entries that a filter keeps
   AllKeys-kept : (entries : List (K × V)) → AllKeys bytes_of test entries
       → AllKeys bytes_of test (filter keep entries)
   AllKeys-kept [] all = all
@@ -27,7 +27,8 @@ module _ {K V : Type 0} (bytes_of : K → List ℕ) (test : List ℕ → Bool) (
 
 module _ {K V : Type 0} (bytes_of : K → List ℕ) (test : List ℕ → Bool) (old new : List (K × V))
     (all : AllKeys bytes_of test old) where
-  -- after an insertion, whether it succeeded or not
+  -- if all old keys and the inserted key pass the test, all keys pass it after the insertion,
+  -- whether it succeeded or not
   pub AllKeys-insert : {A E : Type 0} (cmp : K → K → Ordering) (key : K) (x : V)
       → test (bytes_of key) ≡ true → (r : Result A E)
       → OnOk r (new ≡ insert_entry cmp old key x) → OnErr r (new ≡ old)
@@ -37,22 +38,23 @@ module _ {K V : Type 0} (bytes_of : K → List ℕ) (test : List ℕ → Bool) (
       (All-keys-insert_entry cmp key x (λ k. test (bytes_of k) ≡ true) old all is)
   AllKeys-insert cmp key x is (Err e) ok err = subst (AllKeys bytes_of test) (sym err) all
 
-  -- after a removal
+  -- if all old keys pass the test, all keys pass it after a removal
   pub AllKeys-remove : (is_it : K → Bool) → new ≡ remove_entry is_it old
       → AllKeys bytes_of test new
   AllKeys-remove is_it is =
       subst (AllKeys bytes_of test) (sym is)
       (All-map-remove_entry is_it (λ e. e.0) (λ k. test (bytes_of k) ≡ true) old all)
 
-  -- after some entries were taken away
+  -- if all old keys pass the test, and a filter kept the new entries, all new keys pass the test
   pub AllKeys-filter : (keep : K × V → Bool) → new ≡ filter keep old → AllKeys bytes_of test new
   AllKeys-filter keep is =
       subst (AllKeys bytes_of test) (sym is) (AllKeys-kept bytes_of test keep old all)
 
--- a test that more keys pass
+-- two tests, `test` and `more`: each key that passes `test` passes `more`
 module _ {K V : Type 0} (bytes_of : K → List ℕ) (test more : List ℕ → Bool)
     (wider : (key : List ℕ) → test key ≡ true → more key ≡ true) where
-  -- keys that pass a test pass a wider one
+  -- if all keys of the entries pass `test`, and each key that passes `test` passes `more`, all keys
+  -- of the entries pass `more`
   pub AllKeys-wider : (entries : List (K × V)) → AllKeys bytes_of test entries
       → AllKeys bytes_of more entries
   AllKeys-wider [] all = All-nil (λ k. more (bytes_of k) ≡ true)
@@ -65,7 +67,7 @@ module _ {K V : Type 0} (bytes_of : K → List ℕ) (test more : List ℕ → Bo
 -- a test that each key passes
 module _ {K V : Type 0} (bytes_of : K → List ℕ) (test : List ℕ → Bool)
     (passes : (key : List ℕ) → test key ≡ true) where
-  -- all keys pass a test that each passes
+  -- if each key passes the test, all keys of the entries pass it
   pub AllKeys-always : (entries : List (K × V)) → AllKeys bytes_of test entries
   AllKeys-always [] = All-nil (λ k. test (bytes_of k) ≡ true)
   AllKeys-always (e ∷ entries) =

@@ -1,4 +1,5 @@
--- A tree by keys is a table by values: look-ups, insertions, removals, and values that are written.
+-- The rows of a tree: the components that its keys represent, with the values. What a key finds,
+-- removes, inserts or writes in the tree, its components find, remove, insert or write in the rows.
 use Rattle.std.proofs.Common.{◌≡◌, ℕ, Bool, true, false, cond, List, [], ◌∷◌, map, Some, refl, ap}
 use Rattle.std.proofs.Common.{Ordering, Less, Equal, Greater, ◌∙◌}
 use Rattle.std.proofs.lemmas.List.Elements.{recursion_from_All}
@@ -13,42 +14,43 @@ use Rattle.path_tree.specs.Read.{is_own, key_values}
 use Rattle.path_tree.proofs.lemmas.keys.ReadLemmas.{StandsFor, bytes_cmp-stands}
 
 module _ {K : Type 0} (bytes_of : K → List ℕ) where
-  -- whether a key of the tree has these bytes
+  -- true if the tree's key k has the bytes `key`
   abbrev pub is_it : List ℕ → K → Bool
   is_it key = is_at (λ k. bytes_cmp key (bytes_of k))
 
-  -- the order of two keys of the tree
+  -- the order of two keys of the tree, by their bytes
   abbrev pub keys_cmp : K → K → Ordering
   keys_cmp k l = bytes_cmp (bytes_of k) (bytes_of l)
 
 module _ {K V : Type 0} (bytes_of : K → List ℕ) where
-  -- the values for which each key stands, with what stands there
+  -- the rows of these entries: the components that each key represents, with its value
   abbrev pub rows_by : List (K × V) → List (List Value × V)
   rows_by entries = map (λ e. (key_values (bytes_of e.0), e.1)) entries
 
-  -- all keys are those of paths
+  -- all keys of the entries are keys of paths
   abbrev pub AllOwn : List (K × V) → Type 0
   AllOwn entries = AllByRecursion (λ k. is_own (bytes_of k) ≡ true) (keys_of entries)
 
-  -- all keys are those of paths, as a tree knows it
+  -- all keys of the entries are keys of paths, in the form of the tree's invariant
   abbrev pub Own : List (K × V) → Type 0
   Own entries = AllPass (λ k. is_own (bytes_of k)) (keys_of entries)
 
-  -- the same, by recursion on the entries
+  -- if `Own` holds of the entries, `AllOwn` holds of them
   pub all_own : (entries : List (K × V)) → Own entries → AllOwn entries
   all_own entries own =
       recursion_from_All (λ k. is_own (bytes_of k) ≡ true) (keys_of entries) own
 
 module _ {K : Type 0} (bytes_of : K → List ℕ) (key : List ℕ) (v : List Value)
     (stands : StandsFor key v) where
-  -- two keys are the same if and only if their components are equal
+  -- if `key` represents v, and the bytes of k are the key of a path, they are `key` if and only if
+  -- they represent v
   is_it-is_at : (k : K) → is_own (bytes_of k) ≡ true
       → is_it bytes_of key k ≡ is_at (values_cmp v) (key_values (bytes_of k))
   is_it-is_at k other = ap is_eq (bytes_cmp-stands key v stands (bytes_of k) other)
 
 module _ {K V : Type 0} (bytes_of : K → List ℕ) (key : List ℕ) (v : List Value)
     (stands : StandsFor key v) where
-  -- `lookup-rows_by`, by recursion on the entries
+  -- the same as `lookup-rows_by`, with `AllOwn` instead of `Own`, by recursion on the entries
   lookup-all_own : (entries : List (K × V)) → AllOwn bytes_of entries
       → lookup (is_it bytes_of key) entries
       ≡ lookup (is_at (values_cmp v)) (rows_by bytes_of entries)
@@ -59,13 +61,14 @@ module _ {K V : Type 0} (bytes_of : K → List ℕ) (key : List ℕ) (v : List V
       ∙ ap (λ r. cond (is_at (values_cmp v) (key_values (bytes_of e.0))) (Some e.1) r)
       (lookup-all_own entries all.1)
 
-  -- a look-up by a key finds what the rows have at its values
+  -- if `key` represents v, and all keys of the entries are keys of paths, looking up `key` in the
+  -- entries finds the same as looking up v in their rows
   pub lookup-rows_by : (entries : List (K × V)) → Own bytes_of entries
       → lookup (is_it bytes_of key) entries
       ≡ lookup (is_at (values_cmp v)) (rows_by bytes_of entries)
   lookup-rows_by entries all = lookup-all_own entries (all_own bytes_of entries all)
 
-  -- `remove-rows_by`, by recursion on the entries
+  -- the same as `remove-rows_by`, with `AllOwn` instead of `Own`, by recursion on the entries
   remove-all_own : (entries : List (K × V)) → AllOwn bytes_of entries
       → rows_by bytes_of (remove_entry (is_it bytes_of key) entries)
       ≡ remove_entry (is_at (values_cmp v)) (rows_by bytes_of entries)
@@ -83,13 +86,14 @@ module _ {K V : Type 0} (bytes_of : K → List ℕ) (key : List ℕ) (v : List V
         | false ↦ ap (λ rows. row ∷ rows) (remove-all_own entries all.1)
       ]
 
-  -- a removal by a key removes from the rows at its values
+  -- if `key` represents v, and all keys of the entries are keys of paths, removing `key` from the
+  -- entries removes v from their rows
   pub remove-rows_by : (entries : List (K × V)) → Own bytes_of entries
       → rows_by bytes_of (remove_entry (is_it bytes_of key) entries)
       ≡ remove_entry (is_at (values_cmp v)) (rows_by bytes_of entries)
   remove-rows_by entries all = remove-all_own entries (all_own bytes_of entries all)
 
-  -- `set_value-rows_by`, by recursion on the entries
+  -- the same as `set_value-rows_by`, with `AllOwn` instead of `Own`, by recursion on the entries
   set_value-all_own : (entries : List (K × V)) (x : V) → AllOwn bytes_of entries
       → rows_by bytes_of (set_value (is_it bytes_of key) entries x)
       ≡ set_value (is_at (values_cmp v)) (rows_by bytes_of entries) x
@@ -107,7 +111,8 @@ module _ {K V : Type 0} (bytes_of : K → List ℕ) (key : List ℕ) (v : List V
         | false ↦ ap (λ rows. row ∷ rows) (set_value-all_own entries x all.1)
       ]
 
-  -- a value written by a key is written by its values
+  -- if `key` represents v, and all keys of the entries are keys of paths, writing the value x at
+  -- `key` in the entries writes it at v in their rows
   pub set_value-rows_by : (entries : List (K × V)) (x : V) → Own bytes_of entries
       → rows_by bytes_of (set_value (is_it bytes_of key) entries x)
       ≡ set_value (is_at (values_cmp v)) (rows_by bytes_of entries) x
@@ -115,7 +120,7 @@ module _ {K V : Type 0} (bytes_of : K → List ℕ) (key : List ℕ) (v : List V
 
 module _ {K V : Type 0} (bytes_of : K → List ℕ) (key : K) (v : List Value)
     (stands : StandsFor (bytes_of key) v) where
-  -- `insert-rows_by`, by recursion on the entries
+  -- the same as `insert-rows_by`, with `AllOwn` instead of `Own`, by recursion on the entries
   insert-all_own : (entries : List (K × V)) (x : V) → AllOwn bytes_of entries
       → rows_by bytes_of (insert_entry (keys_cmp bytes_of) entries key x)
       ≡ insert_entry values_cmp (rows_by bytes_of entries) v x
@@ -136,7 +141,8 @@ module _ {K V : Type 0} (bytes_of : K → List ℕ) (key : K) (v : List Value)
         | Greater ↦ ap (λ rows. row ∷ rows) (insert-all_own entries x all.1)
       ]
 
-  -- an insertion by a key inserts into the rows at its values
+  -- if `key` represents v, and all keys of the entries are keys of paths, inserting x at `key` into
+  -- the entries inserts it at v into their rows
   pub insert-rows_by : (entries : List (K × V)) (x : V) → Own bytes_of entries
       → rows_by bytes_of (insert_entry (keys_cmp bytes_of) entries key x)
       ≡ insert_entry values_cmp (rows_by bytes_of entries) v x

@@ -1,4 +1,5 @@
--- The entries whose keys lie in the range of a base's key are those under the base.
+-- Keys that start with the key of a base, and the rows of entries that a test keeps or that are
+-- sorted.
 use Rattle.std.proofs.Common.{◌≡◌, ◌∙◌, ◌&&◌, ℕ, Bool, true, false, cond, List, [], ◌∷◌}
 use Rattle.std.proofs.Common.{Some, None, Ordering, Less, Equal, Greater, IfSome}
 use Rattle.std.proofs.Common.{ap, append-nil, not, refl, sym, subst, subst₂, is_gt, is_le, arith}
@@ -22,16 +23,16 @@ use Rattle.path_tree.specs.Read.{is_own, key_values, values_from}
 use Rattle.path_tree.proofs.lemmas.keys.ReadLemmas.{bytes_cmp-own, own-is, own-values}
 use Rattle.path_tree.proofs.lemmas.keys.RowLemmas.{AllOwn, Own, all_own, keys_cmp, rows_by}
 
--- a key begins another exactly if its values begin the other's
+-- two keys of paths: one is a prefix of the other if and only if its components are
 module _ (k l : List ℕ) (own : is_own k ≡ true) (other : is_own l ≡ true) where
-  -- if the components begin the other's, so do the bytes
+  -- if the components of k are a prefix of those of l, k is a prefix of l
   pub key_begins : IsPrefixOf (key_values k) (key_values l) → IsPrefixOf k l
   key_begins begins =
       subst₂ IsPrefixOf (own-is k own) (own-is l other)
       (begins-key_of _ _
       (subst₂ IsPrefixOf (sym (own-values k own)) (sym (own-values l other)) begins))
 
-  -- if the bytes begin the other's, so do the components
+  -- if k is a prefix of l, the components of k are a prefix of those of l
   pub values_begin : IsPrefixOf k l → IsPrefixOf (key_values k) (key_values l)
   values_begin begins =
       let s = spelling_of (key_values k) in
@@ -40,29 +41,29 @@ module _ (k l : List ℕ) (own : is_own k ≡ true) (other : is_own l ≡ true) 
       subst₂ IsPrefixOf (own-values k own) (own-values l other)
       (key_of-begins _ _ (values-coded s) (values-coded t) both.0 both.1)
 
--- what is less is not at least
+-- if p is `Less`, and o is p reversed, the test `is_le` is false of o
 pub less_not_le : (o : Ordering) (p : Ordering) → o ≡ ordering_reverse p
     → p ≡ Less → not (is_le o) ≡ true
 less_not_le o p is less = ap (λ o. not (is_le o)) (is ∙ ap ordering_reverse less)
 
--- what is not at least is less
+-- if the test `is_le` is false of p reversed, p is `Less`
 pub less_from_not_le : (p : Ordering) → not (is_le (ordering_reverse p)) ≡ true → p ≡ Less
 less_from_not_le Less h = refl
 less_from_not_le Equal h = absurd (let e = h in cc)
 less_from_not_le Greater h = absurd (let e = h in cc)
 
--- two tests that are true are true together
+-- if p and q are true, both are true together
 pub both_true : (p q : Bool) → p ≡ true → q ≡ true → (p && q) ≡ true
 both_true true true h k = refl
 both_true true false h k = k
 both_true false q h k = h
 
--- of two tests that are true together, the first is true
+-- if p and q are true together, p is true
 pub first_true : (p q : Bool) → (p && q) ≡ true → p ≡ true
 first_true true q h = refl
 first_true false q h = h
 
--- and the second
+-- if p and q are true together, q is true
 pub second_true : (p q : Bool) → (p && q) ≡ true → q ≡ true
 second_true true true h = refl
 second_true true false h = h
@@ -109,7 +110,7 @@ all-under base none v =
 
 module _ {K V : Type 0} (bytes_of : K → List ℕ) (test : K → Bool) (keep : List Value → Bool)
     (is : (k : K) → is_own (bytes_of k) ≡ true → test k ≡ keep (key_values (bytes_of k))) where
-  -- `filter-rows_by`, by recursion on the entries
+  -- the same as `filter-rows_by`, with `AllOwn` instead of `Own`, by recursion on the entries
   filter-all_own : (entries : List (K × V)) → AllOwn bytes_of entries
       → rows_by bytes_of (filter (λ e. test e.0) entries)
       ≡ filter (λ row. keep row.0) (rows_by bytes_of entries)
@@ -125,14 +126,16 @@ module _ {K V : Type 0} (bytes_of : K → List ℕ) (test : K → Bool) (keep : 
         | false ↦ filter-all_own entries all.1
       ]
 
-  -- the entries whose keys pass a test of their values are the rows that pass it
+  -- if `test` of a key of a path is `keep` of its components, the rows of the entries that `test`
+  -- keeps are the rows that `keep` keeps
   pub filter-rows_by : (entries : List (K × V)) → Own bytes_of entries
       → rows_by bytes_of (filter (λ e. test e.0) entries)
       ≡ filter (λ row. keep row.0) (rows_by bytes_of entries)
   filter-rows_by entries all = filter-all_own entries (all_own bytes_of entries all)
 
 module _ {K V : Type 0} (bytes_of : K → List ℕ) where
-  -- what is greater by its bytes is greater by its components
+  -- if k is less than all keys of the entries, and all of them are keys of paths, the components of
+  -- k are less than those of all rows
   behind-all_own : (k : K) (entries : List (K × V)) → is_own (bytes_of k) ≡ true
       → AllOwn bytes_of entries
       → AllByRecursion (λ l. keys_cmp bytes_of k l ≡ Less) (keys_of entries)
@@ -144,7 +147,7 @@ module _ {K V : Type 0} (bytes_of : K → List ℕ) where
     behind-all_own k entries own all.1 behind.1,
   )
 
-  -- `sorted-rows_by`, by recursion on the entries
+  -- the same as `sorted-rows_by`, with `AllOwn` instead of `Own`, by recursion on the entries
   sorted-all_own : (entries : List (K × V)) → AllOwn bytes_of entries
       → IsStrictlySortedBy (keys_cmp bytes_of) (keys_of entries)
       → IsStrictlySortedBy values_cmp (keys_of (rows_by bytes_of entries))
@@ -153,13 +156,14 @@ module _ {K V : Type 0} (bytes_of : K → List ℕ) where
   sorted-all_own (e ∷ entries) all sorted =
       (behind-all_own e.0 entries all.0 all.1 sorted.0, sorted-all_own entries all.1 sorted.1)
 
-  -- if the keys ascend, so do the rows
+  -- if all keys of the entries are keys of paths, and strictly increasing, the components of the
+  -- rows are strictly increasing
   pub sorted-rows_by : (entries : List (K × V)) → Own bytes_of entries
       → IsStrictlySortedBy (keys_cmp bytes_of) (keys_of entries)
       → IsStrictlySortedBy values_cmp (keys_of (rows_by bytes_of entries))
   sorted-rows_by entries all = sorted-all_own entries (all_own bytes_of entries all)
 
--- a key is not greater than the end of its range
+-- if `end` is the end of the range of `base`, `base` is not greater than `end`
 pub forward : (base end : List ℕ) → end_of base ≡ Some end → is_gt (bytes_cmp base end) ≡ false
 forward base end ends =
     let lies = (begins-lies_under base base).0 ([], append-nil base) in

@@ -1,5 +1,5 @@
--- The entries that two trees have with different values, one entry more: it is one of them, or it
--- is not.
+-- The entries that two trees have with different values: their keys are sorted, and one more entry
+-- is one of them only if its two values differ.
 use Rattle.std.proofs.Common.{◌≡◌, ◌∙◌, ℕ, Bool, true, false, cond, List, [], ◌∷◌, None}
 use Rattle.std.proofs.Common.{Some, Less, ap, map, not, refl}
 use Rattle.std.specs.Borrow.{Bor}
@@ -16,14 +16,14 @@ use Rattle.path_tree.specs.Rows.{entry_at}
 abbrev pub both_keys : {V W : Type 0} → List (List ℕ × V × W) → List (List ℕ)
 both_keys both = map (λ b. b.0) both
 
--- the keys of borrowed entries
+-- the keys of borrowed entries with two values are the keys of the entries
 pub both_keys-lent : {V W : Type 0} (both : List (Bor (List ℕ) × Bor V × Bor W))
     → map (λ b. b.0.now) both ≡ both_keys (map lent_both both)
 both_keys-lent [] = refl
 both_keys-lent (b ∷ both) = ap (λ l. b.0.now ∷ l) (both_keys-lent both)
 
 module _ {V W : Type 0} (other : List (List ℕ × W)) where
-  -- what holds of all keys holds of those that the others have too
+  -- if P holds of all keys of es, it holds of the keys of es that `other` has too
   all_in_both : (P : List ℕ → Type 0) → (es : List (List ℕ × V)) → AllByRecursion P (keys_of es)
       → AllByRecursion P (both_keys (entries_in_both other es))
   all_in_both P [] all = tt
@@ -34,7 +34,7 @@ module _ {V W : Type 0} (other : List (List ℕ × W)) where
         | Some y ↦ (all.0, all_in_both P es all.1)
       ]
 
-  -- the entries in both are sorted
+  -- if the keys of es are strictly increasing, so are the keys of es that `other` has too
   sorted_in_both : (es : List (List ℕ × V)) → IsStrictlySortedBy bytes_cmp (keys_of es)
       → IsStrictlySortedBy bytes_cmp (both_keys (entries_in_both other es))
   unfolding IsStrictlySortedBy
@@ -48,7 +48,7 @@ module _ {V W : Type 0} (other : List (List ℕ × W)) where
       ]
 
 module _ {V W : Type 0} (keep : (List ℕ × V × W) → Bool) where
-  -- what holds of all keys holds of those that a filter keeps
+  -- if P holds of all keys, it holds of the keys of the entries that a filter keeps
   all_both : (P : List ℕ → Type 0) → (both : List (List ℕ × V × W))
       → AllByRecursion P (both_keys both) → AllByRecursion P (both_keys (filter keep both))
   all_both P [] all = tt
@@ -56,7 +56,7 @@ module _ {V W : Type 0} (keep : (List ℕ × V × W) → Bool) where
       (λ is. rw is (all.0, all_both P both all.1))
       (λ fails. rw fails (all_both P both all.1))
 
-  -- what a filter keeps is sorted
+  -- if the keys are strictly increasing, so are the keys of the entries that a filter keeps
   sorted_both : (both : List (List ℕ × V × W)) → IsStrictlySortedBy bytes_cmp (both_keys both)
       → IsStrictlySortedBy bytes_cmp (both_keys (filter keep both))
   unfolding IsStrictlySortedBy
@@ -66,7 +66,7 @@ module _ {V W : Type 0} (keep : (List ℕ × V × W) → Bool) where
       (all_both (λ l. bytes_cmp b.0 l ≡ Less) both sorted.0, sorted_both both sorted.1))
       (λ fails. rw fails (sorted_both both sorted.1))
 
--- the changed entries are sorted
+-- if the keys of es are strictly increasing, so are the keys of the changed entries
 pub sorted-changed : {V : Type 0} (eq : V → V → Bool) (other es : List (List ℕ × V))
     → IsStrictlySortedBy bytes_cmp (keys_of es)
     → IsStrictlySortedBy bytes_cmp (both_keys (entries_changed eq other es))
@@ -76,7 +76,8 @@ sorted-changed eq other es sorted =
 
 module _ {V : Type 0} (eq : V → V → Bool) (other : List (List ℕ × V)) (e : List ℕ × V)
     (es : List (List ℕ × V)) where
-  -- an entry whose key the others have is one of them if the values are not equal
+  -- if `other` has the value y at the key of e, the changed entries of e and es are those of es,
+  -- after e with both values if y is not equal to the value of e
   with_found : (y : V) → entry_at e.0 other ≡ Some y
       → entries_changed eq other (e ∷ es)
       ≡ cond (not (eq e.1 y)) ((e.0, e.1, y) ∷ entries_changed eq other es)
@@ -85,21 +86,23 @@ module _ {V : Type 0} (eq : V → V → Bool) (other : List (List ℕ × V)) (e 
       ap (λ o. filter (λ (both : List ℕ × V × V). not (eq both.1 both.2))
       (cons_option (option_map (λ y. (e.0, e.1, y)) o) (entries_in_both other es))) is
 
-  -- an entry whose key the others lack is not one of them
+  -- if `other` lacks the key of e, the changed entries of e and es are those of es
   pub absent_entry : entry_at e.0 other ≡ None
       → entries_changed eq other (e ∷ es) ≡ entries_changed eq other es
   absent_entry is =
       ap (λ o. filter (λ (both : List ℕ × V × V). not (eq both.1 both.2))
       (cons_option (option_map (λ y. (e.0, e.1, y)) o) (entries_in_both other es))) is
 
-  -- nor is an entry for which the others have an equal value
+  -- if `other` has the value y at the key of e, and y is equal to the value of e, the changed
+  -- entries of e and es are those of es
   pub equal_entry : (y : V) → entry_at e.0 other ≡ Some y → eq e.1 y ≡ true
       → entries_changed eq other (e ∷ es) ≡ entries_changed eq other es
   equal_entry y is same = with_found y is
       ∙ ap (λ b. cond (not b) ((e.0, e.1, y) ∷ entries_changed eq other es)
       (entries_changed eq other es)) same
 
-  -- any other entry is the first of them
+  -- if `other` has the value y at the key of e, and y is not equal to the value of e, the changed
+  -- entries of e and es are e with both values, and then those of es
   pub changed_entry : (y : V) → entry_at e.0 other ≡ Some y → eq e.1 y ≡ false
       → entries_changed eq other (e ∷ es) ≡ (e.0, e.1, y) ∷ entries_changed eq other es
   changed_entry y is differ = with_found y is

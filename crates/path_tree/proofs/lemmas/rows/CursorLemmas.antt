@@ -1,4 +1,4 @@
--- A walk over sorted entries, past keys that increase: what it passes is found at no later key.
+-- A walk over sorted entries that finds increasing keys: an entry that it passes has no later key.
 use Rattle.std.proofs.Common.{◌≡◌, ◌∙◌, ℕ, cond, List, [], ◌∷◌, Option, Some, None, true, false, ap}
 use Rattle.std.proofs.Common.{refl, subst, sym, is_gt, Ordering, Less, Equal, Greater}
 use Rattle.std.proofs.lemmas.Cmp.{alike_right, nat_list_cmp_total, tied_back, tied_itself}
@@ -18,25 +18,26 @@ use Rattle.path_tree.proofs.lemmas.rows.WalkLemmas.{sorted_first, sorted_others}
 abbrev items_of : Key → List ℕ
 items_of k = k.items
 
--- a look-up by a key's bytes finds the value at these bytes
+-- looking up the bytes `key` in the entries finds the value that the entries have at these bytes
 pub entry_at-lookup : {V : Type 0} (key : List ℕ) (es : List (Key × V))
     → lookup (is_it items_of key) es ≡ entry_at key (key_entries es)
 entry_at-lookup key [] = refl
 entry_at-lookup key (e ∷ es) =
     ap (cond (is_it items_of key e.0) (Some e.1)) (entry_at-lookup key es)
 
--- both have the same value at each key that is not less than this one
+-- `now` and `old` have the same value at each key that is not less than `key`
 abbrev pub FindsSame : {V : Type 0} → List ℕ → List (List ℕ × V) → List (List ℕ × V) → Type 0
 FindsSame key old now =
     (q : List ℕ) → is_gt (bytes_cmp key q) ≡ false → entry_at q now ≡ entry_at q old
 
--- what a call of `next` returns is the first of the entries that remained
+-- the entry that `next` returns, if any, and the entries that remain after the call are the entries
+-- before the call
 pub entries_from-next : {V : Type 0} (next : Option (Bor Key × Bor V)) (old new : List (Key × V))
     → TakesFirst deref_pair old next new → entries_from next new ≡ old
 entries_from-next None old new takes = sym takes.0
 entries_from-next (Some first) old new takes = sym takes
 
--- if a call of `next` returns an entry, there was one
+-- if no entry is left before a call of `next`, it doesn't return one
 pub taken-some : {V : Type 0} (old : List (Key × V)) (next : Option (Bor Key × Bor V))
     (new : List (Key × V)) → TakesFirst deref_pair old next new → key_entries old ≡ []
     → is_some next ≡ true → ⊥
@@ -44,7 +45,8 @@ taken-some old None new takes empty some = let d = some in cc
 taken-some old (Some first) new takes empty some =
     let d = sym empty ∙ ap key_entries takes in cc
 
--- what remains of a walk is its next entry, and what remains after a call of `next`
+-- the entries left in a walk are its next entry, `is`, and the entries that are left after the
+-- following call of `next`
 pub entries_from-step : {V : Type 0} (first : Option (Bor Key × Bor V)) (rest : List (Key × V))
     (is : Bor Key × Bor V) (next : Option (Bor Key × Bor V)) (new : List (Key × V))
     → first ≡ Some is → TakesFirst deref_pair rest next new
@@ -53,7 +55,7 @@ entries_from-step first rest is next new first_is takes =
     ap (λ f. entries_from f rest) first_is
     ∙ ap (λ es. (is.0.now, is.1.now) ∷ es) (sym (entries_from-next next rest new takes))
 
--- a key that is less than another is less than each that is not less than that
+-- if e is less than `key`, it is less than each q that is not less than `key`
 less_later : (e key q : List ℕ) → bytes_cmp e key ≡ Less → is_gt (bytes_cmp key q) ≡ false
     → bytes_cmp e q ≡ Less
 less_later e key q less later = by (bytes_cmp key q) refl
@@ -64,17 +66,18 @@ less_later e key q less later = by (bytes_cmp key q) refl
     by Greater is = absurd (let h = sym later ∙ ap is_gt is in cc)
 
 module _ {V : Type 0} (e : List ℕ × V) (es : List (List ℕ × V)) (key : List ℕ) where
-  -- an entry whose key is less is not found
+  -- if the key of e is less than `key`, putting e before es doesn't change the value at `key`
   passed : bytes_cmp e.0 key ≡ Less → entry_at key (e ∷ es) ≡ entry_at key es
   passed less = ap (λ o. cond (is_eq o) (Some e.1) (entry_at key es))
       (nat_list_cmp_total.antisymm key e.0 ∙ ap ordering_reverse less)
 
-  -- the first entry is found at its key
+  -- if the key of e is equal to `key`, e and es have the value of e at `key`
   found : bytes_cmp e.0 key ≡ Equal → entry_at key (e ∷ es) ≡ Some e.1
   found tied = ap (λ o. cond (is_eq o) (Some e.1) (entry_at key es))
       (tied_back nat_list_cmp_total e.0 key tied)
 
-  -- nothing is found at a key that is less than the first
+  -- if the entries are sorted, and the key of the first one is greater than `key`, they have no
+  -- value at `key`
   none_found : IsStrictlySortedBy bytes_cmp (keys_of (e ∷ es)) → bytes_cmp e.0 key ≡ Greater
       → entry_at key (e ∷ es) ≡ None
   none_found sorted greater =
@@ -84,37 +87,41 @@ module _ {V : Type 0} (e : List ℕ × V) (es : List (List ℕ × V)) (key : Lis
 
 module _ {V : Type 0} (key : List ℕ) (old : List (List ℕ × V)) (e : List ℕ × V)
     (es : List (List ℕ × V)) (h : FindsSame key old (e ∷ es)) where
-  -- passing an entry whose key is less changes nothing for keys that are not less
+  -- if the key of e is less than `key`, leaving e out changes no value at a key that is not less
+  -- than `key`
   pub same_more : bytes_cmp e.0 key ≡ Less → FindsSame key old es
   same_more less q later = sym (passed e es q (less_later e.0 key q less later)) ∙ h q later
 
 module _ {V : Type 0} (key : List ℕ) (old now : List (List ℕ × V)) (h : FindsSame key old now) where
-  -- what the remaining entries have at the key is what all have there
+  -- the value that the remaining entries have at `key` is the value that all entries have there
   value_is : (o : Option V) → entry_at key now ≡ o → o ≡ entry_at key old
   value_is o is = sym is ∙ h key (ap is_gt (tied_itself nat_list_cmp_total key))
 
-  -- if the first remaining entry is at the key, its value is the value there
+  -- if the first remaining entry has the key `key`, its value is the value that all entries have
+  -- there
   pub value_first : (e : List ℕ × V) (es : List (List ℕ × V)) → now ≡ e ∷ es
       → bytes_cmp e.0 key ≡ Equal → Some e.1 ≡ entry_at key old
   value_first e es is tied =
       value_is (Some e.1) (ap (entry_at key) is ∙ found e es key tied)
 
-  -- if the first remaining key is greater, there is no value
+  -- if the key of the first remaining entry is greater than `key`, there is no value at `key`
   pub value_passed : (e : List ℕ × V) (es : List (List ℕ × V)) → now ≡ e ∷ es
       → IsStrictlySortedBy bytes_cmp (keys_of (e ∷ es)) → bytes_cmp e.0 key ≡ Greater
       → None ≡ entry_at key old
   value_passed e es is sorted greater =
       value_is None (ap (entry_at key) is ∙ none_found e es key sorted greater)
 
-  -- if no entry remains, there is no value
+  -- if no entry remains, there is no value at `key`
   pub value_at_end : now ≡ [] → None ≡ entry_at key old
   value_at_end is = value_is None (ap (entry_at key) is)
 
-  -- at greater keys the remaining entries have what all had
+  -- at each key that is greater than `key`, the remaining entries have the value that all entries
+  -- have
   pub greater_same : (q : List ℕ) → bytes_cmp key q ≡ Less → entry_at q now ≡ entry_at q old
   greater_same q less = h q (ap is_gt less)
 
-  -- also without the first entry, if that is at the key
+  -- if the first remaining entry has the key `key`, the entries after it have, at each key that is
+  -- greater than `key`, the value that all entries have
   pub greater_rest : (e : List ℕ × V) (es : List (List ℕ × V)) → now ≡ e ∷ es
       → bytes_cmp e.0 key ≡ Equal → (q : List ℕ) → bytes_cmp key q ≡ Less
       → entry_at q es ≡ entry_at q old
@@ -122,7 +129,7 @@ module _ {V : Type 0} (key : List ℕ) (old now : List (List ℕ × V)) (h : Fin
       sym (ap (entry_at q) is ∙ passed e es q (nat_list_cmp_total.congr e.0 key q tied ∙ less))
       ∙ h q (ap is_gt less)
 
--- the rest of sorted entries is sorted
+-- if the sorted entries `now` are e and then es, es is sorted
 pub sorted_rest_from : {V : Type 0} (now : List (Key × V)) (e : Key × V) (es : List (Key × V))
     → now ≡ e ∷ es → IsStrictlySortedBy (keys_cmp items_of) (keys_of now)
     → IsStrictlySortedBy (keys_cmp items_of) (keys_of es)
@@ -130,19 +137,19 @@ sorted_rest_from now e es is sorted =
     sorted_others (keys_cmp items_of) e es
     (subst (λ l. IsStrictlySortedBy (keys_cmp items_of) (keys_of l)) is sorted)
 
--- what the tests of an order show
+-- if the test `is_gt` is true of an order, the order is `Greater`
 pub greater_is : (o : Ordering) → is_gt o ≡ true → o ≡ Greater
 greater_is Greater is = refl
 greater_is Less is = absurd (let e = is in cc)
 greater_is Equal is = absurd (let e = is in cc)
 
--- the test of equality is true only of equal keys
+-- if the test `is_eq` is true of an order, the order is `Equal`
 pub equal_is : (o : Ordering) → is_eq o ≡ true → o ≡ Equal
 equal_is Equal is = refl
 equal_is Less is = absurd (let e = is in cc)
 equal_is Greater is = absurd (let e = is in cc)
 
--- if both tests fail, the first key is less
+-- if the tests `is_gt` and `is_eq` are both false of an order, the order is `Less`
 pub less_is : (o : Ordering) → is_gt o ≡ false → is_eq o ≡ false → o ≡ Less
 less_is Less up other = refl
 less_is Equal up other = absurd (let e = other in cc)

@@ -1,5 +1,5 @@
--- The entries of a tree by the bytes of their keys: all keys are keys of paths, and those of a
--- range are those that start with its base.
+-- The entries of a tree by the bytes of their keys: all keys are keys of paths, and the keys in the
+-- range of a base are those that start with the base.
 use Rattle.std.proofs.Common.{◌≡◌, ◌∙◌, ◌&&◌, ℕ, Bool, true, false, cond, List, [], ◌∷◌, Some, None}
 use Rattle.std.proofs.Common.{zero, suc, arith, length, IfSome, Less, ap, eqb, is_le, map, not}
 use Rattle.std.proofs.Common.{refl, subst, sym}
@@ -30,7 +30,7 @@ use Rattle.path_tree.proofs.lemmas.rows.ManyLemmas.{starts_with-under}
 abbrev items_of : Key → List ℕ
 items_of k = k.items
 
--- keys that are greater have greater bytes
+-- if k is less than all keys of es, its bytes are less than the bytes of these keys
 greater_entries : {V : Type 0} (k : Key) (es : List (Key × V))
     → AllByRecursion (λ l. keys_cmp items_of k l ≡ Less) (keys_of es)
     → AllByRecursion (λ l. bytes_cmp k.items l ≡ Less) (keys_of (key_entries es))
@@ -46,20 +46,20 @@ sorted-key_entries [] sorted = tt
 sorted-key_entries (e ∷ es) sorted =
     (greater_entries e.0 es sorted.0, sorted-key_entries es sorted.1)
 
--- `keys-own`, by recursion on the entries
+-- the same as `keys-own`, with both statements by recursion on the entries
 all_keys : {V : Type 0} (es : List (Key × V)) → AllOwn items_of es
     → AllByRecursion IsKey (keys_of (key_entries es))
 all_keys [] own = tt
 all_keys (e ∷ es) own =
     ((spelling_of (key_values e.0.items), own-is e.0.items own.0), all_keys es own.1)
 
--- the bytes of each key of a tree are the key of a path
+-- if all keys of the entries are `Own`, the bytes of each key are the key of a path
 pub keys-own : {V : Type 0} (es : List (Key × V)) → Own items_of es
     → All IsKey (keys_of (key_entries es))
 keys-own es own =
     All-from_recursion IsKey (keys_of (key_entries es)) (all_keys es (all_own items_of es own))
 
--- `is_key-entry`, by recursion on the entries
+-- the same as `is_key-entry`, with `AllOwn` instead of `Own`, by recursion on the entries
 is_key-all_own : {V : Type 0} (es : List (Key × V)) → AllOwn items_of es → (i : ℕ) (e : Key × V)
     → slice_get es i ≡ Some e → IsKey e.0.items
 is_key-all_own {V} [] all i e is =
@@ -70,12 +70,12 @@ is_key-all_own {V} (x ∷ es) all zero e is =
     (spelling_of (key_values x.0.items), own-is x.0.items all.0)
 is_key-all_own (x ∷ es) all (suc i) e is = is_key-all_own es all.1 i e is
 
--- the key of an entry of a tree is the key of a path
+-- if all keys of the entries are `Own`, the bytes of the key at index i are the key of a path
 pub is_key-entry : {V : Type 0} (es : List (Key × V)) → Own items_of es → (i : ℕ) (e : Key × V)
     → slice_get es i ≡ Some e → IsKey e.0.items
 is_key-entry es own = is_key-all_own es (all_own items_of es own)
 
--- the rows of entries are the components that the bytes of their keys represent
+-- the components that the bytes of the keys represent, with the values, are the rows of the entries
 pub rows-key_entries : {V : Type 0} (es : List (Key × V))
     → map (λ e. (key_values e.0, e.1)) (key_entries es) ≡ key_rows es
 rows-key_entries [] = refl
@@ -83,7 +83,8 @@ rows-key_entries (e ∷ es) = ap (λ rows. (key_values e.0.items, e.1) ∷ rows)
 
 module _ {V : Type 0} (test : Key → Bool) (keep : List ℕ → Bool)
     (same : (k : Key) → test k ≡ keep k.items) where
-  -- entries whose keys pass a test of their bytes
+  -- if `test` of each key is `keep` of its bytes, a filter by `test` keeps the entries that a
+  -- filter by `keep` keeps
   pub filter-key_entries : (es : List (Key × V))
       → key_entries (filter (λ e. test e.0) es) ≡ filter (λ e. keep e.0) (key_entries es)
   filter-key_entries [] = refl
@@ -97,7 +98,8 @@ module _ {V : Type 0} (test : Key → Bool) (keep : List ℕ → Bool)
         | false ↦ filter-key_entries es
       ]
 
--- bytes are in the range of a base if and only if they start with it
+-- if `end` is the end of the range of `base`, `key` is in this range if and only if it starts with
+-- `base`
 pub between-starts : (base end key : List ℕ) → end_of base ≡ Some end
     → (is_le (bytes_cmp base key) && not (is_le (bytes_cmp end key))) ≡ starts_with eqb key base
 between-starts base end key ends =
@@ -120,7 +122,7 @@ between-starts base end key ends =
     (less_not_le (bytes_cmp end key) (bytes_cmp key end) (nat_list_cmp_total.antisymm end key)
     (subst (λ o. IfSome o (λ end. bytes_cmp key end ≡ Less)) ends lies.1)))
 
--- all bytes start with a base whose range has no end
+-- if the range of `base` has no end, all bytes start with `base`
 pub endless-starts : (base : List ℕ) → end_of base ≡ None → (key : List ℕ)
     → true ≡ starts_with eqb key base
 endless-starts base none key =
@@ -129,7 +131,7 @@ endless-starts base none key =
     ∙ (begins_told key [] (starts_with eqb key []) refl).1 (key, refl))
 
 module _ {V : Type 0} (base : List ℕ) (own : is_own base ≡ true) where
-  -- `rows-entries_under`, by recursion on the entries
+  -- the same as `rows-entries_under`, with `AllOwn` instead of `Own`, by recursion on the entries
   under-all_own : (es : List (Key × V)) → AllOwn items_of es
       → map (λ e. (key_values e.0, e.1)) (entries_under base (key_entries es))
       ≡ rows_under (key_values base) (key_rows es)
@@ -147,19 +149,20 @@ module _ {V : Type 0} (base : List ℕ) (own : is_own base ≡ true) where
         | false ↦ under-all_own es all.1
       ]
 
-  -- the rows of the entries whose keys start with a key are the rows under its components
+  -- the rows of the entries whose keys start with `base` are the rows under the components of
+  -- `base`
   pub rows-entries_under : (es : List (Key × V)) → Own items_of es
       → map (λ e. (key_values e.0, e.1)) (entries_under base (key_entries es))
       ≡ rows_under (key_values base) (key_rows es)
   rows-entries_under es all = under-all_own es (all_own items_of es all)
 
-  -- if no key starts with a key, no row is under its components
+  -- if no key of the entries starts with `base`, no row is under the components of `base`
   pub rows_under-none : (es : List (Key × V)) → Own items_of es
       → entries_under base (key_entries es) ≡ [] → rows_under (key_values base) (key_rows es) ≡ []
   rows_under-none es all none = sym (rows-entries_under es all)
       ∙ ap (map (λ (e : List ℕ × V). (key_values e.0, e.1))) none
 
-  -- if a key starts with a key, a row is under its components
+  -- if no row is under the components of `base`, no key of the entries starts with `base`
   pub rows_under-some : (es : List (Key × V)) → Own items_of es
       → rows_under (key_values base) (key_rows es) ≡ [] → entries_under base (key_entries es) ≡ []
   rows_under-some es all none =

@@ -1,4 +1,5 @@
--- Many entries at once: inserted one after the other, and those whose keys begin with a base's.
+-- Many entries at once: entries inserted one after the other, and entries whose keys start with the
+-- key of a base.
 use Rattle.std.proofs.Common.{◌≡◌, ℕ, List, [], ◌∷◌, ◌++◌, refl, true, eqb, length}
 use Rattle.std.proofs.lemmas.List.{length-map}
 use Rattle.std.specs.BTreeMap.{insert_entry}
@@ -15,7 +16,8 @@ use Rattle.path_tree.specs.Rows.{Key, key_rows}
 use Rattle.path_tree.specs.Read.{is_own, key_values}
 use Rattle.path_tree.proofs.lemmas.keys.UnderLemmas.{key_begins, values_begin}
 
--- to insert several entries and one more is to insert the one more into the rows of the others
+-- inserting the items and then one more is the same as inserting this one into the rows with the
+-- items inserted
 pub inserted_all_snoc : {V : Type 0} (rows : List (List Value × V)) (items : List (Path × V))
     (item : Path × V)
     → inserted_all rows (items ++ item ∷ [])
@@ -24,7 +26,8 @@ inserted_all_snoc rows [] item = refl
 inserted_all_snoc rows (x ∷ items) item =
     inserted_all_snoc (insert_entry values_cmp rows (values x.0.bytes.now) x.1) items item
 
--- a key's bytes begin another's exactly if its values begin the other's
+-- if `base` and `key` are keys of paths, `key` starts with `base` if and only if the components of
+-- `key` start with those of `base`
 pub starts_with-under : (base key : List ℕ) → is_own base ≡ true → is_own key ≡ true
     → starts_with eqb key base ≡ is_under (key_values base) (key_values key)
 starts_with-under base key own other =

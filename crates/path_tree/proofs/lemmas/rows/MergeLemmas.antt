@@ -1,5 +1,5 @@
--- A walk over the entries of one tree, with a cursor in another: the cursor finds what that tree
--- has at the keys that remain.
+-- A walk over the entries of one tree, with a cursor in another tree: at the keys that remain, the
+-- cursor finds what the other tree has.
 use Rattle.std.proofs.Common.{◌≡◌, ◌∙◌, ℕ, List, [], ◌∷◌, ap, Less}
 use Rattle.std.specs.List.{AllByRecursion}
 use Rattle.std.specs.List.Sorted.{IsStrictlySortedBy}
@@ -8,24 +8,25 @@ use Rattle.path_keys.specs.Ranges.{bytes_cmp}
 use Rattle.path_tree.specs.Rows.{entry_at}
 use Rattle.path_tree.proofs.lemmas.rows.WalkLemmas.{sorted_first, sorted_others}
 
--- `now` has at each of the keys what the other entries have
+-- at each of the keys, `now` and `other` have the same value, or none
 abbrev FindsAt : {W : Type 0} → List (List ℕ × W) → List (List ℕ × W) → List (List ℕ) → Type 0
 FindsAt other now keys = AllByRecursion (λ key. entry_at key now ≡ entry_at key other) keys
 
--- the entries that remain are sorted, and the cursor's entries have at their keys what the other
--- tree has
+-- the entries `rest` of the walk are sorted, and `now`, the entries of the cursor, have at their
+-- keys what the other tree has
 pub record Merges {V W : Type 0} (other now : List (List ℕ × W)) (rest : List (List ℕ × V))
     : Type 0 where
   pub sorted : IsStrictlySortedBy bytes_cmp (keys_of rest)
   pub same : FindsAt other now (keys_of rest)
 
--- at first a cursor has what the other tree has, at any keys
+-- if `now` is `other`, both have the same value at each of the keys, or none
 finds_all : {W : Type 0} (other now : List (List ℕ × W)) → now ≡ other → (keys : List (List ℕ))
     → FindsAt other now keys
 finds_all other now is [] = tt
 finds_all other now is (key ∷ keys) = (ap (entry_at key) is, finds_all other now is keys)
 
--- it is so when the walk begins
+-- if the cursor has all entries of the other tree, and the entries of the walk are sorted, `Merges`
+-- holds of both
 pub merges_first : {V W : Type 0} (other now : List (List ℕ × W)) (rest : List (List ℕ × V))
     → now ≡ other → IsStrictlySortedBy bytes_cmp (keys_of rest) → Merges other now rest
 merges_first other now rest is sorted =
@@ -33,14 +34,16 @@ merges_first other now rest is sorted =
 
 module _ {W : Type 0} (other now new : List (List ℕ × W)) (key : List ℕ)
     (greater : (q : List ℕ) → bytes_cmp key q ≡ Less → entry_at q new ≡ entry_at q now) where
-  -- a cursor that passed a key has it still, at greater keys
+  -- if the keys are greater than `key`, and the cursor had at them what the other tree has, it
+  -- still has that after it passed `key`
   finds_still : (keys : List (List ℕ)) → AllByRecursion (λ q. bytes_cmp key q ≡ Less) keys
       → FindsAt other now keys → FindsAt other new keys
   finds_still [] less same = tt
   finds_still (q ∷ keys) less same =
       (greater q less.0 ∙ same.0, finds_still keys less.1 same.1)
 
-  -- and still when the walk has passed the first entry that remains
+  -- if the first entry of the walk has the key `key`, `Merges` holds of the entries after it, and
+  -- of the cursor after it passed `key`
   pub merges_more : {V : Type 0} (x : V) (rest : List (List ℕ × V))
       → Merges other now ((key, x) ∷ rest) → Merges other new rest
   merges_more x rest h = record {

@@ -1,4 +1,4 @@
--- Rows that are put under another base, and those that are removed again.
+-- Rows that are moved under another base, and taken away again if the move fails.
 use Rattle.std.proofs.Common.{◌≡◌, ◌∙◌, ◌⊎◌, inl, inr, Bool, true, false, cond, List, [], ◌∷◌, ◌++◌}
 use Rattle.std.proofs.Common.{ap, ap₂, append_assoc, drop, length, map, not, refl, sym}
 use Rattle.std.proofs.Common.{Ordering, Less, Equal, Greater}
@@ -20,7 +20,7 @@ use Rattle.path_tree.specs.Rows.{rows_outside, rows_under}
 use Rattle.path_tree.proofs.lemmas.rows.WalkLemmas.{all_kept}
 
 module _ {V : Type 0} (v : List Value) (x : V) where
-  -- before rows that are all greater, an insertion puts a row in front
+  -- if v is less than the components of all rows, inserting at v puts a row before them
   insert_first : (rows : List (List Value × V))
       → AllByRecursion (λ w. values_cmp v w ≡ Less) (keys_of rows)
       → insert_entry values_cmp rows v x ≡ (v, x) ∷ rows
@@ -29,7 +29,7 @@ module _ {V : Type 0} (v : List Value) (x : V) where
       ap (λ o. match_ordering o ((v, x) ∷ row ∷ rows) ((row.0, x) ∷ rows)
       (row ∷ insert_entry values_cmp rows v x)) all.0
 
-  -- what is less than a component list is less than all that are greater
+  -- if v is less than w, and w is less than all of vs, v is less than all of vs
   less_all : (w : List Value) → values_cmp v w ≡ Less → (vs : List (List Value))
       → AllByRecursion (λ u. values_cmp w u ≡ Less) vs
       → AllByRecursion (λ u. values_cmp v u ≡ Less) vs
@@ -37,7 +37,8 @@ module _ {V : Type 0} (v : List Value) (x : V) where
   less_all w less (u ∷ vs) all =
       (values_cmp-total.trans v w u less all.0, less_all w less vs all.1)
 
-  -- what is less than all rows and an inserted row is less than all of them
+  -- if w is less than v and than the components of all rows, it is less than those of all rows
+  -- after an insertion at v
   all_insert : (w : List Value) → values_cmp w v ≡ Less → (rows : List (List Value × V))
       → AllByRecursion (λ u. values_cmp w u ≡ Less) (keys_of rows)
       → AllByRecursion (λ u. values_cmp w u ≡ Less) (keys_of (insert_entry values_cmp rows v x))
@@ -51,7 +52,8 @@ module _ {V : Type 0} (v : List Value) (x : V) where
         | Greater ↦ (all.0, all_insert w less rows all.1)
       ]
 
-  -- `sorted-insert`, by the order of the inserted row and the first one
+  -- if the rows are sorted, and stay sorted after an insertion at v, then the same is true with one
+  -- row before them, where o is the order of v and this row
   sorted-by : (row : List Value × V) (rows : List (List Value × V)) (o : Ordering)
       → values_cmp v row.0 ≡ o
       → AllByRecursion (λ u. values_cmp row.0 u ≡ Less) (keys_of rows)
@@ -68,7 +70,7 @@ module _ {V : Type 0} (v : List Value) (x : V) where
     rest,
   )
 
-  -- an insertion keeps rows sorted
+  -- if the rows are sorted, they are sorted after an insertion
   pub sorted-insert : (rows : List (List Value × V)) → IsStrictlySortedBy values_cmp (keys_of rows)
       → IsStrictlySortedBy values_cmp (keys_of (insert_entry values_cmp rows v x))
   unfolding IsStrictlySortedBy
@@ -82,7 +84,7 @@ module _ {V : Type 0} (v : List Value) (x : V) where
     abbrev keep : List (List Value × V) → List (List Value × V)
     keep rows = filter (λ row. q row.0) rows
 
-    -- a row that isn't kept may be inserted before or not
+    -- if v fails the test q, the rows that pass q are the same before and after an insertion at v
     pub filter-other : q v ≡ false → (rows : List (List Value × V))
         → filter (λ row. q row.0) (insert_entry values_cmp rows v x)
         ≡ filter (λ row. q row.0) rows
@@ -104,7 +106,8 @@ module _ {V : Type 0} (v : List Value) (x : V) where
             ∙ sym (ap (λ b. cond b (row ∷ kept) kept) fails)
         by Greater is rest = ap (λ kept. cond (q row.0) (row ∷ kept) kept) rest
 
-    -- a row that is kept may be inserted before or after the others are dropped
+    -- if v passes the test q, inserting at v and then filtering by q leads to the same rows as
+    -- filtering by q and then inserting at v
     pub filter-insert : q v ≡ true → (rows : List (List Value × V))
         → IsStrictlySortedBy values_cmp (keys_of rows)
         → filter (λ row. q row.0) (insert_entry values_cmp rows v x)
@@ -136,14 +139,15 @@ module _ {V : Type 0} (v : List Value) (x : V) where
 
 module _ {V : Type 0} (rows : List (List Value × V))
     (sorted : IsStrictlySortedBy values_cmp (keys_of rows)) where
-  -- rows stay sorted when others are inserted
+  -- if the rows are sorted, they are sorted after others are inserted
   sorted-with : (others : List (List Value × V))
       → IsStrictlySortedBy values_cmp (keys_of (rows_with rows others))
   sorted-with [] = sorted
   sorted-with (row ∷ others) =
       sorted-insert row.0 row.1 (rows_with rows others) (sorted-with others)
 
-  -- others that aren't under a base stay, if what is under it is removed
+  -- if none of `others` is under `base`, inserting them and then removing the rows under `base`
+  -- leads to the same rows as removing these and then inserting `others`
   pub outside-with : (base : List Value) (others : List (List Value × V))
       → AllByRecursion (λ row. is_under base row.0 ≡ false) others
       → rows_outside base (rows_with rows others) ≡ rows_with (rows_outside base rows) others
@@ -153,7 +157,7 @@ module _ {V : Type 0} (rows : List (List Value × V))
       (rows_with rows others) (sorted-with others)
       ∙ ap (λ l. insert_entry values_cmp l row.0 row.1) (outside-with base others all.1)
 
--- what is not there, by a test
+-- if there are no rows under `base`, the test `is_under` is false of each row
 pub none_under : {V : Type 0} (base : List Value) (rows : List (List Value × V))
     → rows_under base rows ≡ [] → AllByRecursion (λ row. is_under base row.0 ≡ false) rows
 none_under base [] none = tt
@@ -161,7 +165,7 @@ none_under base (row ∷ rows) none = by_test (is_under base row.0)
     (λ under. absurd (let e = rw under at none in cc))
     (λ other. (other, none_under base rows (rw other at none)))
 
--- if no row is under base, all are outside
+-- if no row is under `base`, all rows are outside it
 all_outside : {V : Type 0} (base : List Value) (rows : List (List Value × V))
     → AllByRecursion (λ row. is_under base row.0 ≡ false) rows → rows_outside base rows ≡ rows
 all_outside base [] all = refl
@@ -169,7 +173,8 @@ all_outside base (row ∷ rows) all = rw all.0 (ap (λ l. row ∷ l) (all_outsid
 
 module _ {V : Type 0} (to : List Value) (rows : List (List Value × V))
     (free : rows_under to rows ≡ []) where
-  -- others that are under a base go, if what is under it is removed
+  -- if no row is under `to`, and all of `others` are, inserting `others` and then removing the rows
+  -- under `to` leads back to the rows
   pub taken_back : (others : List (List Value × V))
       → AllByRecursion (λ row. is_under to row.0 ≡ true) others
       → rows_outside to (rows_with rows others) ≡ rows
@@ -179,7 +184,7 @@ module _ {V : Type 0} (to : List Value) (rows : List (List Value × V))
       (rows_with rows others)
       ∙ taken_back others all.1
 
-  -- moved rows are under the target
+  -- all rows that are moved to `to` are under `to`
   pub moved_under : (from : List Value) (some : List (List Value × V))
       → AllByRecursion (λ row. is_under to row.0 ≡ true) (moved_rows from to some)
   moved_under from [] = tt
@@ -190,19 +195,20 @@ module _ {V : Type 0} (to : List Value) (rows : List (List Value × V))
       ))
       (λ other. rw other (moved_under from some))
 
--- the last of some rows, if all are under a base
+-- if P holds of all rows, it holds of the last ones
 pub all_last : {V : Type 0} (P : List Value × V → Type 0) (front last : List (List Value × V))
     → AllByRecursion P (front ++ last) → AllByRecursion P last
 all_last P [] last all = all
 all_last P (row ∷ front) last all = all_last P front last all.1
 
--- of two lists, one begins the other also with the same first component before both
+-- if u is v, and one of us and vs is a prefix of the other, then one of the lists is a prefix of
+-- the other after u is put before us, and v before vs
 with_first : (u v : Value) → u ≡ v → (us vs : List Value) → IsPrefixOf us vs ⊎ IsPrefixOf vs us
     → IsPrefixOf (u ∷ us) (v ∷ vs) ⊎ IsPrefixOf (v ∷ vs) (u ∷ us)
 with_first u v first us vs (inl h) = inl (h.0, ap₂ (λ w ws. w ∷ ws) first h.1)
 with_first u v first us vs (inr h) = inr (h.0, ap₂ (λ w ws. w ∷ ws) (sym first) h.1)
 
--- of two beginnings of one list, one begins the other
+-- if us and vs are prefixes of the same list, one of them is a prefix of the other
 either_begins : (us vs x y : List Value) → us ++ x ≡ vs ++ y → IsPrefixOf us vs ⊎ IsPrefixOf vs us
 either_begins [] vs x y same = inl (vs, refl)
 either_begins (u ∷ us) [] x y same = inr (u ∷ us, refl)
@@ -211,12 +217,13 @@ either_begins (u ∷ us) (v ∷ vs) x y same =
     let others : us ++ x ≡ vs ++ y = cc in
     with_first u v first us vs (either_begins us vs x y others)
 
--- what begins a list that begins another begins the other
+-- if us is a prefix of vs, and vs is a prefix of ws, then us is a prefix of ws
 begins_through : (us vs ws : List Value) → IsPrefixOf us vs → IsPrefixOf vs ws → IsPrefixOf us ws
 begins_through us vs ws h k =
     (h.0 ++ k.0, sym (append_assoc us h.0 k.0) ∙ ap (λ l. l ++ k.0) h.1 ∙ k.1)
 
--- bases that don't begin each other: what begins with one doesn't with the other
+-- if `from` is not a prefix of `to`, and v starts with `from`, but not with `to`, then `to`
+-- followed by w doesn't start with `from`
 not_either : (from to v w : List Value) → (IsPrefixOf from to → ⊥) → is_under to v ≡ false
     → IsPrefixOf from v → IsPrefixOf from (to ++ w) → ⊥
 not_either from to v w apart free there begins =
@@ -227,7 +234,8 @@ not_either from to v w apart free there begins =
     by (inr h) =
         let e = sym free ∙ under_from_begins to v (begins_through to from v h there) in cc
 
--- a row that is moved to another base is not under its old one
+-- if `from` is not a prefix of `to`, and v is under `from`, but not under `to`, then `to` followed
+-- by w is not under `from`
 not_under_source : (from to v w : List Value) → (IsPrefixOf from to → ⊥) → is_under to v ≡ false
     → is_under from v ≡ true → is_under from (to ++ w) ≡ false
 not_under_source from to v w apart free under = by_test (is_under from (to ++ w))
@@ -236,7 +244,7 @@ not_under_source from to v w apart free under = by_test (is_under from (to ++ w)
     (λ other. other)
 
 module _ {V : Type 0} (from to : List Value) (apart : IsPrefixOf from to → ⊥) where
-  -- moved rows aren't under the source
+  -- if `from` is not a prefix of `to`, and no row is under `to`, no moved row is under `from`
   pub moved_outside : (rows : List (List Value × V))
       → AllByRecursion (λ row. is_under to row.0 ≡ false) rows
       → AllByRecursion (λ row. is_under from row.0 ≡ false) (moved_rows from to rows)
@@ -248,7 +256,8 @@ module _ {V : Type 0} (from to : List Value) (apart : IsPrefixOf from to → ⊥
       ))
       (λ other. rw other (moved_outside rows free.1))
 
--- one row more: moved, or not under the source
+-- if `row` is under `from`, the moved rows of `row` and `rows` are `row`, moved, and then those of
+-- `rows`
 pub moves_row : {V : Type 0} (from to : List Value) (row : List Value × V)
     (rows : List (List Value × V)) → is_under from row.0 ≡ true
     → moved_rows from to (row ∷ rows) ≡ moved_row from to row ∷ moved_rows from to rows
@@ -256,7 +265,7 @@ moves_row from to row rows under =
     ap (λ b. map (moved_row from to) (cond b (row ∷ rows_under from rows) (rows_under from rows)))
     under
 
--- a row that is not under the source is not moved
+-- if `row` is not under `from`, the moved rows of `row` and `rows` are those of `rows`
 pub leaves_row : {V : Type 0} (from to : List Value) (row : List Value × V)
     (rows : List (List Value × V)) → is_under from row.0 ≡ false
     → moved_rows from to (row ∷ rows) ≡ moved_rows from to rows
@@ -264,7 +273,7 @@ leaves_row from to row rows other =
     ap (λ b. map (moved_row from to) (cond b (row ∷ rows_under from rows) (rows_under from rows)))
     other
 
--- as many rows are moved as are under the source
+-- the number of moved rows is the number of rows under `from`
 pub length-moved : {V : Type 0} (from to : List Value) (rows : List (List Value × V))
     → length (moved_rows from to rows) ≡ length (rows_under from rows)
 length-moved from to rows = length-map (rows_under from rows) (moved_row from to)

@@ -1,4 +1,4 @@
--- Entries that are put into rows, the last one first.
+-- Entries that are inserted into rows, the last one first.
 use Rattle.std.proofs.Common.{◌≡◌, ◌∙◌, true, List, [], ◌∷◌, ◌++◌, ap, append_assoc, append-nil}
 use Rattle.std.proofs.Common.{refl, subst, sym}
 use Rattle.std.specs.BTreeMap.{insert_entry}
@@ -12,13 +12,14 @@ use Rattle.path_tree.specs.Rows.{Key, key_rows}
 use Rattle.path_tree.proofs.lemmas.keys.RowLemmas.{Own, all_own}
 use Rattle.path_tree.proofs.lemmas.rows.WalkLemmas.{all_rest}
 
--- the rows of two lists of entries, one after the other
+-- the rows of es and fs together are the rows of es, and then the rows of fs
 pub key_rows-append : {V : Type 0} (es fs : List (Key × V))
     → key_rows (es ++ fs) ≡ key_rows es ++ key_rows fs
 key_rows-append [] fs = refl
 key_rows-append (e ∷ es) fs = ap (λ l. (key_values e.0.items, e.1) ∷ l) (key_rows-append es fs)
 
--- the last of these entries were put into the rows, and the others are left
+-- `new` is the old rows with the last of all entries inserted, and the entries `left` remain to be
+-- inserted
 pub record PutsLast {V : Type 0} (all : List (Key × V)) (old : List (List Value × V))
     (left : List (Key × V)) (new : List (List Value × V)) : Type 0 where
   pub done : List (Key × V)
@@ -26,7 +27,7 @@ pub record PutsLast {V : Type 0} (all : List (Key × V)) (old : List (List Value
   pub rows : new ≡ rows_with old (key_rows done)
 
 module _ {V : Type 0} (all : List (Key × V)) (old : List (List Value × V)) where
-  -- at first none was put
+  -- before the first insertion, all entries remain to be inserted
   pub puts_none : PutsLast all old all old
   puts_none = record { done = []; split = sym (append-nil all); rows = refl }
 
@@ -48,7 +49,7 @@ module _ {V : Type 0} (all : List (Key × V)) (old : List (List Value × V)) whe
         (h.split ∙ ap (λ l. l ++ h.done) is ∙ append_assoc others ((k, x) ∷ []) h.done)
         (all_own (λ k. k.items) all own))).0
 
-  -- what was put is the end of the rows
+  -- the rows are the old ones with the last rows of all entries inserted
   pub puts_end : (left : List (Key × V)) (new : List (List Value × V)) → PutsLast all old left new
       → (front : List (List Value × V)) × ((last : List (List Value × V))
       × (key_rows all ≡ front ++ last) × (new ≡ rows_with old last))
@@ -57,7 +58,7 @@ module _ {V : Type 0} (all : List (Key × V)) (old : List (List Value × V)) whe
     (key_rows h.done, ap key_rows h.split ∙ key_rows-append left h.done, h.rows),
   )
 
-  -- at the end all were put
+  -- if no entries remain to be inserted, the rows are the old ones with all entries inserted
   pub puts_all : (new : List (List Value × V)) → PutsLast all old [] new
       → new ≡ rows_with old (key_rows all)
   puts_all new h = h.rows ∙ ap (λ l. rows_with old (key_rows l)) (sym h.split)

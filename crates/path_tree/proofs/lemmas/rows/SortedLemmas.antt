@@ -1,4 +1,4 @@
--- Sorted lists: one element more, and two maps that find the same.
+-- Sorted lists: one more element at the end, and two lists in which look-ups find the same.
 use Rattle.std.proofs.Common.{◌≡◌, ◌∙◌, ◌⊎◌, ℕ, cond, List, [], ◌∷◌, ◌++◌, Option, Some, None, ap}
 use Rattle.std.proofs.Common.{ap₂, arith, length, length-append, map, refl, sym, inl, inr, ◌-◌}
 use Rattle.std.proofs.Common.{Ordering, Less, Equal, Greater}
@@ -18,7 +18,7 @@ use Rattle.path_tree.specs.Rows.{Key, key_rows}
 use Rattle.path_tree.specs.Sorted.{rows_in}
 use Rattle.path_tree.proofs.lemmas.keys.RowLemmas.{AllOwn, keys_cmp, rows_by}
 
--- the last element of a list, if there is one
+-- a list is empty or has a last element
 pub last_of : {A : Type 0} (xs : List A) → (xs ≡ [])
     ⊎ ((front : List A) × ((last : A) × (xs ≡ front ++ last ∷ [])))
 last_of [] = inl refl
@@ -30,14 +30,14 @@ last_of (x ∷ xs) = inr (behind (last_of xs))
     behind (inr some) = (x ∷ some.0, (some.1.0, ap (λ l. x ∷ l) some.1.1))
 
 module _ {K V : Type 0} (cmp : K → K → Ordering) (total : IsTotalOrder cmp) (k : K) (x : V) where
-  -- what is less than all keys, and than one more, is less than all of these
+  -- if j is less than k and than all keys of es, it is less than all keys of es with k appended
   all_more : (j : K) → cmp j k ≡ Less → (es : List (K × V))
       → AllByRecursion (λ l. cmp j l ≡ Less) (keys_of es)
       → AllByRecursion (λ l. cmp j l ≡ Less) (keys_of (es ++ (k, x) ∷ []))
   all_more j less [] all = (less, tt)
   all_more j less (e ∷ es) all = (all.0, all_more j less es all.1)
 
-  -- what is greater than the last of sorted keys is greater than the first
+  -- if the last of sorted keys is less than k, the first one is less than k
   last_less : (e : K × V) (es : List (K × V))
       → AllByRecursion (λ l. cmp e.0 l ≡ Less) (keys_of es)
       → ((front : List (K × V)) (last : K × V) → e ∷ es ≡ front ++ last ∷ []
@@ -50,7 +50,7 @@ module _ {K V : Type 0} (cmp : K → K → Ordering) (total : IsTotalOrder cmp) 
       (last_less f es sorted.0
       (λ front last is. greater (e ∷ front) last (ap (λ l. e ∷ l) is)) sorted.1)
 
-  -- sorted entries and a greater one after them are sorted
+  -- if es is sorted, and its last key, if any, is less than k, then es with k appended is sorted
   pub sorted-more : (es : List (K × V)) → IsStrictlySortedBy cmp (keys_of es)
       → ((front : List (K × V)) (last : K × V) → es ≡ front ++ last ∷ [] → cmp last.0 k ≡ Less)
       → IsStrictlySortedBy cmp (keys_of (es ++ (k, x) ∷ []))
@@ -62,7 +62,7 @@ module _ {K V : Type 0} (cmp : K → K → Ordering) (total : IsTotalOrder cmp) 
   )
 
 module _ {K : Type 0} (bytes_of : K → List ℕ) where
-  -- what is less than a key is less than all that are greater than it
+  -- if q is less than k, and k is less than all of ks, q is less than all of ks
   pub less_all : (q k : K) → keys_cmp bytes_of q k ≡ Less → (ks : List K)
       → AllByRecursion (λ l. keys_cmp bytes_of k l ≡ Less) ks
       → AllByRecursion (λ l. keys_cmp bytes_of q l ≡ Less) ks
@@ -72,7 +72,7 @@ module _ {K : Type 0} (bytes_of : K → List ℕ) where
     less_all q k less ks all.1,
   )
 
-  -- what ties with a key is less than all that are greater than it
+  -- if q is equal to k, and k is less than all of ks, q is less than all of ks
   tied_all : (q k : K) → keys_cmp bytes_of q k ≡ Equal → (ks : List K)
       → AllByRecursion (λ l. keys_cmp bytes_of k l ≡ Less) ks
       → AllByRecursion (λ l. keys_cmp bytes_of q l ≡ Less) ks
@@ -82,36 +82,37 @@ module _ {K : Type 0} (bytes_of : K → List ℕ) where
     tied_all q k tied ks all.1,
   )
 
--- the first elements of lists that are the same
+-- if two lists are the same, their first elements are the same
 cons_first : {A : Type 0} (x y : A) (xs ys : List A) → x ∷ xs ≡ y ∷ ys → x ≡ y
 cons_first x y xs ys same = cc
 
--- and the elements after the first
+-- if two lists are the same, the elements after their first ones are the same
 cons_others : {A : Type 0} (x y : A) (xs ys : List A) → x ∷ xs ≡ y ∷ ys → xs ≡ ys
 cons_others x y xs ys same = cc
 
 module _ {K V : Type 0} (bytes_of : K → List ℕ) where
-  -- an entry with only the bytes of its key
+  -- the entry, with the bytes of its key instead of the key
   abbrev pub bare : K × V → List ℕ × V
   bare e = (bytes_of e.0, e.1)
 
-  -- a look-up of a key's bytes
+  -- the value that looking up q by its bytes finds
   abbrev pub finds_at : K → List (K × V) → Option V
   finds_at q es = lookup (is_at (keys_cmp bytes_of q)) es
 
-  -- what is less than all keys isn't found
+  -- if q is less than all keys, looking up q finds nothing
   pub none_greater : (q : K) (es : List (K × V))
       → AllByRecursion (λ l. keys_cmp bytes_of q l ≡ Less) (keys_of es) → finds_at q es ≡ None
   none_greater q [] all = refl
   none_greater q (e ∷ es) all =
       ap (λ o. cond (is_eq o) (Some e.1) (finds_at q es)) all.0 ∙ none_greater q es all.1
 
-  -- the first entry is found at its key
+  -- looking up the key of the first entry finds the value of this entry
   itself : (e : K × V) (es : List (K × V)) → finds_at e.0 (e ∷ es) ≡ Some e.1
   itself e es = ap (λ o. cond (is_eq o) (Some e.1) (finds_at e.0 es))
       (tied_itself nat_list_cmp_total (bytes_of e.0))
 
-  -- the first of sorted entries isn't found in others that begin with a greater one
+  -- if the key of e is less than the key of f, and f and fs are sorted, looking up the key of e
+  -- doesn't find the same in e and es as in f and fs
   not_behind : (e f : K × V) (es fs : List (K × V))
       → AllByRecursion (λ l. keys_cmp bytes_of f.0 l ≡ Less) (keys_of fs)
       → keys_cmp bytes_of e.0 f.0 ≡ Less
@@ -122,7 +123,8 @@ module _ {K V : Type 0} (bytes_of : K → List ℕ) where
       let some = itself e es in
       let e = sym some ∙ same ∙ none in cc
 
-  -- if sorted entries with the same first key find the same, so do the entries after the first
+  -- if looking up q finds the same in two sorted lists whose first keys are the same, it finds the
+  -- same in the entries after the first ones
   tails_by : (e f : K × V) (es fs : List (K × V)) (q : K) → bytes_of e.0 ≡ bytes_of f.0
       → AllByRecursion (λ l. keys_cmp bytes_of e.0 l ≡ Less) (keys_of es)
       → AllByRecursion (λ l. keys_cmp bytes_of f.0 l ≡ Less) (keys_of fs)
@@ -141,7 +143,7 @@ module _ {K V : Type 0} (bytes_of : K → List ℕ) where
       ap (bytes_cmp (bytes_of q)) (sym alike) ∙ is in
       let both = rw (is, there) at same in both
 
-  -- `same_entries`, by the order of the first keys
+  -- the same as `same_entries` for lists that are not empty, where o is the order of the first keys
   same_by : (e f : K × V) (es fs : List (K × V))
       → AllByRecursion (λ l. keys_cmp bytes_of e.0 l ≡ Less) (keys_of es)
       → AllByRecursion (λ l. keys_cmp bytes_of f.0 l ≡ Less) (keys_of fs)
@@ -164,7 +166,8 @@ module _ {K V : Type 0} (bytes_of : K → List ℕ) where
       ap₂ (λ p ps. p ∷ ps) (ap₂ (λ b x. (b, x)) alike value_is)
       (rest (λ q. tails_by e f es fs q alike less other (same q) (keys_cmp bytes_of q e.0) refl))
 
-  -- sorted entries that find the same are the same
+  -- if es and fs are sorted, and looking up each key finds the same in both, they have the same
+  -- bytes and values
   pub same_entries : (es fs : List (K × V))
       → IsStrictlySortedBy (keys_cmp bytes_of) (keys_of es)
       → IsStrictlySortedBy (keys_cmp bytes_of) (keys_of fs)
@@ -179,7 +182,7 @@ module _ {K V : Type 0} (bytes_of : K → List ℕ) where
       same_by e f es fs sorted.0 other.0 same
       (λ rest. same_entries es fs sorted.1 other.1 rest) (keys_cmp bytes_of e.0 f.0) refl
 
-  -- the rows of entries, and whether all keys are those of paths, are told by the bytes
+  -- if es and fs have the same bytes and values, they have the same rows
   pub rows-bare : (es fs : List (K × V)) → map bare es ≡ map bare fs
       → rows_by bytes_of es ≡ rows_by bytes_of fs
   rows-bare es fs same = told es ∙ ap (map (λ p. (key_values p.0, p.1))) same ∙ sym (told fs)
@@ -189,7 +192,8 @@ module _ {K V : Type 0} (bytes_of : K → List ℕ) where
       told [] = refl
       told (e ∷ es) = ap (λ l. (key_values (bytes_of e.0), e.1) ∷ l) (told es)
 
-  -- if entries have the same bytes and values, the keys of both are keys of paths
+  -- if es and fs have the same bytes and values, and all keys of fs are keys of paths, all keys of
+  -- es are keys of paths
   pub own-bare : (es fs : List (K × V)) → map bare es ≡ map bare fs → AllOwn bytes_of fs
       → AllOwn bytes_of es
   own-bare [] fs same own = tt
@@ -199,7 +203,8 @@ module _ {K V : Type 0} (bytes_of : K → List ℕ) where
       let others = cons_others (bare e) (bare f) (map bare es) (map bare fs) same in
       (ap (λ p. is_own p.0) first ∙ own.0, own-bare es fs others own.1)
 
--- the last row of entries whose rows are these items'
+-- if the rows of some entries are those of `items`, the key of the last entry represents the
+-- components of the last item's path
 pub last_row : {V : Type 0} (front : List (Key × V)) (last : Key × V) (items : List (Path × V))
     → key_rows (front ++ last ∷ []) ≡ rows_in items
     → (others : List (Path × V)) × ((item : Path × V) × ((items ≡ others ++ item ∷ [])
@@ -213,7 +218,7 @@ last_row (e ∷ front) last (item ∷ items) same =
     let rest = last_row front last items (cons_others _ _ _ _ same) in
     (item ∷ rest.0, (rest.1.0, (ap (λ l. item ∷ l) rest.1.1.0, rest.1.1.1)))
 
--- the last element is at the index of as many as are before it
+-- if n is the length of `front`, the element of `front` with `last` appended at index n is `last`
 slice_get-at : {A : Type 0} (front : List A) (last : A) (n : ℕ) → n ≡ length front
     → slice_get (front ++ last ∷ []) n ≡ Some last
 slice_get-at [] last n is = ap (λ k. slice_get (last ∷ []) k) is
@@ -221,7 +226,7 @@ slice_get-at (x ∷ front) last n is =
     ap (λ k. slice_get (x ∷ (front ++ last ∷ [])) k) is
     ∙ slice_get-at front last (length front) refl
 
--- the last element is at the index of the length less one
+-- the element at the last index of `front` with `last` appended is `last`
 pub slice_get-last : {A : Type 0} (front : List A) (last : A)
     → slice_get (front ++ last ∷ []) (length (front ++ last ∷ []) - 1) ≡ Some last
 slice_get-last front last =

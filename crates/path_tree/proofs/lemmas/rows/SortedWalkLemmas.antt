@@ -1,4 +1,5 @@
--- Entries that are listed for items that rise, and the map that is made of them.
+-- Entries that are listed for items whose paths are strictly increasing, and the map that is made
+-- of these entries.
 use Rattle.std.proofs.Common.{◌≡◌, ◌∙◌, ⊎_elim, ℕ, Bool, true, false, List, [], ◌∷◌, ◌++◌, ap, ap₂}
 use Rattle.std.proofs.Common.{map, refl, subst, sym, Option, Some, Ordering, Less, Equal, Greater}
 use Rattle.std.proofs.lemmas.Cmp.{eq_by_cmp_equiv, nat_list_cmp_total, on_total}
@@ -27,46 +28,48 @@ use Rattle.path_tree.proofs.lemmas.keys.UnderLemmas.{sorted-rows_by}
 abbrev items_of : Key → List ℕ
 items_of k = k.items
 
--- the entries' keys rise, and their rows are these items'
+-- all keys of the entries are keys of paths, and strictly increasing, and the rows of the entries
+-- are those of the items
 pub record Listed {V : Type 0} (entries : List (Key × V)) (items : List (Path × V)) : Type 0 where
   pub own : AllOwn items_of entries
   pub sorted : IsStrictlySortedBy (keys_cmp items_of) (keys_of entries)
   pub rows : key_rows entries ≡ rows_in items
 
--- at first nothing is listed
+-- no entries are listed for no items
 pub listed_none : {V : Type 0} → Listed {V = V} [] []
 unfolding IsStrictlySortedBy
 listed_none = record { own = tt; sorted = tt; rows = refl }
 
--- what the test shows
+-- if the test `is_lt` is true of an order, the order is `Less`
 less_is : (o : Ordering) → is_lt o ≡ true → o ≡ Less
 less_is Less is = refl
 less_is Equal is = absurd (let e = is in cc)
 less_is Greater is = absurd (let e = is in cc)
 
--- the keys are those of paths, as a tree knows it
+-- if `AllOwn` holds of the entries, `Own` holds of them
 own_all : {V : Type 0} (es : List (Key × V)) → AllOwn items_of es → Own items_of es
 own_all es own = All-from_recursion (λ k. is_own k.items ≡ true) (keys_of es) own
 
--- also with one more key that is a path's
+-- if k and all keys of es are keys of paths, so are all keys of es with k appended
 own_more : {V : Type 0} (k : Key) (x : V) → is_own k.items ≡ true → (es : List (Key × V))
     → AllOwn items_of es → AllOwn items_of (es ++ (k, x) ∷ [])
 own_more k x own [] all = (own, tt)
 own_more k x own (e ∷ es) all = (all.0, own_more k x own es all.1)
 
--- one more key that is a path's
+-- if k and all keys of es are keys of paths, so are all keys of es with k appended, in the form
+-- `Own`
 pub own_put : {V : Type 0} (k : Key) (x : V) → is_own k.items ≡ true → (es : List (Key × V))
     → Own items_of es → Own items_of (es ++ (k, x) ∷ [])
 own_put k x own es all =
     own_all (es ++ (k, x) ∷ []) (own_more k x own es (all_own items_of es all))
 
--- the rows of the entries and one more
+-- the rows of es with k appended are those of es, and then the row of k
 pub rows_more : {V : Type 0} (k : Key) (x : V) (es : List (Key × V))
     → key_rows (es ++ (k, x) ∷ []) ≡ key_rows es ++ (key_values k.items, x) ∷ []
 rows_more k x [] = refl
 rows_more k x (e ∷ es) = ap (λ l. (key_values e.0.items, e.1) ∷ l) (rows_more k x es)
 
--- the rows of the items and one more
+-- the rows of the items with one more appended are those of the items, and then the row of this one
 items_more : {V : Type 0} (path : Path) (x : V) (items : List (Path × V))
     → rows_in (items ++ (path, x) ∷ []) ≡ rows_in items ++ (values path.bytes.now, x) ∷ []
 items_more path x [] = refl
@@ -76,7 +79,8 @@ items_more path x (item ∷ items) =
 module _ {V : Type 0} (entries : List (Key × V)) (items : List (Path × V))
     (h : Listed entries items) (k : Key) (path : Path) (own : is_own k.items ≡ true)
     (stands : key_values k.items ≡ values path.bytes.now) where
-  -- one more whose key is greater than the last
+  -- if k represents the components of `path`, and is greater than the last key that is listed, if
+  -- any, k and `path` may be appended
   pub listed_more : (x : V)
       → ((front : List (Key × V)) (last : Key × V) → entries ≡ front ++ last ∷ []
       → is_lt (bytes_cmp last.0.items k.items) ≡ true)
@@ -90,7 +94,8 @@ module _ {V : Type 0} (entries : List (Key × V)) (items : List (Path × V))
         ∙ ap (λ v. rows_in items ++ (v, x) ∷ []) stands ∙ sym (items_more path x items);
   }
 
-  -- one whose key isn't greater
+  -- if k represents the components of `path`, and is not greater than the last key that is listed,
+  -- the paths of the items stop being strictly increasing at `path`
   pub stops : {S : Type 0} (steps : S → Option (Path × V) → S → Type 0) (all : S) (x : V) (left : S)
       → YieldsThen steps all items (Some (path, x)) left → (t : Bool) → t ≡ false
       → (entries ≡ [] → t ≡ true)
@@ -132,14 +137,14 @@ module _ {V : Type 0} (entries : List (Key × V)) (items : List (Path × V))
 
 module _ {V : Type 0} (entries : List (Key × V)) (items : List (Path × V))
     (h : Listed entries items) where
-  -- the items' paths rise
+  -- if entries are listed for the items, the paths of the items are strictly increasing
   pub rise : IsStrictlySortedBy values_cmp (keys_of (rows_in items))
   rise = subst (λ l. IsStrictlySortedBy values_cmp (keys_of l)) h.rows
       (sorted-rows_by items_of entries (own_all entries h.own) h.sorted)
 
-  -- the map that is made of the entries has these
+  -- a map that is made of the listed entries
   module _ (made : BTreeMap Key V) (is : IsFromIterResult (keys_cmp items_of) entries made) where
-    -- the map has the entries, by the bytes of their keys
+    -- the map that is made of the entries has the same bytes and values as the entries
     same : map (bare items_of) made.entries ≡ map (bare items_of) entries
     same =
         let cmp = keys_cmp items_of in
@@ -148,10 +153,10 @@ module _ {V : Type 0} (entries : List (Key × V)) (items : List (Path × V))
         is.0 q ∙ update_all_none laws (eq_by_cmp cmp) (λ x y. refl) entries q
         (IsDistinct-from_sorted cmp (keys_of entries) h.sorted))
 
-    -- so its keys are keys of paths
+    -- all keys of the map that is made of the entries are keys of paths
     pub made_own : Own items_of made.entries
     made_own = own_all made.entries (own-bare items_of made.entries entries same h.own)
 
-    -- and its rows are those of the items
+    -- the rows of the map that is made of the entries are those of the items
     pub made_rows : key_rows made.entries ≡ rows_in items
     made_rows = rows-bare items_of made.entries entries same ∙ h.rows

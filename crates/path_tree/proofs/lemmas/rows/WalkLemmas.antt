@@ -1,4 +1,4 @@
--- The rest of sorted entries, and those that a filter keeps.
+-- The rest of sorted entries, and the entries that a filter keeps.
 use Rattle.std.proofs.Common.{◌≡◌, Bool, true, false, List, [], ◌∷◌, ◌++◌, ap, refl, sym}
 use Rattle.std.proofs.Common.{Ordering, Less, length, ◌≤◌, arith}
 use Rattle.std.specs.List.{AllByRecursion, filter}
@@ -7,14 +7,14 @@ use Rattle.std.specs.Map.{keys_of}
 use Rattle.unix_bytes.proofs.lemmas.lists.ListLemmas.{by_test}
 
 module _ {K V : Type 0} (P : K → Type 0) where
-  -- what holds of all keys holds of those of the rest
+  -- if P holds of all keys, it holds of the keys of the rest
   pub all_rest : (before rest : List (K × V)) → AllByRecursion P (keys_of (before ++ rest))
       → AllByRecursion P (keys_of rest)
   all_rest [] rest all = all
   all_rest (e ∷ before) rest all = all_rest before rest all.1
 
 module _ {K V : Type 0} (p q : K → Bool) (same : (k : K) → p k ≡ q k) where
-  -- two tests with the same results keep the same entries
+  -- if two tests have the same results, they keep the same entries
   pub filter_alike : (es : List (K × V))
       → filter (λ e. p e.0) es ≡ filter (λ e. q e.0) es
   filter_alike [] = refl
@@ -23,7 +23,7 @@ module _ {K V : Type 0} (p q : K → Bool) (same : (k : K) → p k ≡ q k) wher
       (λ fails. rw (same e.0, fails) (filter_alike es))
 
 module _ {K V : Type 0} (p : K → Bool) where
-  -- if all keys pass, all entries stay
+  -- if all keys pass the test, all entries stay
   pub filter_all : (es : List (K × V)) → AllByRecursion (λ k. p k ≡ true) (keys_of es)
       → filter (λ e. p e.0) es ≡ es
   filter_all [] all = refl
@@ -36,7 +36,7 @@ module _ {K V : Type 0} (p : K → Bool) where
       (λ is. rw is (omega (arith, length-filter_le es)))
       (λ fails. rw fails (omega (arith, length-filter_le es)))
 
-  -- the keys that are kept pass
+  -- if P holds of each key that passes the test, it holds of the keys of the entries that stay
   pub kept_pass : (P : K → Type 0) → ((k : K) → p k ≡ true → P k) → (es : List (K × V))
       → AllByRecursion P (keys_of (filter (λ e. p e.0) es))
   kept_pass P holds [] = tt
@@ -44,7 +44,7 @@ module _ {K V : Type 0} (p : K → Bool) where
       (λ is. rw is (holds e.0 is, kept_pass P holds es))
       (λ fails. rw fails (kept_pass P holds es))
 
-  -- what holds of all keys holds of those that are kept
+  -- if P holds of all keys, it holds of the keys of the entries that stay
   pub all_kept : (P : K → Type 0) → (es : List (K × V)) → AllByRecursion P (keys_of es)
       → AllByRecursion P (keys_of (filter (λ e. p e.0) es))
   all_kept P [] all = tt
@@ -53,7 +53,7 @@ module _ {K V : Type 0} (p : K → Bool) where
       (λ fails. rw fails (all_kept P es all.1))
 
 module _ {K V : Type 0} (cmp : K → K → Ordering) where
-  -- the rest of sorted entries is sorted
+  -- if entries are sorted, their rest is sorted
   pub sorted_rest : (before rest : List (K × V))
       → IsStrictlySortedBy cmp (keys_of (before ++ rest))
       → IsStrictlySortedBy cmp (keys_of rest)
@@ -61,21 +61,21 @@ module _ {K V : Type 0} (cmp : K → K → Ordering) where
   sorted_rest [] rest sorted = sorted
   sorted_rest (e ∷ before) rest sorted = sorted_rest before rest sorted.1
 
-  -- the keys after the first one are greater
+  -- if e and es are sorted, the key of e is less than all keys of es
   pub sorted_first : (e : K × V) (es : List (K × V))
       → IsStrictlySortedBy cmp (keys_of (e ∷ es))
       → AllByRecursion (λ l. cmp e.0 l ≡ Less) (keys_of es)
   unfolding IsStrictlySortedBy
   sorted_first e es sorted = sorted.0
 
-  -- the entries after the first are sorted
+  -- if e and es are sorted, es is sorted
   pub sorted_others : (e : K × V) (es : List (K × V))
       → IsStrictlySortedBy cmp (keys_of (e ∷ es)) → IsStrictlySortedBy cmp (keys_of es)
   unfolding IsStrictlySortedBy
   sorted_others e es sorted = sorted.1
 
 module _ {K V : Type 0} (keep : K × V → Bool) where
-  -- what holds of all keys holds of those that a filter keeps
+  -- if P holds of all keys, it holds of the keys of the entries that a filter keeps
   all_filter : (P : K → Type 0) → (es : List (K × V)) → AllByRecursion P (keys_of es)
       → AllByRecursion P (keys_of (filter keep es))
   all_filter P [] all = tt
@@ -83,7 +83,7 @@ module _ {K V : Type 0} (keep : K × V → Bool) where
       (λ is. rw is (all.0, all_filter P es all.1))
       (λ fails. rw fails (all_filter P es all.1))
 
-  -- the entries that a filter keeps are sorted
+  -- if entries are sorted, the entries that a filter keeps are sorted
   pub sorted-filter : (cmp : K → K → Ordering) (es : List (K × V))
       → IsStrictlySortedBy cmp (keys_of es) → IsStrictlySortedBy cmp (keys_of (filter keep es))
   unfolding IsStrictlySortedBy
@@ -93,10 +93,11 @@ module _ {K V : Type 0} (keep : K × V → Bool) where
       (all_filter (λ l. cmp e.0 l ≡ Less) es sorted.0, sorted-filter cmp es sorted.1))
       (λ fails. rw fails (sorted-filter cmp es sorted.1))
 
--- a test that holds from some place on in the order
+-- a test p that stays true: if it is true of a key, it is true of all greater keys
 module _ {K : Type 0} (cmp : K → K → Ordering) (p : K → Bool)
     (goes_on : (k l : K) → p k ≡ true → cmp k l ≡ Less → p l ≡ true) where
-  -- if it holds of a key, it holds of all that are greater
+  -- if p stays true of greater keys, and is true of k, it is true of all of ls, which are greater
+  -- than k
   all_behind : (k : K) (ls : List K) → p k ≡ true → AllByRecursion (λ l. cmp k l ≡ Less) ls
       → AllByRecursion (λ l. p l ≡ true) ls
   all_behind k [] is less = tt
@@ -104,14 +105,16 @@ module _ {K : Type 0} (cmp : K → K → Ordering) (p : K → Bool)
 
 module _ {K V : Type 0} (cmp : K → K → Ordering) (p : K → Bool)
     (goes_on : (k l : K) → p k ≡ true → cmp k l ≡ Less → p l ≡ true) where
-  -- if it holds of the first key it holds of all
+  -- if p stays true of greater keys, and is true of the first key of sorted entries, it is true of
+  -- all their keys
   pub all_from_first : (e : K × V) (es : List (K × V))
       → IsStrictlySortedBy cmp (keys_of (e ∷ es)) → p e.0 ≡ true
       → AllByRecursion (λ l. p l ≡ true) (keys_of (e ∷ es))
   all_from_first e es sorted is =
       (is, all_behind cmp p goes_on e.0 (keys_of es) is (sorted_first cmp e es sorted))
 
-  -- the entries of which it holds are the rest of all
+  -- if p stays true of greater keys, the entries whose keys pass p are the last ones of sorted
+  -- entries
   pub suffix-filter : (es : List (K × V)) → IsStrictlySortedBy cmp (keys_of es)
       → (before : List (K × V)) × (es ≡ before ++ filter (λ e. p e.0) es)
   suffix-filter [] sorted = ([], refl)
@@ -121,7 +124,8 @@ module _ {K V : Type 0} (cmp : K → K → Ordering) (p : K → Bool)
       let others = suffix-filter es (sorted_others cmp e es sorted) in
       (e ∷ others.0, rw fails (ap (λ l. e ∷ l) others.1)))
 
-  -- if it doesn't hold of an entry, it holds of none before that
+  -- if p stays true of greater keys, and the key of e fails p, the filter keeps no entry that is
+  -- before e in sorted entries
   pub filter-suffix : (before : List (K × V)) (e : K × V) (rest : List (K × V))
       → IsStrictlySortedBy cmp (keys_of (before ++ e ∷ rest)) → p e.0 ≡ false
       → filter (λ e. p e.0) (before ++ e ∷ rest) ≡ filter (λ e. p e.0) (e ∷ rest)
