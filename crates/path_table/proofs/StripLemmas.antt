@@ -1,4 +1,4 @@
--- The components of a path without its base.
+-- The components of the rest of a path after a base.
 use Rattle.std.proofs.Common.{◌≡◌, ◌∙◌, ℕ, ◌+◌, ◌-◌, ◌≤◌, List, drop, length, length-drop, arith}
 use Rattle.std.proofs.lemmas.List.{take_all}
 use Rattle.unix_path.specs.Parts.{values}
