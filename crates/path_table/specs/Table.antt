@@ -43,8 +43,8 @@ NoneBefore base paths = AllPass (λ v. is_le (values_cmp base v)) paths
 abbrev pub row_after_base : {V : Type 0} → List Value → List Value × V → List Value × V
 row_after_base base row = (drop (length base) row.0, row.1)
 
--- those of `rows` whose components start with base, in their order, without the leading components
--- that are base
+-- those of `rows` whose components start with base, in their order, each without the components of
+-- base
 abbrev pub entries_under : {V : Type 0} → List Value → List (List Value × V)
     → List (List Value × V)
 entries_under base rows = map (row_after_base base) (filter (λ row. is_under base row.0) rows)

@@ -33,16 +33,16 @@ pub fn tests_are_right()
     ensures text { TextIsTested }
 {}
 
-/// The fronts, one after the other, are the bytes. The fronts after the first are the fronts of the bytes after the
-/// first front.
+/// The fronts, one after the other, are the bytes. The fronts after the first are the fronts of the
+/// bytes after the first front.
 pub fn fronts_one_by_one()
     ensures partition { FrontsPartition }
     ensures next { FrontsOneByOne }
 {}
 
-/// Each front begins some sequence, or is one byte. No prefix of the bytes that begins some sequence
-/// is longer than the first front. If no prefix of the bytes is a sequence, the first front has at
-/// most three bytes.
+/// Each front begins some sequence, or is one byte. No prefix of the bytes that begins some
+/// sequence is longer than the first front. If no prefix of the bytes is a sequence, the first
+/// front has at most three bytes.
 pub fn broken_front()
     ensures begins { FrontsBegin }
     ensures longest { FrontIsLongest }
@@ -92,8 +92,8 @@ pub fn chunks_partition()
     ensures last { WholeChunkIsLast }
 {}
 
-/// The chunks, one after the other and with U+FFFD instead of each invalid front, are the lossy form
-/// of the bytes.
+/// The chunks, one after the other and with U+FFFD instead of each invalid front, are the lossy
+/// form of the bytes.
 pub fn chunks_show_lossy()
     ensures { ChunksShowLossy }
 {}
