@@ -9,8 +9,8 @@ use Rattle.unix_bytes.specs.Steps.{chunk_len, rest_after_text, Splits}
 use Rattle.unix_bytes.proofs.lemmas.lossy.BrokenLemmas.{longest_front_of-none}
 use Rattle.unix_bytes.proofs.lemmas.chunks.ChunkLemmas.{none_after_text, chunks_of-some}
 
--- if s is not empty, s is `valid`, then `broken`, and then `rest`, and `valid` and `broken` are the
--- first chunk of s, then the chunks of s are this chunk and then the chunks of `rest`
+-- if s is not empty, if s is `valid` and then `broken` and then `rest`, and if `valid` and `broken`
+-- are the first chunk of s, the chunks of s are this chunk and then the chunks of `rest`
 chunks_of-parts : (s valid broken rest : List ℕ) → 0 < length s → s ≡ valid ++ (broken ++ rest)
     → first_chunk_of s ≡ record { valid = valid; broken = broken }
     → chunks_of s ≡ record { valid = valid; broken = broken } ∷ chunks_of rest

@@ -48,7 +48,7 @@ pub snoc : {X : Type 0} (xs : List X) → Snoc xs
 snoc [] = Empty refl
 snoc (x ∷ xs) = snoc-cons x xs (snoc xs)
 
--- the last element of a list with an element appended is that element
+-- if y is appended to xs, the last element is y; the default o doesn't matter
 pub last_or-push : {X : Type 0} (o : Option X) (xs : List X) (y : X)
     → last_or o (xs ++ y ∷ []) ≡ Some y
 last_or-push o [] y = refl

@@ -61,22 +61,23 @@ broken_len_within s =
     let e : broken_len s ≡ length (longest_front_of s) = cond-false _ _ _ f in
     omega (arith, longest_front_within s)) (cases_Bool (is_sequence (longest_front_of s)))
 
--- if the first byte of s is not ASCII, and s has no second byte or its first two bytes begin no
+-- if the first byte of s is not ASCII, and if s has no second byte or its first two bytes begin no
 -- sequence, then s begins with an invalid front of one byte
 pub one_byte_broken : (s : List ℕ) → 0 < length s → (HasBegun s 2 → ⊥) → 0x80 ≤ slice_index s 0
     → broken_len s ≡ 1
 one_byte_broken s some end non_ascii =
     broken_len-none s (none_of_two s end non_ascii) ∙ one_byte_front s some end
 
--- if the first byte of s is at least E0, the first two bytes begin a sequence, and s has no third
--- byte or its first three bytes begin no sequence, then s begins with an invalid front of two bytes
+-- if the first byte of s is at least E0, and the first two bytes begin a sequence, and if s has no
+-- third byte or its first three bytes begin no sequence, then s begins with an invalid front of two
+-- bytes
 pub two_byte_broken : (s : List ℕ) → HasBegun s 2 → (HasBegun s 3 → ⊥) → 0xE0 ≤ slice_index s 0
     → broken_len s ≡ 2
 two_byte_broken s h end non_ascii =
     broken_len-none s (none_of_three s end non_ascii) ∙ two_byte_front s h end
 
--- r is s from index i on: if the byte of s at index i is not ASCII, and r has no second byte or its
--- first two bytes begin no sequence, then r begins with an invalid front of one byte
+-- let r be s from index i on: if the byte of s at index i is not ASCII, and if r has no second byte
+-- or its first two bytes begin no sequence, then r begins with an invalid front of one byte
 pub one_broken_at : (s r : List ℕ) (i : ℕ) → r ≡ drop i s → i < length s → 0x80 ≤ slice_index s i
     → (HasBegun r 2 → ⊥) → 1 ≡ broken_len r
 one_broken_at s r i rest some non_ascii end =
@@ -84,8 +85,8 @@ one_broken_at s r i rest some non_ascii end =
     ap (λ t. slice_index t 0) rest ∙ first_of_drop i s in
     sym (one_byte_broken r (omega (arith, ap length rest, length-drop i s)) end (omega arith))
 
--- if the first byte of s is at least F0, the first three bytes begin a sequence, and s has no
--- fourth byte or its first four bytes begin no sequence, then s begins with an invalid front of
+-- if the first byte of s is at least F0, and the first three bytes begin a sequence, and if s has
+-- no fourth byte or its first four bytes begin no sequence, then s begins with an invalid front of
 -- three bytes
 pub three_byte_broken : (s : List ℕ) → HasBegun s 3 → (HasBegun s 4 → ⊥) → 0xF0 ≤ slice_index s 0
     → broken_len s ≡ 3

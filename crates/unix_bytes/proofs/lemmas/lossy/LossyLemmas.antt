@@ -32,8 +32,8 @@ fronts_of-sequence (b ∷ u) s h =
     ∙ ap (λ f. f ∷ fronts_of (drop (length f) (b ∷ u ++ s))) e
     ∙ ap (λ t. (b ∷ u) ∷ fronts_of t) (drop_at (b ∷ u) s (length (b ∷ u)) refl)
 
--- if us are sequences, the fronts of us, one after the other, followed by s are us and then the
--- fronts of s
+-- if us are sequences, the byte string that is us, one after the other, and then s has the fronts
+-- us and then the fronts of s
 fronts_of-concat : (us : List (List ℕ)) (s : List ℕ) → list_all is_sequence us ≡ true
     → fronts_of (concat us ++ s) ≡ us ++ fronts_of s
 fronts_of-concat [] s h = refl

@@ -66,34 +66,35 @@ shows_more s t before middle after n k e p q = record {
   text = λ h. q.text (p.text h);
 }
 
--- if reading the first n bytes of s filled `buffer`, and t is the rest of s, then `items`, `buffer`
--- and the lossy form of t, one after the other, are `items` and then the lossy form of s
+-- if reading the first n bytes of s has written `buffer` (`Shows`), and t is the rest of s, then
+-- `items`, `buffer` and the lossy form of t, one after the other, are `items` and then the lossy
+-- form of s
 pub pushes_buffer : (items buffer s t : List ℕ) (n : ℕ) → t ≡ drop n s → Shows s [] n buffer
     → (items ++ buffer) ++ lossy_of t ≡ items ++ lossy_of s
 pushes_buffer items buffer s t n e p =
     append_assoc items buffer (lossy_of t)
     ∙ ap (λ u. items ++ u) (ap (λ u. buffer ++ lossy_of u) e ∙ p.lossy)
 
--- a buffer that was filled by reading the first n bytes of s is UTF-8
+-- if reading the first n bytes of s has written `buffer` (`Shows`), `buffer` is UTF-8
 pub buffer_is_utf8 : (s buffer : List ℕ) (n : ℕ) → Shows s [] n buffer → IsUtf8 buffer
 buffer_is_utf8 s buffer n p = IsUtf8-from_IsText buffer (p.text IsText-nil)
 
--- if s is empty, and `items` and then the lossy form of s are `whole`, then `items` is `whole`
+-- if s is empty, and `items` followed by the lossy form of s is `whole`, then `items` is `whole`
 pub writes_whole : (items s whole : List ℕ) → length s ≡ 0 → items ++ lossy_of s ≡ whole
     → items ≡ whole
 writes_whole items s whole z e =
     sym (append-nil items)
     ∙ ap (λ u. items ++ u) (sym (ap lossy_of (nil_from_length s z) ∙ lossy_of-nil)) ∙ e
 
--- if reading the first n bytes of s filled `buffer`, these are all of s, and `items` and then the
--- lossy form of s are `whole`, then `items` and then `buffer` are `whole`
+-- if reading the first n bytes of s, which are all of s, has written `buffer` (`Shows`), and
+-- `items` followed by the lossy form of s is `whole`, then `items` followed by `buffer` is `whole`
 pub writes_last : (items buffer s t whole : List ℕ) (n : ℕ) → t ≡ drop n s → length t ≡ 0
     → Shows s [] n buffer → items ++ lossy_of s ≡ whole → items ++ buffer ≡ whole
 writes_last items buffer s t whole n cut z p e =
     writes_whole (items ++ buffer) t whole z (pushes_buffer items buffer s t n cut p ∙ e)
 
--- if the first `at` bytes of `old` and then the first n of s are at the beginning of `out`, and k
--- is at most n, then so are the first `at` bytes of `old` and then the first k of s
+-- let k be at most n: if `out` begins with the first `at` bytes of `old` and then the first n bytes
+-- of s, it also begins with the first `at` bytes of `old` and then the first k bytes of s
 pub takes_fewer : (out old s : List ℕ) (at n k : ℕ) → k ≤ n → at ≤ length old
     → take (at + n) out ≡ take at old ++ take n s → take (at + k) out ≡ take at old ++ take k s
 takes_fewer out old s at n k few within e =
@@ -122,5 +123,6 @@ sequence_is_short s =
     omega (arith, length-take-le (longest_len is_sequence s) s (sequence_within s)))
     (longest_len-longest is_sequence s).passes
 
--- a sequence has at most four bytes, and an invalid front is no longer than the bytes
+-- the longest prefix of s that is a sequence has at most four bytes, and the invalid front at the
+-- beginning of s is no longer than s
 pub ruleset front_bounds = (sequence_is_short, broken_len_within)

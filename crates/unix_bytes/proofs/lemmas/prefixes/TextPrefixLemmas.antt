@@ -131,7 +131,7 @@ abbrev pub slice_from : ℕ → List ℕ → List ℕ
 slice_from n s = take (length s - n) (drop n s)
 
 -- if `TextBefore s r` holds, r has at least n bytes, and its first n bytes are valid UTF-8, then
--- `TextBefore` also holds of s and r from index n on
+-- `TextBefore` also holds of s and the bytes of r from index n on
 pub text_before : (s r : List ℕ) (n : ℕ) → TextBefore s r → n ≤ length r → IsText (take n r)
     → TextBefore s (slice_from n r)
 text_before s r n h bound here =
@@ -148,7 +148,7 @@ text_before s r n h bound here =
     }
 
 -- if `TextBefore s r` holds, and r starts with a sequence of n bytes, where k equals n, then
--- `TextBefore` also holds of s and r from index k on
+-- `TextBefore` also holds of s and the bytes of r from index k on
 pub sequence_before : (s r : List ℕ) (n k : ℕ) → TextBefore s r
     → (0 < n) × (n ≡ longest_len is_sequence r) → n ≡ k → TextBefore s (slice_from k r)
 sequence_before s r n k h (some, is) same =
@@ -156,7 +156,7 @@ sequence_before s r n k h (some, is) same =
     text_before s r k h (omega (arith, same, is, sequence_within r)) here
 
 -- if `TextBefore s r` holds, and r starts with a sequence of n bytes and then m bytes of valid
--- UTF-8, where k equals n, then `TextBefore` also holds of s and r from index k + m on
+-- UTF-8, where k equals n, then `TextBefore` also holds of s and the bytes of r from index k + m on
 pub sequences_before : (s r : List ℕ) (n k m : ℕ) → TextBefore s r
     → (0 < n) × (n ≡ longest_len is_sequence r) → n ≡ k → m ≤ length (slice_from k r)
     → IsText (take m (slice_from k r)) → TextBefore s (slice_from m (slice_from k r))

@@ -21,7 +21,7 @@ use Rattle.unix_bytes.proofs.lemmas.sequences.LongestLemmas.{longest_len-least}
 pub BeginsSequence-sequence : (u : List ℕ) → IsSequence u → BeginsSequence u
 BeginsSequence-sequence u h = ([], subst IsSequence (sym (append-nil u)) h)
 
--- if a byte string starts with the sequence u, none of its prefixes that are longer than u begins a
+-- if a byte string starts with the sequence u, no longer prefix of this byte string begins a
 -- sequence
 none_longer : (u s : List ℕ) (k : ℕ) → IsSequence u → length u < k → k ≤ length (u ++ s)
     → BeginsSequence (take k (u ++ s)) → ⊥
@@ -66,9 +66,8 @@ longest_front_of-sequence u s h =
     omega (arith, longest_len-begins_sequence u s h) in
     ap (λ n. take n (u ++ s)) e ∙ take_at u s (length u) refl
 
--- if n is from 1 to the length of s, either n is 1 or the first n bytes of s begin a sequence, and
--- s has only n bytes or its first n + 1 bytes begin no sequence, then the first front of s has n
--- bytes
+-- let n be from 1 to the length of s: if n is 1 or the first n bytes of s begin a sequence, and if
+-- s has only n bytes or its first n + 1 bytes begin no sequence, the first front of s has n bytes
 pub length-longest_front_of : (s : List ℕ) (n : ℕ) → 1 ≤ n → n ≤ length s → (n ≡ 1) ⊎ HasBegun s n
     → (HasBegun s (suc n) → ⊥) → length (longest_front_of s) ≡ n
 unfolding longest_front_of
@@ -117,20 +116,20 @@ longest_front_of-take (b ∷ bs) =
     let k = length-take-le (max 1 l) (b ∷ bs) (omega arith) in
     ap (λ n. take n (b ∷ bs)) (sym k)
 
--- if s is not empty, and s has no second byte or its first two bytes begin no sequence, the first
--- front of s has one byte
+-- if s is not empty, and if s has no second byte or its first two bytes begin no sequence, the
+-- first front of s has one byte
 pub one_byte_front : (s : List ℕ) → 0 < length s → (HasBegun s 2 → ⊥)
     → length (longest_front_of s) ≡ 1
 one_byte_front s some end = length-longest_front_of s 1 (omega arith) (omega arith) (inl refl) end
 
--- if the first two bytes of s begin a sequence, and s has no third byte or its first three bytes
+-- if the first two bytes of s begin a sequence, and if s has no third byte or its first three bytes
 -- begin no sequence, the first front of s has two bytes
 pub two_byte_front : (s : List ℕ) → HasBegun s 2 → (HasBegun s 3 → ⊥)
     → length (longest_front_of s) ≡ 2
 two_byte_front s h end = length-longest_front_of s 2 (omega arith) h.0 (inr h) end
 
--- if the first three bytes of s begin a sequence, and s has no fourth byte or its first four bytes
--- begin no sequence, the first front of s has three bytes
+-- if the first three bytes of s begin a sequence, and if s has no fourth byte or its first four
+-- bytes begin no sequence, the first front of s has three bytes
 pub three_byte_front : (s : List ℕ) → HasBegun s 3 → (HasBegun s 4 → ⊥)
     → length (longest_front_of s) ≡ 3
 three_byte_front s h end = length-longest_front_of s 3 (omega arith) h.0 (inr h) end

@@ -17,8 +17,8 @@ use Rattle.unix_bytes.proofs.lemmas.sequences.FrontLemmas.{longest_front_of-take
 abbrev IsGrown : List ℕ → Type 0
 IsGrown u = (length u ≡ 1) ⊎ (begins_sequence u ≡ true)
 
--- if u is not empty, u is one byte or begins a sequence, and s is empty or u with the first byte of
--- s begins no sequence, then the longest front of u followed by s is u
+-- let u be one byte, or begin a sequence and not be empty: if s is empty, or u and the first byte
+-- of s together begin no sequence, the longest front of u followed by s is u
 longest_front_of-append : (u s : List ℕ) → 1 ≤ length u → IsGrown u
     → (HasBegun (u ++ s) (suc (length u)) → ⊥) → longest_front_of (u ++ s) ≡ u
 longest_front_of-append u s some at end =
@@ -34,17 +34,18 @@ longest_front_of-append u s some at end =
 abbrev longest_fronts : List ℕ → List (List ℕ)
 longest_fronts s = longest_front_of s ∷ fronts_of (drop (length (longest_front_of s)) s)
 
--- if u is not empty, u is one byte or begins a sequence, and s is empty or u with the first byte of
--- s begins no sequence, then `longest_fronts` of u followed by s is u and then the fronts of s
+-- let u be one byte, or begin a sequence and not be empty: if s is empty, or u and the first byte
+-- of s together begin no sequence, `longest_fronts` of u followed by s is u and then the fronts of
+-- s
 longest_fronts-append : (u s : List ℕ) → 1 ≤ length u → IsGrown u
     → (HasBegun (u ++ s) (suc (length u)) → ⊥) → longest_fronts (u ++ s) ≡ u ∷ fronts_of s
 longest_fronts-append u s some at end =
     ap (λ f. f ∷ fronts_of (drop (length f) (u ++ s))) (longest_front_of-append u s some at end)
     ∙ ap (λ t. u ∷ fronts_of t) (drop_at u s (length u) refl)
 
--- one step of `fronts_from` yields `longest_fronts`, if the steps after an extension of u do: u,
--- which is one byte or begins a sequence, is extended by the next byte b if u with b begins a
--- sequence, and otherwise u is the longest front
+-- one step of `fronts_from` with the next byte b yields `longest_fronts`, if the steps after an
+-- extension of u do: u, which is one byte or begins a sequence, is extended by b if both together
+-- begin a sequence, and otherwise u is the longest front
 fronts_from-step : (b : ℕ) (s u : List ℕ) → 1 ≤ length u → IsGrown u
     → (begins_sequence (push u b) ≡ true
     → fronts_from (push u b) s ≡ longest_fronts (push u b ++ s))
@@ -59,7 +60,7 @@ fronts_from-step b s u some at more false e =
     sym (longest_fronts-append u (b ∷ s) some at
     (λ h. absurd (true≢false (sym h.1 ∙ ap begins_sequence next ∙ e))))
 
--- if u is not empty, and u is one byte or begins a sequence, `fronts_from u s` is the longest front
+-- let u be one byte, or begin a sequence and not be empty: `fronts_from u s` is the longest front
 -- of u followed by s, and then the fronts of the bytes after that front
 fronts_from-longest : (s u : List ℕ) → 1 ≤ length u → IsGrown u
     → fronts_from u s ≡ longest_fronts (u ++ s)

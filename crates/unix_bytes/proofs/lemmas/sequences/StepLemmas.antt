@@ -34,8 +34,8 @@ longest_len-HasBegun s n h few =
     ap (longest_len is_sequence) (sym (take-append-drop n s))
     ∙ longest_len-sequence (take n s) (drop n s) is ∙ e
 
--- if s has fewer than n bytes or its first n bytes begin no sequence, and each prefix of s that is
--- a sequence has at least n bytes, then no prefix of s is a sequence
+-- if s has fewer than n bytes or its first n bytes begin no sequence, and if each prefix of s that
+-- is a sequence has at least n bytes, then no prefix of s is a sequence
 longest_len-not_HasBegun : (s : List ℕ) (n : ℕ) → (HasBegun s n → ⊥)
     → ((k : ℕ) → k ≤ length s → IsSequence (take k s) → n ≤ k) → longest_len is_sequence s ≡ 0
 longest_len-not_HasBegun s n never many =
@@ -75,8 +75,8 @@ module _ (b n : ℕ) (w : HasWidth b n) where
       (λ c. ⊎_elim (λ (d : b < 0xE0). let e = w.two c (omega arith) in omega arith)
       (λ d. let e = three_at_least d in omega arith) (cases_lt b 0xE0)) (cases_lt b 0xC2)
 
--- if the first k bytes of b followed by bs are a sequence, the first byte b determines k
--- (`HasWidth`)
+-- if the first k bytes of b followed by bs are a sequence, k is the length of the sequences that
+-- start with b (`HasWidth`)
 prefix_width : (b : ℕ) (bs : List ℕ) (k : ℕ) → k ≤ length (b ∷ bs) → IsSequence (take k (b ∷ bs))
     → HasWidth b k
 prefix_width b bs zero within h = let z = is_sequence-nil in cc
@@ -108,8 +108,8 @@ three_byte_sequence (b ∷ x ∷ y ∷ s) h l =
 pub four_byte_sequence : (s : List ℕ) → HasBegun s 4 → longest_len is_sequence s ≡ 4
 four_byte_sequence s h = longest_len-HasBegun s 4 h (λ u is. (sequence_len (take 4 s ++ u) is).1)
 
--- if the first byte of s is at least 80, and s has no second byte or its first two bytes begin no
--- sequence, then no prefix of s is a sequence
+-- if the first byte of s is at least 80, and if s has no second byte or its first two bytes begin
+-- no sequence, then no prefix of s is a sequence
 pub none_of_two : (s : List ℕ) → (HasBegun s 2 → ⊥) → 0x80 ≤ slice_index s 0
     → longest_len is_sequence s ≡ 0
 none_of_two [] never g = absurd (omega arith)
@@ -117,8 +117,8 @@ none_of_two (b ∷ bs) never g =
     longest_len-not_HasBegun (b ∷ bs) 2 never
     (λ k within h. two_at_least b k (prefix_width b bs k within h) g)
 
--- if the first byte of s is at least E0, and s has no third byte or its first three bytes begin no
--- sequence, then no prefix of s is a sequence
+-- if the first byte of s is at least E0, and if s has no third byte or its first three bytes begin
+-- no sequence, then no prefix of s is a sequence
 pub none_of_three : (s : List ℕ) → (HasBegun s 3 → ⊥) → 0xE0 ≤ slice_index s 0
     → longest_len is_sequence s ≡ 0
 none_of_three [] never g = absurd (omega arith)
@@ -126,8 +126,8 @@ none_of_three (b ∷ bs) never g =
     longest_len-not_HasBegun (b ∷ bs) 3 never
     (λ k within h. three_at_least b k (prefix_width b bs k within h) g)
 
--- if the first byte of s is at least F0, and s has no fourth byte or its first four bytes begin no
--- sequence, then no prefix of s is a sequence
+-- if the first byte of s is at least F0, and if s has no fourth byte or its first four bytes begin
+-- no sequence, then no prefix of s is a sequence
 pub none_of_four : (s : List ℕ) → (HasBegun s 4 → ⊥) → 0xF0 ≤ slice_index s 0
     → longest_len is_sequence s ≡ 0
 none_of_four [] never g = absurd (omega arith)

@@ -18,7 +18,8 @@ pub record HasWidth (b n : ℕ) : Type 0 where
   pub three : 0xE0 ≤ b → b ≤ 0xEF → n ≡ 3
   pub four : 0xF0 ≤ b → (b ≤ 0xF4) × (n ≡ 4)
 
--- if b followed by u is a sequence, b determines the length of this sequence (`HasWidth`)
+-- if b followed by u is a sequence, its length is the length of the sequences that start with b
+-- (`HasWidth`)
 pub has_width : (b : ℕ) (u : List ℕ) → IsSequence (b ∷ u) → HasWidth b (suc (length u))
 has_width b [] h =
     let p = one_byte b h in

@@ -10,13 +10,13 @@ use Rattle.unix_bytes.proofs.lemmas.sequences.SequenceLemmas.{one_byte, two_byte
 use Rattle.unix_bytes.proofs.lemmas.sequences.SequenceLemmas.{four_bytes}
 use Rattle.unix_bytes.proofs.lemmas.sequences.SequenceLemmas.{is_sequence-nil, is_sequence-more}
 
--- the last three bytes of a, b, c and then the list leave no sequence unfinished
+-- the last three of the bytes a, b, c and then those of the list leave no sequence unfinished
 abbrev EndsFinished : ℕ → ℕ → ℕ → List ℕ → Type 0
 EndsFinished a b c [] = IsFinished a b c
 EndsFinished a b c (d ∷ s) = EndsFinished b c d s
 
--- for all a, b and c that leave no sequence unfinished, the last three bytes of a, b, c and then s
--- leave no sequence unfinished either
+-- for all a, b and c that leave no sequence unfinished, the last three of the bytes a, b, c and
+-- then those of s leave no sequence unfinished either
 abbrev KeepsFinished : List ℕ → Type 0
 KeepsFinished s = (a b c : ℕ) → IsFinished a b c → EndsFinished a b c s
 
@@ -34,15 +34,15 @@ sequence_keeps_finished (d ∷ e ∷ f ∷ x ∷ []) s h next a b c k =
 sequence_keeps_finished (d ∷ e ∷ f ∷ x ∷ y ∷ u) s h next a b c k =
     let z = is_sequence-more d e f x y u in cc
 
--- if us are sequences, `KeepsFinished` holds of us, one after the other
+-- if us are sequences, `KeepsFinished` holds of the byte string that is us, one after the other
 text_keeps_finished : (us : List (List ℕ)) → All IsSequence us → KeepsFinished (concat us)
 text_keeps_finished [] all = λ a b c k. k
 text_keeps_finished (u ∷ us) all =
     sequence_keeps_finished u (concat us) (All-head IsSequence u us all)
     (text_keeps_finished us (All-tail IsSequence u us all))
 
--- if w has at least three bytes, and a, b, c, then u, and then the first three bytes of w leave no
--- sequence unfinished at their end, the first three bytes of w by themselves leave none unfinished
+-- if w has at least three bytes, and the last three of the bytes a, b, c, those of u, and then the
+-- first three of w leave no sequence unfinished, the first three bytes of w leave none unfinished
 IsFinished-last : (u w : List ℕ) (a b c : ℕ) → 3 ≤ length w → EndsFinished a b c (u ++ take 3 w)
     → IsFinished (slice_index w 0) (slice_index w 1) (slice_index w 2)
 IsFinished-last [] [] a b c l h = absurd (omega arith)

@@ -71,8 +71,8 @@ IsSequence-encode c h =
     )))
     (cases_lt c 65536)) (cases_lt c 2048)) (cases_lt c 128)
 
--- if us are sequences, then us, one after the other, are UTF-8 as Rattle's std defines it
--- (`IsUtf8`)
+-- if us are sequences, the byte string that is us, one after the other, is UTF-8 as Rattle's std
+-- defines it (`IsUtf8`)
 IsUtf8-concat : (us : List (List ℕ)) → list_all is_sequence us ≡ true → IsUtf8 (concat us)
 IsUtf8-concat [] h = IsUtf8-nil
 IsUtf8-concat (u ∷ us) h =

@@ -15,7 +15,8 @@ use Rattle.unix_bytes.proofs.lemmas.sequences.SequenceLemmas.{IsSequence-three}
 use Rattle.unix_bytes.proofs.lemmas.sequences.SequenceLemmas.{IsSequence-four}
 use Rattle.unix_bytes.proofs.lemmas.text.TextLemmas.{IsText-nil, IsText-append, IsText-sequence}
 
--- of a, b, c and then the list, how many bytes at the end belong to an unfinished sequence
+-- of the bytes a, b, c and then those of the list: how many at the end belong to an unfinished
+-- sequence
 abbrev unfinished_after : ℕ → ℕ → ℕ → List ℕ → ℕ
 unfinished_after a b c [] = unfinished_len a b c
 unfinished_after a b c (d ∷ s) = unfinished_after b c d s
@@ -41,14 +42,14 @@ max_bound c = by (c == 0xED) (c == 0xF4)
     by false true = omega arith
     by false false = omega arith
 
--- if as many bytes are unfinished after a, b, c and s as s has, `TextPrefix` holds with an empty
--- valid prefix
+-- if all bytes of s, and none of a, b and c before them, belong to an unfinished sequence,
+-- `TextPrefix a b c s` holds with an empty valid prefix
 no_prefix : (a b c : ℕ) (s : List ℕ) → unfinished_after a b c s ≡ length s → TextPrefix a b c s
 no_prefix a b c s e = record { len = 0; whole = omega (arith, e); text = IsText-nil }
 
--- if u is a sequence of n bytes, `TextPrefix` holds of s after x, y and z, and at the end of s and
--- of u followed by s equally many bytes are unfinished, then `TextPrefix` holds of u followed by s
--- after a, b and c
+-- if u is a sequence of n bytes, `TextPrefix x y z s` holds, and as many bytes are unfinished at
+-- the end of a, b, c, u and s as at the end of x, y, z and s, then `TextPrefix a b c` holds of u
+-- followed by s
 more_prefix : (u s : List ℕ) (a b c x y z n : ℕ) → IsSequence u → length u ≡ n → TextPrefix x y z s
     → unfinished_after a b c (u ++ s) ≡ unfinished_after x y z s → TextPrefix a b c (u ++ s)
 more_prefix u s a b c x y z n h l f e = record {
@@ -73,8 +74,8 @@ unfinished_len-two a b c l h = rw (lt-leb 0xC0 c l, le-leb 0xE0 b h) refl
 unfinished_len-three : (a b c : ℕ) → c < 0xC0 → b < 0xE0 → 0xF0 ≤ a → unfinished_len a b c ≡ 3
 unfinished_len-three a b c l k h = rw (lt-leb 0xC0 c l, lt-leb 0xE0 b k, le-leb 0xF0 a h) refl
 
--- if e is within the bounds of the byte after d, e is at least A0 after E0, at most 9F after ED, at
--- least 90 after F0, and at most 8F after F4
+-- if e is within the bounds of the byte after d, e is at least A0 if d is E0, at most 9F if d is
+-- ED, at least 90 if d is F0, and at most 8F if d is F4
 second_bounds : (d e : ℕ) → min_second d ≤ e → e ≤ max_second d
     → (d ≡ 0xE0 → 0xA0 ≤ e) × (d ≡ 0xED → e ≤ 0x9F) × (d ≡ 0xF0 → 0x90 ≤ e) × (d ≡ 0xF4 → e ≤ 0x8F)
 second_bounds d e l m = (
@@ -93,8 +94,8 @@ HasPrefixUpTo n =
 
 -- `HasPrefixUpTo` holds of n, and a, b and c leave no sequence unfinished
 module _ (n : ℕ) (fewer : HasPrefixUpTo n) (a b c d : ℕ) (k : IsFinished a b c) where
-  -- if d is from C2 to DF, and each of at most n bytes s after b, c and d may follow the three
-  -- bytes before it, `TextPrefix` holds of d followed by s, after a, b and c
+  -- if d is from C2 to DF, s has at most n bytes, and after b, c and d each byte of s may follow
+  -- the three bytes before it, then `TextPrefix a b c` holds of d followed by s
   two_byte_prefix : (s : List ℕ) → length s ≤ n → 0xC2 ≤ d → d ≤ 0xDF → FitAfter b c d s
       → TextPrefix a b c (d ∷ s)
   two_byte_prefix [] le g l hs = no_prefix _ _ _ _ (unfinished_len-one b c d (omega arith))
@@ -103,8 +104,8 @@ module _ (n : ℕ) (fewer : HasPrefixUpTo n) (a b c d : ℕ) (k : IsFinished a b
       more_prefix (d ∷ e ∷ []) s a b c c d e 2 (IsSequence-two d e (g, l, lo, hi)) refl
       (fewer c d e s (omega arith) (omega arith, omega arith, omega arith) hs) refl
 
-  -- if d is from E0 to EF, and each of at most n bytes s after b, c and d may follow the three
-  -- bytes before it, `TextPrefix` holds of d followed by s, after a, b and c
+  -- if d is from E0 to EF, s has at most n bytes, and after b, c and d each byte of s may follow
+  -- the three bytes before it, then `TextPrefix a b c` holds of d followed by s
   three_byte_prefix : (s : List ℕ) → length s ≤ n → 0xE0 ≤ d → d ≤ 0xEF → FitAfter b c d s
       → TextPrefix a b c (d ∷ s)
   three_byte_prefix [] le g l hs = no_prefix _ _ _ _ (unfinished_len-one b c d (omega arith))
@@ -119,8 +120,8 @@ module _ (n : ℕ) (fewer : HasPrefixUpTo n) (a b c d : ℕ) (k : IsFinished a b
       (IsSequence-three d e f (g, l, lo, hi, lo2, hi2, second.0, second.1)) refl
       (fewer d e f s (omega arith) (omega arith, omega arith, omega arith) hs) refl
 
-  -- if d is from F0 to F4, and each of at most n bytes s after b, c and d may follow the three
-  -- bytes before it, `TextPrefix` holds of d followed by s, after a, b and c
+  -- if d is from F0 to F4, s has at most n bytes, and after b, c and d each byte of s may follow
+  -- the three bytes before it, then `TextPrefix a b c` holds of d followed by s
   four_byte_prefix : (s : List ℕ) → length s ≤ n → 0xF0 ≤ d → d ≤ 0xF4 → FitAfter b c d s
       → TextPrefix a b c (d ∷ s)
   four_byte_prefix [] le g l hs = no_prefix _ _ _ _ (unfinished_len-one b c d (omega arith))
@@ -140,8 +141,8 @@ module _ (n : ℕ) (fewer : HasPrefixUpTo n) (a b c d : ℕ) (k : IsFinished a b
       (IsSequence-four d e f x (g, l, lo, hi, lo2, hi2, lo3, hi3, second.2, second.3)) refl
       (fewer e f x s (omega arith) (omega arith, omega arith, omega arith) hs) refl
 
-  -- if d and each of at most n bytes s after d may follow the three bytes before it, `TextPrefix`
-  -- holds of d followed by s, after a, b and c
+  -- if d may follow a, b and c, s has at most n bytes, and after b, c and d each byte of s may
+  -- follow the three bytes before it, then `TextPrefix a b c` holds of d followed by s
   any_prefix : (s : List ℕ) → length s ≤ n → Fits a b c d → FitAfter b c d s
       → TextPrefix a b c (d ∷ s)
   any_prefix s le h hs =
@@ -164,8 +165,8 @@ has_prefix zero a b c (d ∷ s) le k h = absurd (omega arith)
 has_prefix (suc n) a b c (d ∷ s) le k (h, hs) =
     any_prefix n (has_prefix n) a b c d k s (omega arith) h hs
 
--- if s has at least n bytes: of a, b, c and then the first n bytes of s, the last three determine
--- how many bytes at the end belong to an unfinished sequence (`unfinished_len`)
+-- if s has at least n bytes: of the bytes a, b, c and then the first n of s, the last three
+-- determine how many at the end belong to an unfinished sequence (`unfinished_len`)
 unfinished_after-take : (n a b c : ℕ) (s : List ℕ) → n ≤ length s
     → unfinished_after a b c (take n s)
     ≡ unfinished_len (slice_index (a ∷ b ∷ c ∷ s) n) (slice_index (a ∷ b ∷ c ∷ s) (suc n))

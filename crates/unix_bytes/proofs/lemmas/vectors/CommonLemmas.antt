@@ -12,8 +12,8 @@ use Rattle.std.proofs.lemmas.Simd.{tops_compared, mask_l-mod, first_set_mask_l}
 use Rattle.std.proofs.lemmas.Simd.{length-chunk, get_or-chunk}
 use Rattle.unix_bytes.proofs.lemmas.vectors.HitLemmas.{in_window}
 
--- if a and b have at least n bytes and the same byte at each index below n, and one of them ends at
--- n or they differ at index n, then their common prefix has n bytes
+-- if a and b have at least n bytes and the same byte at each index below n, and if one of them has
+-- only n bytes or they differ at index n, then the common prefix of a and b has n bytes
 pub common_prefix_len-is : (a b : List ℕ) (n : ℕ) → n ≤ length a → n ≤ length b
     → ((k : ℕ) → k < n → get_or a k 0 ≡ get_or b k 0)
     → (n < length a → n < length b → eqb (get_or a n 0) (get_or b n 0) ≡ false)
@@ -81,8 +81,8 @@ zip2-pairs [] b = refl
 zip2-pairs (x ∷ a) [] = refl
 zip2-pairs (x ∷ a) (y ∷ b) = ap (λ ts. not (eqb x y) ∷ ts) (zip2-pairs a b)
 
--- the number of pairs of a and b before the first pair whose bytes differ is the length of their
--- common prefix
+-- the number of pairs of a and b before the first pair whose bytes differ is the length of the
+-- common prefix of a and b
 prefix_len-pairs : (a b : List ℕ)
     → prefix_len (λ pair. not (differ pair)) (pairs a b) ≡ common_prefix_len eqb a b
 prefix_len-pairs [] b = refl
@@ -152,7 +152,7 @@ in_lanes a b n at len l m is =
     }
 
 -- if a and b have n bytes from index `at` on, at most 64, and no bit of `other_mask` of these bytes
--- is set, they are the same in a and b
+-- is set, these bytes are the same in a and b
 pub none_other : (a b : List ℕ) (n at : ℕ) → n ≤ 64 → at + n ≤ length a → at + n ≤ length b
     → other_mask (chunk at n a) (chunk at n b) ≡ 0 → CommonInLanes a b n at n
 none_other a b n at few l m none =

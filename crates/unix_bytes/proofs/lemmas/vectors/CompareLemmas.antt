@@ -12,7 +12,7 @@ use Rattle.std.proofs.lemmas.Bool.{cases_Bool, false≢true}
 same_number : (x y : ℕ) → eqb x y ≡ true → nat_cmp x y ≡ Equal
 same_number x y same = sym (nat_cmp_is x y Equal (eqb-true x y same))
 
--- if x and y differ, their order followed by the order r is the order of x and y
+-- if x and y differ, their order decides, and the order r that is compared next doesn't matter
 other_number : (x y : ℕ) (r : Ordering) → eqb x y ≡ false
     → ordering_then (nat_cmp x y) r ≡ nat_cmp x y
 other_number x y r other =

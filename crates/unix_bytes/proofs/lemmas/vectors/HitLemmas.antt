@@ -14,9 +14,9 @@ use Rattle.std.proofs.lemmas.Simd.{bit_mask_l, mask_l-lt, run_in_chunk_fails, ru
 use Rattle.unix_bytes.specs.Lanes.{hit_mask}
 use Rattle.unix_bytes.proofs.lemmas.vectors.MaskLemmas.{bit, is_clear}
 
--- if `byte` does not occur in s before index `at`, and n is the index of the first `byte` in the
--- window of 16 bytes of s from `from` on, or 16, where `from` is at most `at`, then `byte` does not
--- occur in s before index `from` + n
+-- if `byte` does not occur in s before index `at`, `from` is at most `at`, and n is the index of
+-- the first `byte` among the 16 bytes of s from `from` on, or 16 if none is there, then `byte` does
+-- not occur in s before index `from` + n
 pub none_before : (byte : ℕ) (s : List ℕ) (at from n : ℕ) → from ≤ at → from + 16 ≤ length s
     → n ≡ position_or_len (λ b. b == byte) (take 16 (drop from s))
     → ((k : ℕ) → k < at → (get_or s k 0 == byte) ≡ false)
@@ -26,9 +26,9 @@ none_before byte s at from n order fits is none k l =
     (λ (more : at ≤ k).
     run_in_chunk_fails (λ b. b == byte) s from 16 n 0 fits is k (omega arith) l) (cases_lt k at)
 
--- if `byte` does not occur in s before index `at`, `from` is at most `at`, n is the index of the
--- first `byte` in the 16 bytes of s from `from` on, or 16, and n is less than 16 or these bytes end
--- s, then `from` + n is the index of the first `byte` in s, or the length of s
+-- if `byte` does not occur in s before index `at`, `from` is at most `at`, and n is the index of
+-- the first `byte` among the 16 bytes of s from `from` on, or 16 if none is there and s ends after
+-- them, then `from` + n is the index of the first `byte` in s, or the length of s
 pub first_after : (byte : ℕ) (s : List ℕ) (at from n : ℕ) → from ≤ at → from + 16 ≤ length s
     → n ≡ position_or_len (λ b. b == byte) (take 16 (drop from s)) → n ≤ 16
     → ((k : ℕ) → k < at → (get_or s k 0 == byte) ≡ false) → (from + n < length s → n < 16)
@@ -106,7 +106,7 @@ last_hit byte xs l =
     })
 
 -- if `byte` does not occur in s from index `from` on, `position_or_len` of the bytes of s from
--- there on is their number
+-- there on is the number of these bytes
 pub none_from : (byte : ℕ) (s : List ℕ) (from : ℕ) → from ≤ length s
     → ((k : ℕ) → from ≤ k → k < length s → (get_or s k 0 == byte) ≡ false)
     → position_or_len (λ b. b == byte) (drop from s) ≡ length (drop from s)

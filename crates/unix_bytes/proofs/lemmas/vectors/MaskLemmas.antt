@@ -38,16 +38,17 @@ pub is_clear : (t : Bool) → bit t ≡ 0 → t ≡ false
 is_clear true e = absurd (omega arith)
 is_clear false e = refl
 
--- if the mask of the bytes of xs that are less than the byte of ys with the same index is 0, no
--- byte of xs is less than the byte of ys with the same index
+-- if the mask of the indices at which the byte of xs is less than the byte of ys is 0, no byte of
+-- xs is less than the byte of ys with the same index
 none_less : (xs ys : List ℕ) → mask_l (zip2 ltb xs ys) ≡ 0 → AllAtLeast xs ys
 none_less [] ys e = tt
 none_less (x ∷ xs) [] e = tt
 none_less (x ∷ xs) (y ∷ ys) e =
     (ltb-false x y (is_clear (ltb x y) (omega arith)), none_less xs ys (omega arith))
 
--- if the mask that the code computes, of those of the 16 bytes xs that are less than the byte of ys
--- with the same index, is 0, no byte of xs is less than the byte of ys with the same index
+-- for 16 bytes xs and 16 bytes ys: if the mask that the code computes of the indices at which the
+-- byte of xs is less than the byte of ys is 0, no byte of xs is less than the byte of ys with the
+-- same index
 pub none_below : (xs ys : List ℕ) → length xs ≡ 16 → length ys ≡ 16
     → mask_l (map (top 7) (zip2 (λ a b. cond (ltb a b) 255 0) xs ys)) % 2 ^ 64 ≡ 0
     → AllAtLeast xs ys
