@@ -41,9 +41,9 @@ module _ {V : Type 0} (old new : List (PathBuf × V)) where
       All-rest (λ v. is_le (values_cmp base v) ≡ true) (values (path_bytes e.0.now))
       (paths_of new) (paths_of old) (ap paths_of some) from
 
-  -- if `old` is e and then `new`, the paths of `old` are strictly increasing, none of them is
-  -- before base, and the path of e isn't under base, then neither `old` nor `new` has rows under
-  -- base
+  -- by `DescendantsContiguous`: if `old` is e and then `new`, the paths of `old` are strictly
+  -- increasing, none of them is before base, and the path of e isn't under base, then neither `old`
+  -- nor `new` has rows under base
   pub none_remaining : DescendantsContiguous → (base : List Value) (e : PathBuf × V) → old ≡ e ∷ new
       → IsStrictlySortedBy values_cmp (paths_of old) → NoneBefore base (paths_of old)
       → (IsPrefixOf base (values (path_bytes e.0)) → ⊥)

@@ -51,7 +51,7 @@ module _ {V : Type 0} (base : List Value) (entries range : List (PathBuf × V))
       subst (NoneBefore base) (sym keys_are)
       (filter_passes (λ v. is_le (values_cmp base v)) _)
 
-  -- the rows of `range` under base are the rows of `entries` under base
+  -- by `BaseBeforeUnder`, the rows of `range` under base are the rows of `entries` under base
   pub range_under : BaseBeforeUnder
       → entries_under base (rows_of path_bytes range)
       ≡ entries_under base (rows_of path_bytes entries)

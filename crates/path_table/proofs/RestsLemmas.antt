@@ -45,8 +45,8 @@ module _ {V : Type 0} (base : List ℕ) where
   abbrev is_entry_under : PathBuf × V → Bool
   is_entry_under e = is_under (values base) (values (path_bytes e.0))
 
-  -- if `range` has those of `entries` whose paths are not before base, `range` and `entries` have
-  -- the same rests under base
+  -- by `BaseBeforeUnder`: if `range` has those of `entries` whose paths are not before base,
+  -- `range` and `entries` have the same rests under base
   pub rests_from_base : BaseBeforeUnder → (entries range : List (PathBuf × V))
       → range ≡ filter (λ e. is_le (values_cmp (values base) (values (path_bytes e.0)))) entries
       → rests_under base range ≡ rests_under base entries
@@ -58,8 +58,8 @@ module _ {V : Type 0} (base : List ℕ) where
       (λ e is. before (values base) (values (path_bytes e.0))
       (begins_from_under (values base) (values (path_bytes e.0)) is)) entries)
 
-  -- if the path of e is under base, the rests under base of e and then `entries` are the rest of e,
-  -- and then the rests under base of `entries`
+  -- if the path of e is under base, the list of e and then `entries` has as rests under base the
+  -- rest of e, and then the rests under base of `entries`
   pub first_rest : (e : PathBuf × V) (entries : List (PathBuf × V))
       → IsPrefixOf (values base) (values (path_bytes e.0))
       → rests_under base (e ∷ entries)
