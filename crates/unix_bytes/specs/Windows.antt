@@ -24,12 +24,13 @@ pub record Continues (a b c d : ℕ) : Type 0 where
   pub within : IsUnfinished a b c → (0x80 ≤ d) × (d ≤ 0xBF)
   pub begins : IsFinished a b c → (d < 0x80) ⊎ (0xC2 ≤ d)
 
--- each byte of the fourth list continues the bytes with its index in the first three (`Continues`)
+-- at each index of all four lists, the byte of the fourth list continues the bytes of the first
+-- three (`Continues`)
 abbrev pub AllContinue : List ℕ → List ℕ → List ℕ → List ℕ → Type 0
 AllContinue (a ∷ s) (b ∷ t) (c ∷ u) (d ∷ v) = Continues a b c d × AllContinue s t u v
 AllContinue s t u v = ⊤
 
--- no byte of the first list is less than the byte with the same index in the second
+-- no byte of the first list is less than the byte with the same index in the second list
 abbrev pub AllAtLeast : List ℕ → List ℕ → Type 0
 AllAtLeast (d ∷ s) (l ∷ t) = (l ≤ d) × AllAtLeast s t
 AllAtLeast s t = ⊤
@@ -40,12 +41,13 @@ pub record Fits (a b c d : ℕ) : Type 0 where
   pub min : min_second c ≤ d
   pub max : d ≤ max_second c
 
--- each byte of the list may follow the three bytes before it; a, b and c come before the first byte
+-- each byte of the list may follow the three bytes before it in UTF-8, where a, b and c come before
+-- the first byte of the list
 abbrev pub FitAfter : ℕ → ℕ → ℕ → List ℕ → Type 0
 FitAfter a b c [] = ⊤
 FitAfter a b c (d ∷ s) = Fits a b c d × FitAfter b c d s
 
--- each of the first 16 bytes from index 3 on may follow the three bytes before it
+-- each of the first 16 bytes from index 3 on may follow the three bytes before it in UTF-8
 abbrev pub FitsWindow : List ℕ → Type 0
 FitsWindow (a ∷ b ∷ c ∷ s) = FitAfter a b c (take 16 s)
 FitsWindow s = ⊤

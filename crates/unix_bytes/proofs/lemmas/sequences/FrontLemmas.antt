@@ -21,8 +21,8 @@ use Rattle.unix_bytes.proofs.lemmas.sequences.LongestLemmas.{longest_len-least}
 pub BeginsSequence-sequence : (u : List ℕ) → IsSequence u → BeginsSequence u
 BeginsSequence-sequence u h = ([], subst IsSequence (sym (append-nil u)) h)
 
--- if a byte string starts with the sequence u, no longer prefix of this byte string begins a
--- sequence
+-- if a byte string starts with the sequence u, no prefix of this byte string that is longer than u
+-- begins a sequence
 none_longer : (u s : List ℕ) (k : ℕ) → IsSequence u → length u < k → k ≤ length (u ++ s)
     → BeginsSequence (take k (u ++ s)) → ⊥
 none_longer u s k h more within (v, is) =

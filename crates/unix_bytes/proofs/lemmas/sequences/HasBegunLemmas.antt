@@ -1,5 +1,5 @@
--- When the first two, three or four bytes begin a sequence (`HasBegun`), by the ranges of the
--- bytes.
+-- The ranges of the first two, three or four bytes of a byte string, if these begin a sequence
+-- (`HasBegun`).
 use Rattle.std.proofs.Common.{◌≡◌, ℕ, ◌<◌, ◌≤◌, List, [], ◌∷◌, length, take, true, ⊎_elim, arith}
 use Rattle.std.proofs.Common.{refl, ap, ◌∙◌, drop, slice_index, get_or-drop, add-zero}
 use Rattle.std.proofs.lemmas.Bool.{cases_lt}
@@ -146,7 +146,8 @@ HasBegun-two_of_three (x ∷ y ∷ z ∷ s) h =
     let (u, is) = BeginsSequence-from (x ∷ y ∷ z ∷ []) h.1 in
     (omega arith, begins_sequence-from (x ∷ y ∷ []) (z ∷ u, is))
 
--- lemmas about when the first two, three or four bytes begin a sequence, by the byte at each index
+-- lemmas that say for which bytes at indices 0 to 3 of s the first two, three or four bytes of s
+-- begin a sequence (`HasBegun`)
 pub ruleset beginnings =
     (take-two, pair_bounds, HasBegun-three, third_byte_bounds, HasBegun-four, fourth_byte_bounds)
 

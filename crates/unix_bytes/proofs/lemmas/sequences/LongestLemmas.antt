@@ -6,8 +6,8 @@ use Rattle.std.proofs.lemmas.Bool.{cases_lt, cond-true, cond-false, true≢false
 use Rattle.std.proofs.lemmas.List.{take_at}
 use Rattle.unix_bytes.specs.Steps.{longest_len_to, longest_len}
 
--- let n be at most m: if n is 0 or the first n bytes of s pass the test, and if no longer prefix of
--- up to m bytes passes, `longest_len_to m test s` is n
+-- let n be at most m: if n is 0 or the first n bytes of s pass the test, and if each longer prefix
+-- of s of up to m bytes fails, `longest_len_to m test s` is n
 longest_len_to-is : (m n : ℕ) (test : List ℕ → Bool) (s : List ℕ) → n ≤ m
     → (n ≡ 0) ⊎ (test (take n s) ≡ true)
     → ((k : ℕ) → n < k → k ≤ m → test (take k s) ≡ false) → longest_len_to m test s ≡ n
@@ -23,16 +23,16 @@ longest_len_to-is (suc m) n test s le at above =
     (λ t. cond-true _ _ _ (subst (λ j. test (take j s) ≡ true) e t) ∙ sym e) at)
     (cases_lt n (suc m))
 
--- let n be at most the length of s: if n is 0 or the first n bytes of s pass the test, and if no
--- longer prefix of s passes, `longest_len test s` is n
+-- let n be at most the length of s: if n is 0 or the first n bytes of s pass the test, and if each
+-- longer prefix of s fails, `longest_len test s` is n
 pub longest_len-is : (test : List ℕ → Bool) (s : List ℕ) (n : ℕ) → n ≤ length s
     → (n ≡ 0) ⊎ (test (take n s) ≡ true)
     → ((k : ℕ) → n < k → k ≤ length s → test (take k s) ≡ false) → longest_len test s ≡ n
 unfolding longest_len
 longest_len-is test s n le at above = longest_len_to-is (length s) n test s le at above
 
--- n is at most m; either n is 0 or the first n bytes of s pass the test; and no longer prefix of up
--- to m bytes passes
+-- n is at most m; n is 0 or the first n bytes of s pass the test; and each longer prefix of s of up
+-- to m bytes fails
 pub record Longest (test : List ℕ → Bool) (s : List ℕ) (n m : ℕ) : Type 0 where
   pub within : n ≤ m
   pub passes : (n ≡ 0) ⊎ (test (take n s) ≡ true)

@@ -1,4 +1,4 @@
--- The length of a sequence, by its first byte. No sequence is a proper prefix of another.
+-- The first byte of a sequence determines its length. No sequence is a proper prefix of another.
 use Rattle.std.specs.Prelude.{◌↔◌}
 use Rattle.std.proofs.Common.{◌⊎◌, ◌≡◌, ℕ, suc, ◌<◌, ◌≤◌, List, [], ◌∷◌, ◌++◌, length, ⊎_elim, refl}
 use Rattle.std.proofs.Common.{sym, ◌∙◌, arith, length-append}

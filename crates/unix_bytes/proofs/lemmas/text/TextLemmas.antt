@@ -79,7 +79,8 @@ IsUtf8-concat (u ∷ us) h =
     let k : IsSequence u × (list_all is_sequence us ≡ true) = and_parts _ _ h in
     IsUtf8-append u (concat us) (IsUtf8-sequence u k.0) (IsUtf8-concat us k.1)
 
--- `IsText` implies `IsUtf8`
+-- if s is valid UTF-8 by the table of RFC 3629 (`IsText`), it is UTF-8 as Rattle's std defines it
+-- (`IsUtf8`)
 pub IsUtf8-from_IsText : (s : List ℕ) → IsText s → IsUtf8 s
 IsUtf8-from_IsText s (us, h, e) =
     subst IsUtf8 e (IsUtf8-concat us (list_all-from_AllPass is_sequence us h))
@@ -94,7 +95,8 @@ sequences (c ∷ cs) h =
     let j = sequences cs k.1 in
     (rw (IsSequence-encode c k.0, j.0) refl, ap (λ t. encode c ++ t) j.1)
 
--- `IsUtf8` implies `IsText`
+-- if s is UTF-8 as Rattle's std defines it (`IsUtf8`), it is valid UTF-8 by the table of RFC 3629
+-- (`IsText`)
 pub IsText-from_IsUtf8 : (s : List ℕ) → IsUtf8 s → IsText s
 IsText-from_IsUtf8 s (cs, (h, e)) =
     let j = sequences cs h in
