@@ -10,7 +10,7 @@ use std::simd::Simd;
 // The size of the buffers for lossy forms, in bytes.
 pub(crate) const BUFFER_LEN: usize = 256;
 
-// Copies `bytes` into `out` at index `at`, where `out` must have enough bytes.
+// Copies `bytes` into `out` at index `at`. `out` must have at least as many bytes from `at` on.
 #[inline(always)]
 fn copy_at(out: &mut [u8], at: usize, bytes: &[u8])
     requires { at + length bytes.now ≤ length out.old }

@@ -16,7 +16,7 @@ use Rattle.std.proofs.Math.Seq.{take-add}
 use Rattle.unix_bytes.specs.Lanes.{is_non_ascii, non_ascii_mask}
 use Rattle.unix_bytes.proofs.lemmas.vectors.MaskLemmas.{min_bits, min_mask}
 
--- the byte is ASCII
+-- the byte b is ASCII
 abbrev is_narrow : ℕ → Bool
 is_narrow b = not (is_non_ascii b)
 

@@ -29,7 +29,7 @@ mask_bound k xs e =
     let l = length-map xs (nat_le k) ∙ e in
     subst (λ n. mask_l (map (nat_le k) xs) < 2 ^ n) l (mask_l-lt (map (nat_le k) xs))
 
--- a truth value as a bit
+-- the bit of the test result t: 1 if t is true, and otherwise 0
 abbrev pub bit : Bool → ℕ
 bit t = cond t 1 0
 
