@@ -1,4 +1,5 @@
--- After a call of `next` the remaining rows are strictly increasing, and none is before the base.
+-- After a call of `next` of `Under`, the remaining paths are still strictly increasing, and none is
+-- before the base.
 use Rattle.std.proofs.Common.{◌≡◌, ◌∷◌, ◌∙◌, ◌<◌, [], List, true, Option, Some, None}
 use Rattle.std.proofs.Common.{ap, sym, subst, length, arith}
 use Rattle.std.proofs.lemmas.List.Elements.{All-nil, All-head, All-rest}
@@ -18,7 +19,8 @@ use Rattle.path_table.specs.Table.{NoneBefore, entries_under, paths_of}
 use Rattle.path_table.proofs.UnderLemmas.{none_under, skip_under}
 
 module _ {V : Type 0} (old new : List (PathBuf × V)) where
-  -- if the remaining paths are strictly increasing, they still are after a call of `next`
+  -- if a call of `next` takes the first of the entries `old`, if any, and leaves `new`, and the
+  -- paths of `old` are strictly increasing, so are the paths of `new`
   pub next_ordered : (r : Option (Bor PathBuf × Bor V)) → TakesFirst deref_pair old r new
       → IsStrictlySortedBy values_cmp (paths_of old) → IsStrictlySortedBy values_cmp (paths_of new)
   unfolding IsStrictlySortedBy
@@ -28,7 +30,8 @@ module _ {V : Type 0} (old new : List (PathBuf × V)) where
       sorted_tail values_cmp (values (path_bytes e.0.now)) (paths_of new)
       (subst (λ es. IsStrictlySortedBy values_cmp (paths_of es)) some sorted)
 
-  -- if no remaining path is before base, none is before base after a call of `next`
+  -- if a call of `next` takes the first of the entries `old`, if any, and leaves `new`, and no path
+  -- of `old` is before base, no path of `new` is before base
   pub next_not_before : (base : List Value) (r : Option (Bor PathBuf × Bor V))
       → TakesFirst deref_pair old r new
       → NoneBefore base (paths_of old) → NoneBefore base (paths_of new)
@@ -38,8 +41,9 @@ module _ {V : Type 0} (old new : List (PathBuf × V)) where
       All-rest (λ v. is_le (values_cmp base v) ≡ true) (values (path_bytes e.0.now))
       (paths_of new) (paths_of old) (ap paths_of some) from
 
-  -- if the first remaining path isn't under base, no remaining path is under base, either before or
-  -- after the call of `next`
+  -- by `DescendantsContiguous`: if `old` is e and then `new`, the paths of `old` are strictly
+  -- increasing, none of them is before base, and the path of e isn't under base, then neither `old`
+  -- nor `new` has rows under base
   pub none_remaining : DescendantsContiguous → (base : List Value) (e : PathBuf × V) → old ≡ e ∷ new
       → IsStrictlySortedBy values_cmp (paths_of old) → NoneBefore base (paths_of old)
       → (IsPrefixOf base (values (path_bytes e.0)) → ⊥)
@@ -58,6 +62,6 @@ module _ {V : Type 0} (old new : List (PathBuf × V)) where
         none,
       )
 
--- a list without its first item is shorter
+-- if `old` is x and then `new`, `new` is shorter than `old`
 pub one_fewer : {A : Type 0} (x : A) (old new : List A) → old ≡ x ∷ new → length new < length old
 one_fewer x old new next = rw next (omega arith)

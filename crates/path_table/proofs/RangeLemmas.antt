@@ -1,5 +1,5 @@
--- The rows of a table that are not before a base in path order are the rows of the map's range that
--- starts at the base.
+-- The entries of a table from a base on, in path order: they are strictly increasing, and have all
+-- rows under the base.
 use Rattle.std.proofs.Common.{◌≡◌, ◌∙◌, ◌≤◌, List, Bool, sym, ap, subst, length}
 use Rattle.std.proofs.Common.{arith}
 use Rattle.std.proofs.lemmas.List.{length-map}
@@ -21,21 +21,23 @@ use Rattle.path_table.specs.Table.{NoneBefore, entries_under, paths_of, row_afte
 use Rattle.path_table.proofs.RowLemmas.{sorted-rows_of, rows_of-filter, keys_of-filter}
 use Rattle.path_table.proofs.UnderLemmas.{from_base, under_from_base}
 
+-- `range` has those of `entries` whose paths are not before base
 module _ {V : Type 0} (base : List Value) (entries range : List (PathBuf × V))
     (is : range ≡ filter (λ e. is_le (values_cmp base (values (path_bytes e.0)))) entries) where
-  -- the rows of the range are the rows that are not before base
+  -- the rows of `range` are the rows of `entries` that are not before base
   rows_are : rows_of path_bytes range ≡ from_base base (rows_of path_bytes entries)
   rows_are =
       ap (rows_of path_bytes) is ∙ rows_of-filter (λ v. is_le (values_cmp base v)) entries
 
-  -- the components of the range's paths are the components of all paths that are not before base
+  -- the components of the paths of `range` are the components of those paths of `entries` that are
+  -- not before base
   keys_are : keys_of (rows_of path_bytes range)
       ≡ filter (λ v. is_le (values_cmp base v)) (keys_of (rows_of path_bytes entries))
   keys_are =
       ap keys_of rows_are
       ∙ keys_of-filter (λ v. is_le (values_cmp base v)) (rows_of path_bytes entries)
 
-  -- the range's paths are strictly increasing
+  -- if the paths of `entries` are strictly increasing, so are the paths of `range`
   pub range_ordered : IsStrictlySortedBy (on (λ p. values (path_bytes p)) values_cmp)
       (keys_of entries) → IsStrictlySortedBy values_cmp (paths_of range)
   range_ordered sorted =
@@ -43,13 +45,13 @@ module _ {V : Type 0} (base : List Value) (entries range : List (PathBuf × V))
       (IsStrictlySortedBy-filter values_cmp (λ v. is_le (values_cmp base v)) _
       (sorted-rows_of entries sorted))
 
-  -- no path of the range is before base
+  -- no path of `range` is before base
   pub range_from_base : NoneBefore base (paths_of range)
   range_from_base =
       subst (NoneBefore base) (sym keys_are)
       (filter_passes (λ v. is_le (values_cmp base v)) _)
 
-  -- the rows under base in the range are all rows under base
+  -- by `BaseBeforeUnder`, the rows of `range` under base are the rows of `entries` under base
   pub range_under : BaseBeforeUnder
       → entries_under base (rows_of path_bytes range)
       ≡ entries_under base (rows_of path_bytes entries)
@@ -57,7 +59,7 @@ module _ {V : Type 0} (base : List Value) (entries range : List (PathBuf × V))
       ap (entries_under base) rows_are
       ∙ under_from_base base before (rows_of path_bytes entries)
 
--- there are no more entries under a base than entries
+-- `range` has no more rows under base than entries
 pub fewer_under : {V : Type 0} (base : List Value) (range : List (PathBuf × V))
     → length (entries_under base (rows_of path_bytes range)) ≤ length range
 fewer_under {V} base range =

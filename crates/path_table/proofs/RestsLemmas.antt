@@ -16,8 +16,8 @@ use Rattle.path_runs.specs.Rows.{is_under}
 use Rattle.path_table.specs.Table.{entries_under, rests_under, row_after_base}
 use Rattle.path_runs.proofs.lemmas.rows.UnderLemmas.{begins_from_under, under_from_begins}
 
--- if `test` implies `weaker`, filtering by `weaker` and then by `test` has the same result as
--- filtering by `test`
+-- if each x that passes `test` passes `weaker`, filtering by `weaker` and then by `test` has the
+-- same result as filtering by `test`
 module _ {X : Type 0} (test weaker : X → Bool)
     (implies : (x : X) → test x ≡ true → weaker x ≡ true) where
   filter_first : (x : X) (xs : List X) (p q : Bool) → test x ≡ p → weaker x ≡ q
@@ -37,16 +37,16 @@ module _ {X : Type 0} (test weaker : X → Bool)
       filter_first x xs (test x) (weaker x) refl refl (filter_filter xs)
 
 module _ {V : Type 0} (base : List ℕ) where
-  -- the rest of the entry's path after base, with the entry's value
+  -- the bytes of the path of e that remain after base, and the value of e
   abbrev rest_of : PathBuf × V → List ℕ × V
   rest_of e = (stripped_of (path_bytes e.0) base, e.1)
 
-  -- the path of the entry is under base
+  -- the path of e is under base
   abbrev is_entry_under : PathBuf × V → Bool
   is_entry_under e = is_under (values base) (values (path_bytes e.0))
 
-  -- if `range` has the entries that are not before base, it has the same rests under base as all
-  -- `entries`
+  -- by `BaseBeforeUnder`: if `range` has those of `entries` whose paths are not before base,
+  -- `range` and `entries` have the same rests under base
   pub rests_from_base : BaseBeforeUnder → (entries range : List (PathBuf × V))
       → range ≡ filter (λ e. is_le (values_cmp (values base) (values (path_bytes e.0)))) entries
       → rests_under base range ≡ rests_under base entries
@@ -58,7 +58,8 @@ module _ {V : Type 0} (base : List ℕ) where
       (λ e is. before (values base) (values (path_bytes e.0))
       (begins_from_under (values base) (values (path_bytes e.0)) is)) entries)
 
-  -- if the first entry is under base, its rest is the first rest
+  -- if the path of e is under base, the list of e and then `entries` has as rests under base the
+  -- rest of e, and then the rests under base of `entries`
   pub first_rest : (e : PathBuf × V) (entries : List (PathBuf × V))
       → IsPrefixOf (values base) (values (path_bytes e.0))
       → rests_under base (e ∷ entries)
@@ -68,7 +69,7 @@ module _ {V : Type 0} (base : List ℕ) where
       (cond b (e ∷ filter is_entry_under entries) (filter is_entry_under entries)))
       (under_from_begins (values base) (values (path_bytes e.0)) begins)
 
-  -- there are as many rests under base as rows under base
+  -- `entries` has as many rests under base as rows under base
   as_many : (entries : List (PathBuf × V))
       → length (rests_under base entries)
       ≡ length (entries_under (values base) (rows_of path_bytes entries))
@@ -85,7 +86,7 @@ module _ {V : Type 0} (base : List ℕ) where
         | false ↦ as_many entries
       ]
 
-  -- if there are no rows under base, there are no rests
+  -- if `entries` has no rows under base, it has no rests under base
   pub no_rests : (entries : List (PathBuf × V))
       → entries_under (values base) (rows_of path_bytes entries) ≡ []
       → rests_under base entries ≡ []

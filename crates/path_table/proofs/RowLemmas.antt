@@ -1,5 +1,5 @@
--- The rows of a table are strictly increasing. Filtering the entries by components filters the rows
--- in the same way.
+-- The rows of a table are strictly increasing. Filtering entries by the components of their paths
+-- filters their rows in the same way.
 use Rattle.std.proofs.Common.{◌≡◌, ◌∷◌, [], List, Bool, true, false, cond, refl, ap, Less}
 use Rattle.std.specs.List.{AllByRecursion, filter}
 use Rattle.std.specs.List.Sorted.{IsStrictlySortedBy}
@@ -13,14 +13,14 @@ use Rattle.unix_path.specs.declared.buf.PathBuf.{PathBuf}
 use Rattle.path_runs.specs.TableLaws.{rows_of}
 
 module _ {V : Type 0} where
-  -- if the paths of all entries are greater than v, so are the components of all rows
+  -- if the components of the path of each of `entries` are greater than v, so are those of each row
   rows_greater : (v : List Value) (entries : List (PathBuf × V))
       → AllByRecursion (λ p. values_cmp v (values (path_bytes p)) ≡ Less) (keys_of entries)
       → AllByRecursion (λ w. values_cmp v w ≡ Less) (keys_of (rows_of path_bytes entries))
   rows_greater v [] greater = tt
   rows_greater v (e ∷ entries) greater = (greater.0, rows_greater v entries greater.1)
 
-  -- if the paths of the entries are strictly increasing, so are the components of the rows
+  -- if the paths of `entries` are strictly increasing, so are the components of their rows
   pub sorted-rows_of : (entries : List (PathBuf × V))
       → IsStrictlySortedBy (on (λ p. values (path_bytes p)) values_cmp) (keys_of entries)
       → IsStrictlySortedBy values_cmp (keys_of (rows_of path_bytes entries))
@@ -29,7 +29,8 @@ module _ {V : Type 0} where
   sorted-rows_of (e ∷ entries) sorted =
       (rows_greater (values (path_bytes e.0)) entries sorted.0, sorted-rows_of entries sorted.1)
 
-  -- the rows of the entries whose components pass a test are the rows whose components pass it
+  -- filtering `entries` by a test of the components of their paths, and then taking the rows, has
+  -- the same result as filtering the rows of `entries` by the test of their components
   pub rows_of-filter : (test : List Value → Bool) (entries : List (PathBuf × V))
       → rows_of path_bytes (filter (λ e. test (values (path_bytes e.0))) entries)
       ≡ filter (λ row. test row.0) (rows_of path_bytes entries)
@@ -58,7 +59,8 @@ module _ {V : Type 0} where
         | false ↦ keys_of-filter test rows
       ]
 
-  -- setting the value of the entry at a path sets the value of the row with the path's components
+  -- setting the value of the entry at the components v to x, and then taking the rows, has the same
+  -- result as setting the value of the row at v to x
   pub rows_of-set_value : (v : List Value) (entries : List (PathBuf × V)) (x : V)
       → rows_of path_bytes
       (set_value (is_at (λ p. values_cmp v (values (path_bytes p)))) entries x)

@@ -10,8 +10,8 @@ use Rattle.path_table.specs.contracts.table.PathTable.{the_row}
 use Rattle.path_table.specs.declared.table.PathTable.{PathTable}
 
 -- when the borrow r of the value at the components v ends, the table s has the last value of r at
--- v, and all other values and the bytes of its keys are unchanged; if r is `None`, the whole table
--- is unchanged
+-- v, and all other values and the bytes of all keys are unchanged; if r is `None`, all values and
+-- the bytes of all keys are unchanged
 abbrev pub lends_table_value : (V : RattleType) → MutBor (PathTable V.Denot) → List Value
     → Option (MutBor V.Denot) → Fml
 lends_table_value V s v r = LendsSo (the_row V) V s r

@@ -15,15 +15,15 @@ use Rattle.path_runs.specs.Rows.{is_under}
 use Rattle.path_runs.specs.TableLaws.{rows_of}
 use Rattle.path_table.specs.declared.table.PathTable.{PathTable}
 
--- the entries in path order: each path as it was inserted, with its value
+-- the entries of a table in path order: each path as it was inserted, with its value
 abbrev pub entries_of : {V : Type 0} → PathTable V → List (PathBuf × V)
 entries_of table = table.inner.entries
 
--- the rows in path order: the components of each path, with its value
+-- the rows of a table in path order: the components of each path, with its value
 abbrev pub table_of : {V : Type 0} → PathTable V → List (List Value × V)
 table_of table = rows_of path_bytes (entries_of table)
 
--- the bytes of each path as it was inserted, in path order
+-- the bytes of each path of a table as it was inserted, in path order
 abbrev pub key_bytes : {V : Type 0} → PathTable V → List (List ℕ)
 key_bytes table = map path_bytes (keys_of (entries_of table))
 
@@ -31,11 +31,11 @@ key_bytes table = map path_bytes (keys_of (entries_of table))
 abbrev pub paths_cmp : PathBuf → PathBuf → Ordering
 paths_cmp p q = values_cmp (values (path_bytes p)) (values (path_bytes q))
 
--- the components of each entry's path
+-- the components of the path of each of `entries`
 abbrev pub paths_of : {V : Type 0} → List (PathBuf × V) → List (List Value)
 paths_of entries = keys_of (rows_of path_bytes entries)
 
--- none of these component lists comes before base in path order
+-- none of the component lists `paths` comes before base in path order
 abbrev pub NoneBefore : List Value → List (List Value) → Type 0
 NoneBefore base paths = AllPass (λ v. is_le (values_cmp base v)) paths
 
@@ -43,7 +43,8 @@ NoneBefore base paths = AllPass (λ v. is_le (values_cmp base v)) paths
 abbrev pub row_after_base : {V : Type 0} → List Value → List Value × V → List Value × V
 row_after_base base row = (drop (length base) row.0, row.1)
 
--- the rows whose components start with base, in their order, without these leading components
+-- those of `rows` whose components start with base, in their order, each without the components of
+-- base
 abbrev pub entries_under : {V : Type 0} → List Value → List (List Value × V)
     → List (List Value × V)
 entries_under base rows = map (row_after_base base) (filter (λ row. is_under base row.0) rows)
@@ -56,7 +57,7 @@ item_row item = (values item.0.bytes.now, item.1.now)
 abbrev pub item_rest : {V : Type 0} → Path × Bor V → List ℕ × V
 item_rest item = (item.0.bytes.now, item.1.now)
 
--- for each entry under base, the bytes of its path that remain after base, and its value
+-- for each of `entries` under base, the bytes of its path that remain after base, and its value
 abbrev pub rests_under : {V : Type 0} → List ℕ → List (PathBuf × V) → List (List ℕ × V)
 rests_under base entries = map (λ e. (stripped_of (path_bytes e.0) base, e.1))
     (filter (λ e. is_under (values base) (values (path_bytes e.0))) entries)

@@ -5,7 +5,8 @@ use Rattle.unix_bytes.specs.Lossy.{fronts_of, replacement}
 use Rattle.unix_bytes.specs.declared.lossy.Utf8LossyChunk.{Utf8LossyChunk}
 use Rattle.unix_bytes.specs.declared.lossy.Utf8LossyChunksIter.{Utf8LossyChunksIter}
 
--- valid UTF-8, and the invalid front after it, which is empty if the bytes end there
+-- a chunk: the bytes `valid`, which are valid UTF-8, and then the invalid front `broken`, which is
+-- empty if the byte string ends after `valid`
 pub record Chunk : Type 0 where
   pub valid : List ℕ
   pub broken : List ℕ
@@ -18,15 +19,15 @@ chunks_from text (u ∷ us) =
     if is_sequence u then chunks_from (text ++ u) us
     else record { valid = text; broken = u } ∷ chunks_from [] us
 
--- the fronts of the bytes, grouped into chunks
+-- the chunks of s: the fronts of s, grouped into chunks
 unfoldable pub chunks_of : List ℕ → List Chunk
 chunks_of s = chunks_from [] (fronts_of s)
 
--- U+FFFD if `broken` is not empty, and otherwise nothing
+-- the bytes that are shown for `broken`: U+FFFD, or nothing if `broken` is empty
 abbrev pub replacement_for : List ℕ → List ℕ
 replacement_for broken = if length broken == 0 then [] else replacement
 
--- a chunk's valid UTF-8, and U+FFFD for its invalid front
+-- the shown form of a chunk: its valid UTF-8, and then U+FFFD if it has an invalid front
 abbrev pub shown_chunk : Chunk → List ℕ
 shown_chunk c = c.valid ++ replacement_for c.broken
 

@@ -5,6 +5,6 @@ use Rattle.std.specs.Prelude.{◌≡◌, ◌≤◌, List, ◌++◌, length}
 abbrev pub IsPrefixOf : {A : Type 0} → List A → List A → Type 0
 IsPrefixOf {A} v w = (more : List A) × (v ++ more ≡ w)
 
--- v is a prefix of w, and P holds of no longer prefix of w
+-- v is a prefix of w, and no prefix of w of which P holds is longer than v
 abbrev pub IsLongest : {A : Type 0} → (List A → Type 0) → List A → List A → Type 0
 IsLongest {A} P v w = IsPrefixOf v w × ((u : List A) → P u → IsPrefixOf u w → length u ≤ length v)

@@ -17,35 +17,35 @@ TextIsUtf8 = (s : List ℕ) → IsText s ↔ IsUtf8 s
 abbrev pub SequencesStandAlone : Type 0
 SequencesStandAlone = (u v : List ℕ) → IsSequence u → IsSequence (u ++ v) → v ≡ []
 
--- `begins_sequence` is true if and only if `BeginsSequence` holds
+-- t passes the test `begins_sequence` if and only if some sequence begins with t (`BeginsSequence`)
 abbrev pub BeginningIsTested : Type 0
 BeginningIsTested = (t : List ℕ) → (begins_sequence t ≡ true) ↔ BeginsSequence t
 
--- `is_text` is true if and only if `IsText` holds
+-- s passes the test `is_text` if and only if s is valid UTF-8 (`IsText`)
 abbrev pub TextIsTested : Type 0
 TextIsTested = (s : List ℕ) → (is_text s ≡ true) ↔ IsText s
 
--- the fronts, one after the other, are the bytes
+-- the fronts of s, one after the other, are s
 abbrev pub FrontsPartition : Type 0
 FrontsPartition = (s : List ℕ) → concat (fronts_of s) ≡ s
 
--- the fronts after the first are the fronts of the bytes after the first front
+-- the fronts of s after the first are the fronts of the bytes of s after the first front
 abbrev pub FrontsOneByOne : Type 0
 FrontsOneByOne = (s : List ℕ) → drop 1 (fronts_of s) ≡ fronts_of (drop (length (front_of s)) s)
 
--- each front begins some sequence, or is one byte
+-- each front of s begins some sequence, or is one byte
 abbrev pub FrontsBegin : Type 0
 FrontsBegin = (s : List ℕ) → All (λ u. BeginsSequence u ⊎ (length u ≡ 1)) (fronts_of s)
 
--- the first front is a prefix, and no prefix that begins a sequence is longer
+-- the first front of s is a prefix of s, and no prefix of s that begins a sequence is longer
 abbrev pub FrontIsLongest : Type 0
 FrontIsLongest = (s : List ℕ) → IsLongest BeginsSequence (front_of s) s
 
--- no prefix of the bytes is a sequence
+-- no prefix of s is a sequence
 abbrev pub BeginsWithNoSequence : List ℕ → Type 0
 BeginsWithNoSequence s = (u : List ℕ) → IsSequence u → ¬ (IsPrefixOf u s)
 
--- if no prefix is a sequence, the first front has at most three bytes
+-- if no prefix of s is a sequence, the first front of s has at most three bytes
 abbrev pub BrokenIsShort : Type 0
 BrokenIsShort = (s : List ℕ) → BeginsWithNoSequence s → length (front_of s) ≤ 3
 
@@ -53,8 +53,8 @@ BrokenIsShort = (s : List ℕ) → BeginsWithNoSequence s → length (front_of s
 abbrev pub LossyOfSequence : Type 0
 LossyOfSequence = (u s : List ℕ) → IsSequence u → lossy_of (u ++ s) ≡ u ++ lossy_of s
 
--- if there is a byte and no prefix is a sequence, the lossy form is U+FFFD and then the lossy form
--- of the bytes after the first front
+-- if s is not empty, and no prefix of s is a sequence, the lossy form of s is U+FFFD and then the
+-- lossy form of the bytes of s after the first front
 abbrev pub LossyOfBroken : Type 0
 LossyOfBroken =
     (s : List ℕ) → 0 < length s → BeginsWithNoSequence s
@@ -64,11 +64,11 @@ LossyOfBroken =
 abbrev pub LossyOfText : Type 0
 LossyOfText = (s : List ℕ) → IsText s → lossy_of s ≡ s
 
--- the lossy form is valid UTF-8
+-- the lossy form of s is valid UTF-8
 abbrev pub LossyIsText : Type 0
 LossyIsText = (s : List ℕ) → IsText (lossy_of s)
 
--- the lossy form is at most three times as long as the bytes
+-- the lossy form of s is at most three times as long as s
 abbrev pub LossyIsShort : Type 0
 LossyIsShort = (s : List ℕ) → length (lossy_of s) ≤ 3 * length s
 
@@ -76,34 +76,34 @@ LossyIsShort = (s : List ℕ) → length (lossy_of s) ≤ 3 * length s
 abbrev pub ChunksOfNothing : Type 0
 ChunksOfNothing = chunks_of [] ≡ []
 
--- c consists of the longest prefix of s that is valid UTF-8 and the front after it; cs are the
--- chunks of the rest
+-- c is the longest prefix of s that is valid UTF-8, and the first front after this prefix; cs are
+-- the chunks of the bytes of s after c
 pub record FollowFirst (s : List ℕ) (c : Chunk) (cs : List Chunk) : Type 0 where
   pub text : IsText c.valid
   pub longest : IsLongest IsText c.valid s
   pub broken : c.broken ≡ front_of (drop (length c.valid) s)
   pub rest : cs ≡ chunks_of (drop (length (c.valid ++ c.broken)) s)
 
--- the first chunk consists of the longest prefix that is valid UTF-8 and the front after it; then
--- come the chunks of the rest
+-- if c is the first chunk of s and cs are the others, c is the longest prefix of s that is valid
+-- UTF-8 and the first front after this prefix, and cs are the chunks of the bytes of s after c
 abbrev pub ChunksOfSome : Type 0
 ChunksOfSome =
     (s : List ℕ) (c : Chunk) (cs : List Chunk) → chunks_of s ≡ c ∷ cs → FollowFirst s c cs
 
--- the chunks, one after the other, are the bytes
+-- the bytes of the chunks of s, one after the other, are s
 abbrev pub ChunksPartition : Type 0
 ChunksPartition = (s : List ℕ) → flat_map (λ c. c.valid ++ c.broken) (chunks_of s) ≡ s
 
--- at most three bytes of each chunk are invalid
+-- each chunk of s has at most three invalid bytes
 abbrev pub ChunksAreShort : Type 0
 ChunksAreShort = (s : List ℕ) → All (λ c. length c.broken ≤ 3) (chunks_of s)
 
--- a chunk without invalid bytes is the last
+-- if a chunk c of s has no invalid bytes, no chunk comes after c
 abbrev pub WholeChunkIsLast : Type 0
 WholeChunkIsLast =
     (s : List ℕ) (before after : List Chunk) (c : Chunk)
     → chunks_of s ≡ before ++ c ∷ after → c.broken ≡ [] → after ≡ []
 
--- the chunks, each shown with U+FFFD for its invalid front, concatenate to the lossy form
+-- the shown forms of the chunks of s (`shown_chunk`), one after the other, are the lossy form of s
 abbrev pub ChunksShowLossy : Type 0
 ChunksShowLossy = (s : List ℕ) → flat_map shown_chunk (chunks_of s) ≡ lossy_of s

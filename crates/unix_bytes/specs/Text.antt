@@ -1,4 +1,4 @@
--- What a `LossyText` contains.
+-- The bytes of a `LossyText`, and whether it borrows them.
 use Rattle.std.specs.Prelude.{ℕ, List, ⊤}
 use Rattle.std.specs.String.{string_bytes}
 use Rattle.unix_bytes.specs.declared.bytes.text.LossyText.{LossyText}

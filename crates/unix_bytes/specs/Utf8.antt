@@ -21,7 +21,7 @@ table =
     ∷ ((0xF4, 0xF4) ∷ (0x80, 0x8F) ∷ tail ∷ tail ∷ [])
     ∷ []
 
--- there are as many bytes as ranges, and each byte is in the range with the same index
+-- u has as many bytes as `row` has ranges, and each byte is in the range with its index
 abbrev pub fits : List (ℕ × ℕ) → List ℕ → Bool
 fits [] [] = true
 fits [] (b ∷ u) = false
@@ -44,6 +44,6 @@ IsText s = (us : List (List ℕ)) × All IsSequence us × (concat us ≡ s)
 abbrev pub BeginsSequence : List ℕ → Type 0
 BeginsSequence t = (u : List ℕ) × IsSequence (t ++ u)
 
--- `BeginsSequence` as a test: the bytes fit the first ranges of a row
+-- `BeginsSequence` as a test: t fits the first ranges of some row of the table
 unfoldable pub begins_sequence : List ℕ → Bool
 begins_sequence t = list_any (λ row. fits (take (length t) row) t) table

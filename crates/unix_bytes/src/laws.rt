@@ -25,23 +25,24 @@ pub fn sequences_stand_alone()
     ensures { SequencesStandAlone }
 {}
 
-/// The two tests of the definitions are right. `begins_sequence` is true if and only if some
-/// sequence begins with the bytes (`beginning`). `is_text` is true if and only if the bytes are
-/// valid UTF-8 (`text`).
+/// The definitions have two tests of bytes. `begins_sequence` is true if and only if some sequence
+/// begins with the bytes (`beginning`). `is_text` is true if and only if the bytes are valid UTF-8
+/// (`text`).
 pub fn tests_are_right()
     ensures beginning { BeginningIsTested }
     ensures text { TextIsTested }
 {}
 
-/// The fronts partition the bytes. The fronts after the first are the fronts of the bytes after the
-/// first front.
+/// The fronts, one after the other, are the bytes. The fronts after the first are the fronts of the
+/// bytes after the first front.
 pub fn fronts_one_by_one()
     ensures partition { FrontsPartition }
     ensures next { FrontsOneByOne }
 {}
 
-/// Each front begins some sequence, or is one byte. No prefix that begins some sequence is longer
-/// than the first front. If no prefix is a sequence, the first front has at most three bytes.
+/// Each front begins some sequence, or is one byte. No prefix of the bytes that begins some
+/// sequence is longer than the first front. If no prefix of the bytes is a sequence, the first
+/// front has at most three bytes.
 pub fn broken_front()
     ensures begins { FrontsBegin }
     ensures longest { FrontIsLongest }
@@ -77,22 +78,22 @@ pub fn lossy_is_short()
 
 /// The empty byte string has no chunks. The first chunk of any other byte string is the longest
 /// prefix that is valid UTF-8, and the front after it. The chunks after the first are the chunks of
-/// the rest.
+/// the bytes after the first chunk.
 pub fn chunks_one_by_one()
     ensures nothing { ChunksOfNothing }
     ensures some { ChunksOfSome }
 {}
 
-/// The chunks partition the bytes. Each has at most three invalid bytes, and each except the last
-/// has at least one.
+/// The chunks, one after the other, are the bytes. Each chunk has at most three invalid bytes, and
+/// each except the last has at least one.
 pub fn chunks_partition()
     ensures partition { ChunksPartition }
     ensures len_bound { ChunksAreShort }
     ensures last { WholeChunkIsLast }
 {}
 
-/// The chunks, with U+FFFD instead of each invalid front, concatenate to the lossy form of the
-/// bytes.
+/// The chunks, one after the other and with U+FFFD instead of each invalid front, are the lossy
+/// form of the bytes.
 pub fn chunks_show_lossy()
     ensures { ChunksShowLossy }
 {}

@@ -97,7 +97,7 @@ pub struct Utf8LossyChunksIter<'a> {
     source: &'a [u8],
 }
 
-// Returns the first chunk, and the bytes after it.
+// Returns the first chunk of `source`, which must not be empty, and the bytes after this chunk.
 #[inline]
 fn split_chunk(source: &[u8]) -> (Utf8LossyChunk<'_>, &[u8])
     requires { 0 < length source.now }
@@ -127,7 +127,7 @@ impl<'a> Iterator for Utf8LossyChunksIter<'a> {
 
 impl FusedIterator for Utf8LossyChunksIter<'_> {}
 
-// Writes the chunk's valid UTF-8, and U+FFFD for its invalid front.
+// Writes the chunk's valid UTF-8, and then U+FFFD if the chunk has an invalid front.
 fn write_chunk<W: fmt::Write>(chunk: Utf8LossyChunk<'_>, f: &mut fmt::Formatter<W>) -> fmt::Result
     ensures writes { WritesOnOk W.write_str_gives f.old result
         (shown_chunk (chunk_of chunk.entry)) f.new }
@@ -211,8 +211,8 @@ impl fmt::Debug for Utf8Lossy<'_> {
     }
 }
 
-// Writes the chunk's valid UTF-8 with the escapes of the debug form, and U+FFFD for its invalid
-// front.
+// Writes the chunk's valid UTF-8 with the escapes of the debug form, and then U+FFFD if the chunk
+// has an invalid front.
 fn write_escaped_chunk<W: fmt::Write>(
     chunk: Utf8LossyChunk<'_>,
     f: &mut fmt::Formatter<W>,

@@ -10,7 +10,7 @@ use std::simd::Simd;
 // The size of the buffers for lossy forms, in bytes.
 pub(crate) const BUFFER_LEN: usize = 256;
 
-// Copies `bytes` into `out` at index `at`.
+// Copies `bytes` into `out` at index `at`. `out` must have at least as many bytes from `at` on.
 #[inline(always)]
 fn copy_at(out: &mut [u8], at: usize, bytes: &[u8])
     requires { at + length bytes.now ≤ length out.old }
@@ -21,6 +21,7 @@ fn copy_at(out: &mut [u8], at: usize, bytes: &[u8])
 }
 
 // Copies the first N bytes of `source` into `out` at index `at`, with one load and one store.
+// `source` must have at least N bytes, and so must `out` from `at` on.
 #[inline(always)]
 fn copy_first<const N: usize>(out: &mut [u8], at: usize, source: &[u8])
     requires fits_out { at + N ≤ length out.old }
@@ -32,7 +33,8 @@ fn copy_first<const N: usize>(out: &mut [u8], at: usize, source: &[u8])
     Simd::<u8, N>::from_slice(source).copy_to_slice(&mut out[at..]);
 }
 
-// Writes U+FFFD into `out` at index `at`. Returns the index just after it.
+// Writes U+FFFD into `out` at index `at`. Returns the index just after the character, which has
+// three bytes.
 #[inline(always)]
 fn show_replacement(out: &mut [u8], at: usize) -> usize
     requires { at + 3 ≤ length out.old }
@@ -45,8 +47,8 @@ fn show_replacement(out: &mut [u8], at: usize) -> usize
 }
 
 // Writes the lossy form of the first front of `source` into `out` at index `at`. `source` must have
-// at least four bytes, and its first byte must not be ASCII. Returns how many bytes were read, and
-// the index in `out` just after the bytes written.
+// at least four bytes, and so must `out` from `at` on. The first byte of `source` must not be
+// ASCII. Returns how many bytes were read, and the index in `out` just after the bytes written.
 #[inline(always)]
 #[tactic(auto, using(crate::proofs::lemmas::prefixes::PrinterLemmas::front_bounds))]
 fn show_front(source: &[u8], out: &mut [u8], at: usize) -> (usize, usize)
@@ -67,9 +69,10 @@ fn show_front(source: &[u8], out: &mut [u8], at: usize) -> (usize, usize)
     }
 }
 
-// Writes the lossy form of a prefix of `source` into `out` at index `at`. If the first 16 bytes are
-// ASCII, they are the prefix; otherwise the prefix ends with the first front that is not ASCII.
-// Returns how many bytes were read, and the index in `out` just after the bytes written.
+// Writes the lossy form of a prefix of `source` into `out` at index `at`. `source` must have at
+// least 20 bytes, and so must `out` from `at` on. If the first 16 bytes are ASCII, they are the
+// prefix; otherwise the prefix ends with the first front that is not ASCII. Returns how many bytes
+// were read, and the index in `out` just after the bytes written.
 //
 // Reads nothing if the first 64 bytes are ASCII, or if `may_begin` is true and the eighth byte is
 // not ASCII. Then a long run of valid UTF-8 seems to begin, which the caller reads faster all at
@@ -105,8 +108,9 @@ fn show_block(source: &[u8], out: &mut [u8], at: usize) -> (usize, usize)
 }
 
 // Writes the lossy form of the first front of `source` into `out` at index `at`. `source` may have
-// fewer than four bytes, and its first byte must not be ASCII. Returns how many bytes were read,
-// and the index in `out` just after the bytes written.
+// fewer than four bytes, and its first byte must not be ASCII. `out` must have at least four bytes
+// from `at` on. Returns how many bytes were read, and the index in `out` just after the bytes
+// written.
 #[inline(never)]
 #[tactic(auto, using(crate::proofs::lemmas::prefixes::PrinterLemmas::front_bounds))]
 fn show_last_front(source: &[u8], out: &mut [u8], at: usize) -> (usize, usize)
@@ -127,8 +131,9 @@ fn show_last_front(source: &[u8], out: &mut [u8], at: usize) -> (usize, usize)
     }
 }
 
-// Writes the lossy form of the first front of `source` into `out` at index `at`. Returns how many
-// bytes were read, and the index in `out` just after the bytes written.
+// Writes the lossy form of the first front of `source`, which must not be empty, into `out` at
+// index `at`. `out` must have at least four bytes from `at` on. Returns how many bytes were read,
+// and the index in `out` just after the bytes written.
 #[inline(always)]
 fn show_one_front(source: &[u8], out: &mut [u8], at: usize) -> (usize, usize)
     requires some { 0 < length source.now }

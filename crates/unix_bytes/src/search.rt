@@ -18,8 +18,8 @@ fn hits(bytes: &[u8], at: usize, byte: u8) -> u64
         .to_bitmask()
 }
 
-// Returns the index of the first `byte`, or the length if there is none. Compares one byte at a
-// time.
+// Returns the index of the first `byte`, or the length of `bytes` if there is none. Compares one
+// byte at a time.
 #[inline]
 fn find_byte_scalar(bytes: &[u8], byte: u8) -> usize
     ensures value { result ≡ position_or_len (λ b. b == byte) bytes.now }
@@ -49,8 +49,8 @@ fn find_byte_simd16(bytes: &[u8], at: usize, byte: u8) -> usize
     }
 }
 
-/// Returns the index of the first `byte`, or the length if there is none. Similar to `memchr` of
-/// the crate `memchr`.
+/// Returns the index of the first `byte`, or the length of `bytes` if there is none. Similar to
+/// `memchr` of the crate `memchr`.
 ///
 /// `find_byte(b"a:b:c", b':')` is 1.
 #[must_use]
@@ -298,7 +298,7 @@ fn common_blocks_len(a: &[u8], b: &[u8], shorter_len: usize) -> usize
     len
 }
 
-/// Returns the length of the longest common prefix.
+/// Returns the length of the longest common prefix of `a` and `b`.
 ///
 /// `common_len(b"a/b", b"a/c")` is 2.
 #[must_use]

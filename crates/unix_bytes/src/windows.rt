@@ -50,7 +50,7 @@ fn max_after(bytes: u8x16) -> u8x16
     select_eq(bytes, 0xED, 0x9F, four)
 }
 
-// Returns a mask of the bytes, whose lowest bit is for the first byte. A bit is set if and only if
+// Returns a mask of `bytes`, whose lowest bit is for the first byte. A bit is set if and only if
 // its byte is at least `min`.
 #[inline(always)]
 pub(crate) fn lanes_ge(bytes: u8x16, min: u8) -> u64
@@ -60,7 +60,7 @@ pub(crate) fn lanes_ge(bytes: u8x16, min: u8) -> u64
     bytes.simd_ge(u8x16::splat(min)).to_bitmask()
 }
 
-// Returns true only if each byte is at least the bound in the same lane.
+// Returns true only if each of `bytes` is at least the bound in the same lane.
 #[inline(always)]
 fn all_lanes_ge(bytes: u8x16, bounds: u8x16) -> bool
     ensures { IsTrue result → AllAtLeast bytes bounds }
@@ -81,8 +81,8 @@ fn all_continue(first: u8x16, second: u8x16, third: u8x16, bytes: u8x16) -> bool
     lanes_ge(unfinished, 0x80) + begin == lanes_ge(bytes, 0x80) && begin == lanes_ge(bytes, 0xC2)
 }
 
-// Returns true only if each of the 16 bytes from index 3 on may follow the three bytes before it in
-// UTF-8.
+// Returns true only if each of the 16 bytes of `window` from index 3 on may follow the three bytes
+// before it in UTF-8.
 #[inline(always)]
 fn fits(window: &[u8]) -> bool
     requires { 19 ≤ length window.now }
@@ -97,8 +97,8 @@ fn fits(window: &[u8]) -> bool
         && all_lanes_ge(max_after(third), bytes)
 }
 
-// Returns how many of the first 19 bytes belong to a sequence that is unfinished after them: 0 to
-// 3.
+// Returns how many of the first 19 bytes of `window` belong to a sequence that is unfinished after
+// them: 0 to 3.
 #[inline(always)]
 fn unfinished_len(window: &[u8]) -> usize
     requires { 19 ≤ length window.now }
@@ -117,8 +117,9 @@ fn unfinished_len(window: &[u8]) -> usize
     }
 }
 
-// Returns the length of a valid prefix of the 16 bytes from index 3 on, or 0 if one of the 16 may
-// not follow the three bytes before it. The first three bytes must leave no sequence unfinished.
+// Returns the length of a valid prefix of the 16 bytes of `window` from index 3 on, or 0 if one of
+// the 16 may not follow the three bytes before it. The first three bytes must leave no sequence
+// unfinished.
 #[inline(always)]
 pub(crate) fn window_len(window: &[u8]) -> usize
     requires some { 19 ≤ length window.now }

@@ -236,9 +236,9 @@ fn separators_are_refused_without_memory(rt: HostRuntime) -> Result<(), Fail> {
     Ok(())
 }
 
-// Extends an empty path by these three paths. Its length then shows how many of them were pushed,
-// which is marked in `seen`. Returns false for any other length. Also returns false if `extend`
-// fails although all three were pushed, or succeeds although they were not.
+// Extends an empty path by these three paths. The length of the result shows how many of them were
+// pushed, which is marked in `seen`. Returns false for any other length, if `extend` fails although
+// all three were pushed, or if it succeeds although they were not.
 fn extends_so_far(alloc: Global, paths: &[Path<'_>], seen: &mut [bool; 4]) -> bool {
     let mut buffer = PathBuf::new(alloc);
     let is_made = extends(&mut buffer, paths);
@@ -253,7 +253,8 @@ fn extends_so_far(alloc: Global, paths: &[Path<'_>], seen: &mut [bool; 4]) -> bo
     is_made == (pushed == 3)
 }
 
-// Makes each allocation of `extend` fail in some round. The paths that were pushed before it stay.
+// Makes each allocation of `extend` fail in some round. The paths that were pushed before the
+// failed allocation stay.
 #[test]
 fn a_failed_extend_keeps_the_pushes_before(rt: HostRuntime) -> Result<(), Fail> {
     let alloc = rt.alloc();

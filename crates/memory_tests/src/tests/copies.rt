@@ -5,7 +5,7 @@ use std::test::Fail;
 use unix_path::bytes::UnixStr;
 use unix_path::{BoxedPath, CowPath, Path, PathBuf, RcPath};
 
-// Returns true if each call that copies the path, or creates another, fails.
+// Returns true if each call that copies the path, or creates another path, fails.
 fn refuses_copies(alloc: Global, buffer: &PathBuf) -> bool {
     let view = buffer.as_path();
     let name = UnixStr::new("bar");

@@ -29,8 +29,9 @@ fn has_bytes(bytes: &UnixString, text: &str) -> bool {
     bytes.as_unix_str() == UnixStr::new(text)
 }
 
-// Returns the result of a test. The error is `wrong` if the call returned or left anything that it
-// should not, and otherwise `refused` if the call failed.
+// Returns the result of a test. `is_made` says whether the call succeeded, and `is_right` whether
+// it returned and left what it should. The error is `wrong` if `is_right` is false, and otherwise
+// `refused` if `is_made` is false.
 fn report(is_made: bool, is_right: bool) -> Result<(), Fail> {
     if !is_right {
         return Err(Fail::new("wrong"));
@@ -41,7 +42,8 @@ fn report(is_made: bool, is_right: bool) -> Result<(), Fail> {
     Ok(())
 }
 
-// Returns the result of a test whose call returns a path.
+// Returns the result of a test whose call has to return the path `text`; `given` is what it
+// returned.
 fn report_path(given: Result<PathBuf, AllocError>, text: &str) -> Result<(), Fail> {
     match given {
         Ok(buffer) => report(true, holds(&buffer, text)),

@@ -26,7 +26,7 @@ pub(crate) fn is_ascii_simd64(source: &[u8], at: usize) -> bool
     block.simd_ge(u8x64::splat(0x80)).to_bitmask() == 0
 }
 
-// Returns the length of an ASCII prefix, which is a multiple of 64. Reads blocks of 64 bytes.
+// Returns the length of an ASCII prefix of `source`, a multiple of 64. Reads blocks of 64 bytes.
 fn ascii_blocks_len(source: &[u8]) -> usize
     ensures bound { result ≤ length source.now }
     ensures ascii { IsAscii (take result source.now) }
@@ -63,7 +63,7 @@ fn ascii_len(source: &[u8]) -> usize
     last + non_ascii.trailing_zeros() as usize
 }
 
-// Returns the length of an ASCII prefix, reading one byte at a time.
+// Returns the length of the longest ASCII prefix of `source`, reading one byte at a time.
 #[tactic(auto, using(crate::proofs::lemmas::vectors::LaneLemmas::one_more_ascii))]
 fn ascii_len_scalar(source: &[u8]) -> usize
     ensures bound { result ≤ length source.now }
@@ -99,8 +99,8 @@ fn is_short_ascii(source: &[u8]) -> bool
     is_ascii_simd8(source, 0) && is_ascii_simd8(source, source.len() - 8)
 }
 
-// Returns the length of an ASCII prefix, at least 1. The first byte must be ASCII. Returns 1 if
-// there are fewer than 8 bytes, or if the second byte is not ASCII.
+// Returns the length of an ASCII prefix of `source`, at least 1. The first byte must be ASCII.
+// Returns 1 if there are fewer than 8 bytes, or if the second byte is not ASCII.
 #[inline(always)]
 pub(crate) fn ascii_prefix_len(source: &[u8]) -> usize
     requires some { 0 < length source.now }

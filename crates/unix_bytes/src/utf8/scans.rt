@@ -1,4 +1,4 @@
-//! Finds the longest prefix that is valid UTF-8, and the length of the invalid front after it.
+//! Finds the lengths of the longest prefix that is valid UTF-8, and of the invalid front after it.
 ghost use Rattle.std.specs.Prelude.{◌≡◌, ◌<◌, ◌≤◌, length, drop, take, slice_index};
 ghost use Rattle.unix_bytes.specs.Utf8.{IsText};
 ghost use Rattle.unix_bytes.specs.Lossy.{is_text};
@@ -10,8 +10,8 @@ use crate::utf8::fronts::{begins_four, may_begin, non_ascii_front};
 use crate::windows::window_len;
 
 // Returns the length of the longest prefix that is valid UTF-8, and the length of the invalid front
-// after it. If there are at least 16 bytes, and `may_begin` is false at the first byte that is not
-// ASCII among the first 16, the scan ends at that byte.
+// after it, or 0 if there is none. If there are at least 16 bytes, and `may_begin` is false at the
+// first byte that is not ASCII among the first 16, the scan ends at that byte.
 #[inline(always)]
 #[tactic(auto, using(crate::proofs::lemmas::prefixes::TextPrefixLemmas::none_is_text))]
 pub(crate) fn scan_text(source: &[u8]) -> (usize, usize)
@@ -29,7 +29,8 @@ pub(crate) fn scan_text(source: &[u8]) -> (usize, usize)
 }
 
 // Returns the length of the longest prefix that is valid UTF-8, and the length of the invalid front
-// after it. The bytes before `at` must be valid UTF-8, and the byte at `at` must not be ASCII.
+// after it, or 0 if there is none. The bytes before `at` must be valid UTF-8, and the byte at `at`
+// must not be ASCII.
 #[inline(always)]
 fn scan_from_non_ascii(source: &[u8], at: usize) -> (usize, usize)
     requires some { at < length source.now }
@@ -45,7 +46,7 @@ fn scan_from_non_ascii(source: &[u8], at: usize) -> (usize, usize)
 }
 
 // Returns the length of the longest prefix that is valid UTF-8, and the length of the invalid front
-// after it. The bytes before `from` must be valid UTF-8.
+// after it, or 0 if there is none. The bytes before `from` must be valid UTF-8.
 #[inline(always)]
 pub(crate) fn scan(source: &[u8], from: usize) -> (usize, usize)
     requires bound { from ≤ length source.now }
@@ -61,8 +62,8 @@ pub(crate) fn scan(source: &[u8], from: usize) -> (usize, usize)
 }
 
 // Returns the length of the longest prefix that is valid UTF-8, and the length of the invalid front
-// after it. The bytes before `from` must be valid UTF-8. Reads one sequence or one run of sequences
-// at a time, which is faster for few bytes.
+// after it, or 0 if there is none. The bytes before `from` must be valid UTF-8. Reads one sequence
+// or one run of sequences at a time, which is faster for few bytes.
 #[inline(never)]
 fn scan_by_sequence(source: &[u8], from: usize) -> (usize, usize)
     requires bound { from ≤ length source.now }
@@ -92,7 +93,7 @@ fn scan_by_sequence(source: &[u8], from: usize) -> (usize, usize)
     (source.len(), 0)
 }
 
-// Returns the length of a prefix that consists of sequences of two bytes.
+// Returns the length of the run of two-byte sequences at the beginning of `source`, or 0.
 #[inline(always)]
 fn two_byte_prefix_len(source: &[u8]) -> usize
     ensures bound { result ≤ length source.now }
@@ -105,7 +106,7 @@ fn two_byte_prefix_len(source: &[u8]) -> usize
     at
 }
 
-// Returns the length of a prefix that consists of sequences of four bytes.
+// Returns the length of the run of four-byte sequences at the beginning of `source`, or 0.
 #[inline(always)]
 fn four_byte_prefix_len(source: &[u8]) -> usize
     ensures bound { result ≤ length source.now }
@@ -119,8 +120,9 @@ fn four_byte_prefix_len(source: &[u8]) -> usize
 }
 
 // Returns the length of the longest prefix that is valid UTF-8, and the length of the invalid front
-// after it. The bytes before `from` must be valid UTF-8. After each sequence that is not ASCII,
-// tries to read windows of 16 bytes (`text_end`), which is faster for many bytes.
+// after it, or 0 if there is none. The bytes before `from` must be valid UTF-8. After each sequence
+// that is not ASCII, tries to read windows of 16 bytes (`text_end`), which is faster for many
+// bytes.
 #[inline(never)]
 fn scan_by_window(source: &[u8], from: usize) -> (usize, usize)
     requires bound { from ≤ length source.now }

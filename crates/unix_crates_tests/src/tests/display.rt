@@ -13,7 +13,8 @@ use unix_bytes::bytes::LossyText;
 use unix_bytes::lossy::Utf8Lossy;
 use unix_path::{Display, Path};
 
-// Returns the lossy text of the bytes, which it prints. The contract is what a caller can prove.
+// Prints the bytes into a new string, which is their lossy text. The contract is what a caller can
+// prove about this string.
 fn lossy_text(alloc: Global, bytes: &[u8]) -> Result<String, AllocError>
     ensures { IfOk result (λ text. string_bytes text ≡ lossy_of bytes.now) }
 {

@@ -2,8 +2,8 @@
 use unix_path::filler::{after_filler, filler_len, is_filler, is_trailing};
 
 // Bytes; an `x` for each byte for which `is_filler` is true; an `x` for each byte for which
-// `is_trailing` is true; and the length of the filler at the beginning of the bytes, if a slash
-// precedes them.
+// `is_trailing` is true; and the length of the filler at the beginning of the bytes if a slash
+// comes before the bytes.
 type Filler = (&'static [u8], &'static [u8], &'static [u8], usize);
 
 static FILLER: [Filler; 14] = [

@@ -43,7 +43,7 @@ fn is_path(given: Result<PathBuf, JsonError>, text: &str) -> bool {
 
 static TEXTS: [&str; 6] = ["a\"b", "", "a\\b", "\u{1}", "\u{E9}", "a//b/."];
 
-// Returns true if the path of this text is written as this text, and read back.
+// Returns true if the path of this text is written to JSON as this text, and is read back from it.
 fn reads_back(alloc: Global, text: &str) -> bool {
     let path = Path::from_text(text);
     is_string(to_json(alloc, path), text)
@@ -58,7 +58,7 @@ fn a_written_path_reads_back(rt: HostRuntime) {
     }
 }
 
-// Returns true if the text is JSON, and its value is not a string.
+// Returns true if the text is JSON, and `from_json` rejects its value because this is not a string.
 fn is_no_string(alloc: Global, text: &str) -> bool {
     match Value::from_str(alloc, text) {
         Ok(value) => matches!(from_json(alloc, &value), Err(JsonError::NotString)),

@@ -82,7 +82,7 @@ fn compare_alike(owners: &Owners, others: &Owners, owned: CowPath<'_>) -> bool {
     have_texts && each_equals_each(&paths, &others)
 }
 
-// Returns true if `compare_alike` holds for owners that are created here.
+// Returns true if `compare_alike` is true of the paths `a//b` and `a/b`, created in each type.
 fn all_compare_alike(alloc: Global) -> Result<bool, AllocError> {
     let owners = owners_of(alloc, "a//b")?;
     let others = owners_of(alloc, "a/b")?;

@@ -70,7 +70,7 @@ fn cow_has_bytes(cow: CowPath<'_>, text: &str) -> bool {
     has_bytes(cow.as_path(), text)
 }
 
-// Returns true if both are equal paths.
+// Returns true if the two paths are equal.
 fn are_equal(cow: CowPath<'_>, other: CowPath<'_>) -> bool {
     cow.as_path() == other.as_path()
 }
@@ -102,7 +102,8 @@ fn equal_each_other(path: Path<'_>, boxed: Path<'_>, buffer: Path<'_>) -> bool {
     path == boxed && boxed == buffer && buffer == path
 }
 
-// Returns true if a boxed copy of the path, and a copy that is boxed and unboxed, are equal to it.
+// Returns true if a boxed copy of the path, and a copy that is boxed and unboxed, are equal to the
+// path.
 fn is_boxed(alloc: Global, path: Path<'_>) -> Result<bool, AllocError> {
     let boxed = BoxedPath::from_path(alloc, path)?;
     let buffer = box_then_unbox(alloc, path)?;
@@ -140,21 +141,21 @@ fn buffer_with_room(alloc: Global) -> Result<PathBuf, AllocError> {
     Ok(buffer)
 }
 
-// Returns true if a box of `foo/`, a clone of the box and the buffer that it becomes have these
-// bytes.
+// Returns true if a box made from the buffer `foo/`, a clone of this box, and the buffer that the
+// box becomes have the bytes of `foo/`.
 fn boxes_keep_the_bytes(alloc: Global) -> Result<bool, AllocError> {
     let boxed = BoxedPath::from_path_buf(buffer_with_room(alloc)?)?;
     let is_kept = has_bytes(boxed.as_path(), "foo/") && boxed_has_bytes(boxed.clone(), "foo/");
     Ok(buffer_has_bytes(boxed.into_path_buf(alloc), "foo/") && is_kept)
 }
 
-// Returns true if a clone of a shared `foo/` has these bytes.
+// Returns true if a clone of the shared path `foo/` has the bytes of `foo/`.
 fn shares_keep_the_bytes(alloc: Global) -> Result<bool, AllocError> {
     let shared = RcPath::from_path_buf(alloc, buffer_with_room(alloc)?)?;
     Ok(shared_has_bytes(shared.clone(), "foo/"))
 }
 
-// Returns true if the box that the buffer `foo/` becomes has these bytes.
+// Returns true if the box that the buffer `foo/` becomes has the bytes of `foo/`.
 fn a_buffer_becomes_a_box(alloc: Global) -> Result<bool, AllocError> {
     let boxed = buffer_with_room(alloc)?.into_boxed_path();
     Ok(boxed_has_bytes(boxed, "foo/"))

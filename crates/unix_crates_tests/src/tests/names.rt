@@ -1,7 +1,8 @@
 //! Tests of the bytes before a file name, and of where the name and its stem end.
 use super::views::path;
 
-// A path, the bytes before its file name, and the indices at which the name and its stem end.
+// A path, what `before_name` returns for it, and the indices at which its file name and its stem
+// end.
 static PLACES: [(&str, &str, Option<usize>, Option<usize>); 12] = [
     ("", "", None, None),
     ("/", "/", None, None),

@@ -8,7 +8,8 @@ use std::alloc::{AllocError, Global};
 use unix_bytes::bytes::UnixStr;
 use unix_path::{Ancestors, Path};
 
-// Collects a walk over the ancestors. The contract is what a caller can prove.
+// Returns the list of the ancestors that the walk has still to yield. The contract is what a caller
+// can prove about this list.
 fn list_ancestors(alloc: Global, walk: Ancestors<'_>) -> Result<Vec<Path<'_>>, AllocError>
     ensures { IfOk result (λ list.
         map (λ path. path.bytes.now) list.items ≡ remaining_ancestors walk.entry) }
@@ -16,7 +17,8 @@ fn list_ancestors(alloc: Global, walk: Ancestors<'_>) -> Result<Vec<Path<'_>>, A
     walk.collect(alloc)
 }
 
-// Returns true if the call returned three paths, of which the second is `/foo`, as for `/foo/bar`.
+// Returns true if the call returned three paths, the second of which is `/foo`: these are the
+// ancestors of `/foo/bar`.
 fn is_list(given: Result<Vec<Path<'_>>, AllocError>) -> bool {
     match given {
         Ok(list) => list.len() == 3 && list[1].as_unix_str() == UnixStr::new("/foo"),

@@ -87,8 +87,8 @@ fn has_components(text: &str, parts: &[&str]) -> bool {
     walk.next().is_none()
 }
 
-// Returns true if the path has a root and is absolute if its text begins with a slash, and is
-// relative otherwise.
+// If the text begins with a slash, returns true if its path has a root and is absolute. Otherwise
+// returns true if its path has no root and is relative.
 fn has_right_root(text: &str) -> bool {
     let (path, is_rooted) = (path(text), text.as_bytes().starts_with(b"/"));
     path.has_root() == is_rooted

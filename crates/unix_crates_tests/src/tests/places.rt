@@ -8,7 +8,8 @@ use super::views::{is_path, path, view};
 use unix_bytes::bytes::UnixStr;
 use unix_path::{Ancestors, Component, Path};
 
-// Returns the grandparent: a slice of the path's own memory that begins where the path begins.
+// Returns the parent of the parent of `path`: a slice of the memory of `path` that begins where
+// `path` begins.
 fn grandparent<'a>(path: Path<'a>) -> Option<Path<'a>>
     ensures inside { IfSome result (λ p. LiesIn p.bytes path.entry.bytes) }
     ensures start { IfSome result (λ p. BeginsAt p.bytes path.entry.bytes 0) }
@@ -19,8 +20,8 @@ fn grandparent<'a>(path: Path<'a>) -> Option<Path<'a>>
     parent.parent()
 }
 
-// Returns the rest after a base: a slice of the path's own memory that ends where the last
-// component ends.
+// Returns the rest of `path` after `base`: a slice of the memory of `path` that ends where the last
+// component of `path` ends.
 fn left_behind<'a>(path: Path<'a>, base: Path<'_>) -> Option<Path<'a>>
     ensures inside { IfSome result (λ p. LiesIn p.bytes path.entry.bytes) }
     ensures end { IfSome result (λ p.
@@ -32,7 +33,8 @@ fn left_behind<'a>(path: Path<'a>, base: Path<'_>) -> Option<Path<'a>>
     }
 }
 
-// Returns the rest of a walk that took the last component. It begins where the path begins.
+// Returns the rest of a walk over `path` that took the last component. This rest begins where
+// `path` begins.
 fn before_last<'a>(path: Path<'a>) -> Path<'a>
     ensures { memory_offset result.bytes ≡ memory_offset path.entry.bytes }
 {
@@ -41,7 +43,7 @@ fn before_last<'a>(path: Path<'a>) -> Path<'a>
     parts.as_path()
 }
 
-// Returns a new view of the same bytes.
+// Returns a new view of the bytes of `path`, in the same memory.
 fn viewed_anew<'a>(path: Path<'a>) -> Path<'a>
     ensures { result.bytes ≡ path.entry.bytes }
 {

@@ -50,7 +50,8 @@ fn path_with_name(rt: HostRuntime) -> Result<(), Fail> {
     )
 }
 
-// Returns the result of a test whose call returns a copy with another extension.
+// Returns the result of a test whose call has to return the path `text`, a copy with another
+// extension; `given` is what it returned.
 fn report_copy(given: Result<PathBuf, ExtensionError>, text: &str) -> Result<(), Fail> {
     match given {
         Ok(buffer) => report_path(Ok(buffer), text),

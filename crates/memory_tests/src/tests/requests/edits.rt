@@ -6,7 +6,8 @@ use std::test::Fail;
 use unix_path::bytes::UnixStr;
 use unix_path::{ExtensionError, PathBuf};
 
-// Returns the result of a test whose call edits the path `before`.
+// Returns the result of a test whose call has to change the path `before` to `after`, or to leave
+// `before` if it fails; `edited` is what the call returned, and `buffer` what it left.
 fn report_edit(
     edited: Result<(), AllocError>,
     buffer: &PathBuf,
@@ -45,7 +46,8 @@ fn end_replaced(rt: HostRuntime) -> Result<(), Fail> {
     report_edit(edited, &buffer, "a/b.rs", "a/b.rs.bak")
 }
 
-// Returns the result of a test whose call edits the extension of `foo/.`.
+// Returns the result of a test whose call has to change `foo/.` to `foo.bar`, or to leave `foo/.`
+// if it fails; `edited` is what the call returned, and `buffer` what it left.
 fn report_extension(edited: Result<bool, ExtensionError>, buffer: &PathBuf) -> Result<(), Fail> {
     match edited {
         Ok(is_made) => report(true, is_made && holds(buffer, "foo.bar")),

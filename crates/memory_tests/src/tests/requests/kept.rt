@@ -6,7 +6,8 @@ use std::test::Fail;
 use unix_path::bytes::UnixStr;
 use unix_path::{BoxedPath, CowPath, PathBuf, RcPath};
 
-// Returns the result of a test whose call returns the boxed path `foo/`.
+// Returns the result of a test whose call has to return the boxed path `foo/`; `given` is what it
+// returned.
 fn report_boxed(given: Result<BoxedPath, AllocError>) -> Result<(), Fail> {
     match given {
         Ok(boxed) => report(true, boxed.as_path().as_unix_str() == UnixStr::new("foo/")),
@@ -14,7 +15,8 @@ fn report_boxed(given: Result<BoxedPath, AllocError>) -> Result<(), Fail> {
     }
 }
 
-// Returns the result of a test whose call returns the shared path `foo/`.
+// Returns the result of a test whose call has to return the shared path `foo/`; `given` is what it
+// returned.
 fn report_shared(given: Result<RcPath, AllocError>) -> Result<(), Fail> {
     match given {
         Ok(shared) => report(true, shared.as_path().as_unix_str() == UnixStr::new("foo/")),

@@ -13,7 +13,8 @@ use unix_path::bytes::UnixStr;
 use unix_path::json::{JsonError, from_json, to_json};
 use unix_path::{ExtensionError, Path, PathBuf};
 
-// Returns the result of a test whose call rejects an extension for its slash.
+// Returns the result of a test whose call has to reject an extension because it contains a slash;
+// `given` is what the call returned, and `is_left` whether the path is unchanged.
 fn report_separator<T: Drop>(given: Result<T, ExtensionError>, is_left: bool) -> Result<(), Fail> {
     match given {
         Err(ExtensionError::Separator) => report(true, is_left),
@@ -66,7 +67,7 @@ fn null_not_read(rt: HostRuntime) -> Result<(), Fail> {
     }
 }
 
-// Returns the result of a test whose call finds no path.
+// Returns the result of a test whose call has to return `None`; `given` is what it returned.
 fn report_none(given: Result<Option<PathBuf>, AllocError>) -> Result<(), Fail> {
     match given {
         Ok(found) => report(true, found.is_none()),
@@ -89,7 +90,8 @@ fn no_relative_path_from_above(rt: HostRuntime) -> Result<(), Fail> {
     report_none(relative_path(rt.alloc(), path("../x"), path("y")))
 }
 
-// Returns the result of a test whose call rejects a request that leaves its root.
+// Returns the result of a test whose call has to reject a request that leaves its root; `given` is
+// what the call returned.
 fn report_escape(given: Result<PathBuf, WithinError>) -> Result<(), Fail> {
     match given {
         Err(WithinError::Escapes) => report(true, true),

@@ -12,7 +12,7 @@ const TEXTS: [&str; 15] = [
     "g", "h",
 ];
 
-// Returns a table of the first paths, each with its index as the value.
+// Returns a table of the first `count` paths of `TEXTS`, each with its index as the value.
 fn table_of(alloc: Global, count: usize) -> Result<PathTable<usize>, AllocError> {
     let mut table = PathTable::new(alloc);
     for place in 0..count.min(TEXTS.len()) {
@@ -21,8 +21,8 @@ fn table_of(alloc: Global, count: usize) -> Result<PathTable<usize>, AllocError>
     Ok(table)
 }
 
-// Returns true if the table has each path of `TEXTS`. `key` is a buffer with enough capacity for
-// each.
+// Returns true if the table has each path of `TEXTS`, with its index as the value. `key` is a
+// buffer with enough capacity for each of the paths.
 fn has_each(table: &PathTable<usize>, key: &mut PathBuf) -> Result<bool, AllocError> {
     for place in 0..TEXTS.len() {
         key.clear();
@@ -41,7 +41,7 @@ fn has_at(found: &[(Path<'_>, &usize)], place: usize, rest: &str, value: usize) 
     }
 }
 
-// Returns true if these are the six entries under `a/b`. Only the first, third and last are
+// Returns true if `found` has the six entries under `a/b`. Only the first, third and last are
 // compared.
 fn are_under(found: &[(Path<'_>, &usize)]) -> bool {
     found.len() == 6
@@ -66,13 +66,13 @@ fn first_path_inserted(rt: HostRuntime) -> Result<(), Fail> {
     }
 }
 
-// Returns true if the table has the key in addition to the paths of `TEXTS`.
+// Returns true if the table has 7 at `key`, and the paths of `TEXTS`, but nothing else.
 fn has_one_more(table: &PathTable<usize>, key: &mut PathBuf) -> Result<bool, AllocError> {
     let is_in = table.get(key) == Some(&7) && table.len() == 16;
     Ok(is_in && has_each(table, key)?)
 }
 
-// Returns true if the table has the paths of `TEXTS`, but not the key.
+// Returns true if the table has only the paths of `TEXTS`, and not the path `key`.
 fn is_as_before(
     alloc: Global,
     table: &PathTable<usize>,

@@ -24,7 +24,7 @@ fn tree_with(alloc: Global, name: &[u8]) -> Result<PathTree<u32>, AllocError> {
     Ok(tree)
 }
 
-// Returns true if the tree still has both entries.
+// Returns true if the tree still has the two entries of `tree_with`: 1 at `key`, and one more.
 fn is_as_before(tree: &PathTree<u32>, key: &PathKey) -> bool {
     tree.len() == 2 && tree.get(key) == Some(&1)
 }
@@ -125,7 +125,7 @@ fn tree_paths_under(rt: HostRuntime) -> Result<(), Fail> {
     }
 }
 
-// Returns true if the tree has exactly these paths, with these values.
+// Returns true if the tree has the paths and values of `wanted`, and nothing else.
 fn has_first(tree: &PathTree<u32>, wanted: &[(Path<'_>, u32)]) -> bool {
     for (path, value) in wanted {
         match tree.get_path(*path) {

@@ -9,7 +9,8 @@ use std::alloc::{AllocError, Global};
 use std::test::Fail;
 use unix_path::PathBuf;
 
-// Returns the result of a test whose call returns a join that stays under its root.
+// Returns the result of a test whose call has to return the join `text`, which stays under its
+// root; `given` is what the call returned.
 fn report_join(given: Result<PathBuf, WithinError>, text: &str) -> Result<(), Fail> {
     match given {
         Ok(buffer) => report_path(Ok(buffer), text),
@@ -61,7 +62,8 @@ fn path_joined_verbatim(rt: HostRuntime) -> Result<(), Fail> {
     report_join(given, "/srv/www/a/b")
 }
 
-// Returns the result of a test whose call returns a relative path.
+// Returns the result of a test whose call has to return the relative path `text`; `given` is what
+// it returned.
 fn report_relative_path(
     given: Result<Option<PathBuf>, AllocError>,
     text: &str,
@@ -165,7 +167,8 @@ fn plain_request_joined(rt: HostRuntime) -> Result<(), Fail> {
     report_path(root.join(rt.alloc(), request("b/c")?), "/srv/www/b/c")
 }
 
-// Returns the result of a test that replaces `/tmp` by the join with the request.
+// Returns the result of a test whose call has to replace the path `/tmp` by `/srv/www/b/c`, the
+// join of the root `/srv/www` and the request `text`, or to leave `/tmp` if it fails.
 fn report_joined_into(alloc: Global, text: &str) -> Result<(), Fail> {
     let root = Root::verbatim(alloc, path("/srv/www"))?;
     let mut buffer = PathBuf::from_text(alloc, "/tmp")?;

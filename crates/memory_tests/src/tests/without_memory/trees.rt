@@ -6,7 +6,7 @@ use std::alloc::AllocError;
 use std::test::Fail;
 use unix_path::Path;
 
-// Returns true if `a/b` is found by its key and by itself, has no children, and is the longest
+// Returns true if `a/b` is found by `key` and by its path, has no children, and is the longest
 // prefix of `a/b/c`, and if the path `name` is found.
 fn is_found(tree: &PathTree<u8>, key: &PathKey, name: &[u8]) -> Result<bool, AllocError> {
     let by_path = tree.get_path(Path::from_bytes(name))? == Some(&1);

@@ -8,8 +8,8 @@ use Rattle.unix_bytes.proofs.lemmas.prefixes.PrinterLemmas.{pushes_buffer}
 use Rattle.unix_bytes.proofs.bytes.lossy_string.Goals as goal
 use Rattle.unix_bytes.proofs.bytes.lossy_string.Goals.{In_ok-push_lossy}
 
--- the bytes are the valid prefix, then U+FFFD if there are invalid bytes, then the lossy form of
--- the rest
+-- after the call of `push_lossy`, the bytes are `text`, then U+FFFD unless `broken` is empty, and
+-- then the lossy form of `rest`
 whole_bytes : (c : In_ok-push_lossy) → c.push_lossy.new.bytes.items
     ≡ (c.args.text.now ++ replacement_for c.args.broken.now) ++ lossy_of c.args.rest.now
 whole_bytes c =

@@ -27,7 +27,7 @@ use Rattle.unix_bytes.proofs.lemmas.lossy.LossyLemmas.{length-drop-some}
 use Rattle.unix_bytes.proofs.lemmas.lossy.LossyLemmas.{fronts_of-text, is_sequence-longest_front_of}
 use Rattle.unix_bytes.proofs.lemmas.lossy.LossyLemmas.{lossy_of-nil, lossy_of-append, lossy_of-none}
 
--- valid UTF-8 is its own longest valid prefix
+-- if s is valid UTF-8 (`IsUtf8`), the longest valid prefix of s is all of s
 pub whole_text : (s : List ℕ) → IsUtf8 s → longest_len is_text s ≡ length s
 whole_text s u =
     longest_len-is is_text s (length s) (le_refl (length s))
@@ -35,19 +35,19 @@ whole_text s u =
     ∙ is_text-from_IsText s (IsText-from_IsUtf8 s u)))
     (λ k p q. absurd (omega arith))
 
--- the longest prefix that passes `is_text` is valid UTF-8
+-- the longest prefix of s that passes `is_text` is valid UTF-8
 pub text_prefix : (s : List ℕ) → IsText (take (longest_len is_text s) s)
 text_prefix s =
     let n = longest_len is_text s in
     ⊎_elim (λ z. subst (λ j. IsText (take j s)) (sym z) IsText-nil)
     (λ p. IsText-from_is_text (take n s) p) (longest_len-longest is_text s).passes
 
--- the `valid` part of the first chunk is valid UTF-8
+-- the `valid` part of the first chunk of s is valid UTF-8
 pub first_chunk_of-text : (s : List ℕ) → IsText (first_chunk_of s).valid
 unfolding first_chunk_of
 first_chunk_of-text s = text_prefix s
 
--- no sequence begins just after the longest valid prefix
+-- no prefix of the bytes after the longest valid prefix of s is a sequence
 pub none_after_text : (s : List ℕ)
     → longest_len is_sequence (drop (longest_len is_text s) s) ≡ 0
 none_after_text s =
@@ -94,7 +94,8 @@ pub chunks_of-empty : (s : List ℕ) → length s ≡ 0 → chunks_of s ≡ []
 chunks_of-empty [] e = chunks_of-nil
 chunks_of-empty (b ∷ bs) e = absurd (omega arith)
 
--- leading fronts us that are sequences are appended to `text`, the `valid` part of the chunk
+-- if all of the fronts us are sequences, `chunks_from` appends them to `text`: the chunks of `text`
+-- and the fronts us and `rest` are the chunks of `text` with us appended and the fronts `rest`
 chunks_from-sequences : (us : List (List ℕ)) (text : List ℕ) (rest : List (List ℕ))
     → list_all is_sequence us ≡ true
     → chunks_from text (us ++ rest) ≡ chunks_from (text ++ concat us) rest
@@ -105,8 +106,9 @@ chunks_from-sequences (u ∷ us) text rest h =
     cond-true _ _ _ k.0 ∙ chunks_from-sequences us (text ++ u) rest k.1
     ∙ ap (λ t. chunks_from t rest) (append_assoc text u (concat us))
 
--- if no prefix of t is a sequence, the chunk with the `valid` part `text` ends with the first front
--- of t, which is empty if t is
+-- if no prefix of t is a sequence, and `text` and t are not both empty, the chunks of `text` and
+-- the fronts of t are the chunk of `text` and the first front of t, which is empty if t is, and
+-- then the chunks of the bytes of t after that front
 chunks_from-rest : (text t : List ℕ) → longest_len is_sequence t ≡ 0 → 0 < length (text ++ t)
     → chunks_from text (fronts_of t) ≡ record { valid = text; broken = longest_front_of t }
     ∷ chunks_from [] (fronts_of (drop (length (longest_front_of t)) t))
@@ -119,8 +121,9 @@ chunks_from-rest text (b ∷ bs) z some =
     ap (chunks_from text) (fronts_of-some b bs)
     ∙ cond-false _ _ _ (is_sequence-longest_front_of (b ∷ bs) z)
 
--- if v is valid UTF-8 and no prefix of t is a sequence, v and the first front of t are the first
--- chunk
+-- if v is valid UTF-8, no prefix of t is a sequence, and v and t are not both empty, the chunks of
+-- v followed by t are the chunk of v and the first front of t, and then the chunks of the bytes of
+-- t after that front
 chunks_of-append : (v t : List ℕ) → IsText v → longest_len is_sequence t ≡ 0
     → 0 < length (v ++ t)
     → chunks_of (v ++ t) ≡ record { valid = v; broken = longest_front_of t }
@@ -131,7 +134,8 @@ chunks_of-append v t h z some =
     ap (chunks_from []) cut ∙ chunks_from-sequences us [] (fronts_of t) all
     ∙ ap (λ x. chunks_from x (fronts_of t)) e ∙ chunks_from-rest v t z some
 
--- the chunks of a nonempty byte string are the first chunk and the chunks of the rest
+-- the chunks of a nonempty byte string are the chunk `first_chunk_of` and then the chunks of the
+-- bytes after that chunk
 pub chunks_of-some : (b : ℕ) (bs : List ℕ) → chunks_of (b ∷ bs) ≡ first_chunk_of (b ∷ bs)
     ∷ chunks_of (drop (chunk_len (first_chunk_of (b ∷ bs))) (b ∷ bs))
 unfolding first_chunk_of
@@ -149,7 +153,7 @@ chunks_of-some b bs =
     (drop-drop k n s ∙ ap (λ j. drop (j + k) s) (sym e))
 
 -- if no prefix of t is a sequence, the lossy form of t is U+FFFD, or nothing if t is empty, and
--- then the lossy form of the bytes after the first front
+-- then the lossy form of the bytes after the first front of t
 lossy_of-rest : (t : List ℕ) → longest_len is_sequence t ≡ 0
     → lossy_of t ≡ replacement_for (longest_front_of t)
     ++ lossy_of (drop (length (longest_front_of t)) t)
@@ -162,8 +166,8 @@ lossy_of-rest (b ∷ bs) z =
     lossy_of-none b bs z
     ∙ ap (λ c. (if c then [] else replacement) ++ lossy_of (drop k s)) (sym e)
 
--- the lossy form of s is the first chunk, shown with U+FFFD for its invalid front, and then the
--- lossy form of the rest
+-- the lossy form of s is the shown form of the first chunk of s (`shown_chunk`) and then the lossy
+-- form of the bytes after that chunk
 lossy_of-chunk : (s : List ℕ) → lossy_of s
     ≡ shown_chunk (first_chunk_of s) ++ lossy_of (drop (chunk_len (first_chunk_of s)) s)
 unfolding first_chunk_of
@@ -180,7 +184,8 @@ lossy_of-chunk s =
     ∙ ap (λ x. (v ++ mark) ++ lossy_of x)
     (drop-drop (length b) n s ∙ ap (λ j. drop (j + length b) s) (sym e))
 
--- if s has at most n bytes, its chunks as they are shown concatenate to its lossy form
+-- if s has at most n bytes, the shown forms of the chunks of s (`shown_chunk`), one after the
+-- other, are the lossy form of s
 shows_lossy_within : (n : ℕ) (s : List ℕ) → length s ≤ n
     → flat_map shown_chunk (chunks_of s) ≡ lossy_of s
 shows_lossy_within n [] le = ap (flat_map shown_chunk) chunks_of-nil ∙ sym lossy_of-nil
@@ -194,6 +199,6 @@ shows_lossy_within (suc n) (b ∷ bs) le =
     (shows_lossy_within n (drop k s) (length-drop-some n k b bs (chunk_some b bs) le))
     ∙ sym (lossy_of-chunk s)
 
--- the chunks of s as they are shown concatenate to its lossy form
+-- the shown forms of the chunks of s (`shown_chunk`), one after the other, are the lossy form of s
 pub flat_map-shown_chunk : (s : List ℕ) → flat_map shown_chunk (chunks_of s) ≡ lossy_of s
 flat_map-shown_chunk s = shows_lossy_within (length s) s (le_refl (length s))

@@ -13,13 +13,13 @@ use Rattle.unix_bytes.proofs.lemmas.chunks.ChunkLemmas.{whole_text, chunks_of-ni
 use Rattle.unix_bytes.proofs.lemmas.chunks.ChunkLemmas.{first_chunk_of-text, flat_map-shown_chunk}
 use Rattle.unix_bytes.proofs.lemmas.chunks.PartitionLemmas.{chunks_partition, whole_chunk_is_last}
 
--- the first chunk of s is `first_chunk_of s`
+-- if c is the first of the chunks of s, `first_chunk_of s` is c
 pub first_chunk_is : (s : List ℕ) (c : Chunk) (cs : List Chunk) → chunks_of s ≡ c ∷ cs
     → first_chunk_of s ≡ c
 first_chunk_is [] c cs e = let h = chunks_of-nil in cc
 first_chunk_is (b ∷ bs) c cs e = let h = chunks_of-some b bs in cc
 
--- if the first chunk has no invalid bytes, its `valid` part is the whole byte string
+-- if the first chunk c of s has no invalid bytes, the `valid` part of c is all of s
 pub only_chunk : (s : List ℕ) (c : Chunk) (cs : List Chunk) → chunks_of s ≡ c ∷ cs
     → c.broken ≡ [] → c.valid ≡ s
 only_chunk s c cs e z =
@@ -28,19 +28,20 @@ only_chunk s c cs e z =
     sym (append-nil c.valid) ∙ ap (λ b. c.valid ++ b) (sym z) ∙ sym (append-nil (bytes c))
     ∙ ap (flat_map bytes) (ap (λ t. c ∷ t) (sym none) ∙ sym e) ∙ chunks_partition s
 
--- if the first chunk has no invalid bytes, the whole byte string is valid UTF-8
+-- if the first chunk c of s has no invalid bytes, s is valid UTF-8
 pub only_text : (s : List ℕ) (c : Chunk) (cs : List Chunk) → chunks_of s ≡ c ∷ cs
     → c.broken ≡ [] → IsText s
 only_text s c cs e z =
     subst IsText (ap (λ (x : Chunk). x.valid) (first_chunk_is s c cs e) ∙ only_chunk s c cs e z)
     (first_chunk_of-text s)
 
--- the first chunk and the chunks after it, as they are shown, concatenate to the lossy form
+-- if the chunks of s are c and then cs, their shown forms (`shown_chunk`), one after the other, are
+-- the lossy form of s
 pub lossy_of-first_chunk : (s : List ℕ) (c : Chunk) (cs : List Chunk) → chunks_of s ≡ c ∷ cs
     → shown_chunk c ++ flat_map shown_chunk cs ≡ lossy_of s
 lossy_of-first_chunk s c cs e = ap (flat_map shown_chunk) (sym e) ∙ flat_map-shown_chunk s
 
--- the first chunk of valid UTF-8 has no invalid bytes
+-- if s is valid UTF-8, its first chunk c has no invalid bytes
 pub text_has_none_broken : (s : List ℕ) (c : Chunk) (cs : List Chunk) → chunks_of s ≡ c ∷ cs
     → IsText s → c.broken ≡ []
 unfolding first_chunk_of

@@ -22,7 +22,8 @@ use Rattle.unix_bytes.proofs.lemmas.chunks.ChunkLemmas.{chunks_of-nil}
 use Rattle.unix_bytes.proofs.lemmas.chunks.ChunkLemmas.{chunks_of-some}
 use Rattle.unix_bytes.proofs.lemmas.lossy.LawLemmas.{longest_front_is_short}
 
--- `FollowFirst` holds of the first chunk and the chunks of the rest
+-- the first chunk of s is the longest valid prefix of s and the front after it, and the other
+-- chunks are the chunks of the rest of s (`FollowFirst`)
 follow_first : (s : List ℕ)
     → FollowFirst s (first_chunk_of s) (chunks_of (drop (chunk_len (first_chunk_of s)) s))
 unfolding first_chunk_of
@@ -62,11 +63,12 @@ length_within (suc n) (b ∷ bs) le =
     let left = length_within n (drop k (b ∷ bs)) (length-drop-some n k b bs some le) in
     omega (arith, some, left, length-drop k (b ∷ bs), ap length (chunks_of-some b bs))
 
--- there are no more chunks than bytes
+-- s has no more chunks than bytes
 pub length-chunks_of : (s : List ℕ) → length (chunks_of s) ≤ length s
 length-chunks_of s = length_within (length s) s (le_refl (length s))
 
--- the first n bytes, at most k bytes after them, and the remaining bytes concatenate to s
+-- if s has at least n bytes: the first n bytes of s, at most k bytes after them, and the remaining
+-- bytes, one after the other, are s
 two_prefixes : (s : List ℕ) (n k : ℕ) → n ≤ length s
     → (take n s ++ take k (drop n s)) ++ drop (length (take n s) + length (take k (drop n s))) s ≡ s
 two_prefixes s n k w =
@@ -80,7 +82,8 @@ two_prefixes s n k w =
     append_assoc v b _ ∙ ap (λ x. v ++ (b ++ x)) back
     ∙ ap (λ x. v ++ x) (sym e) ∙ take-append-drop n s
 
--- the two parts of the first chunk and the bytes after it concatenate to s
+-- the `valid` part of the first chunk of s, its `broken` part, and the bytes after this chunk, one
+-- after the other, are s
 first_chunk_of-drop : (s : List ℕ) → (first_chunk_of s).valid ++ (first_chunk_of s).broken
     ++ drop (chunk_len (first_chunk_of s)) s ≡ s
 unfolding first_chunk_of longest_front_of
@@ -89,7 +92,7 @@ first_chunk_of-drop s =
     let k = max 1 (longest_len begins_sequence (drop n s)) in
     two_prefixes s n k (longest_len-longest is_text s).within
 
--- if s has at most n bytes, its chunks concatenate to s
+-- if s has at most n bytes, the bytes of the chunks of s, one after the other, are s
 partition_within : (n : ℕ) (s : List ℕ) → length s ≤ n
     → flat_map (λ c. c.valid ++ c.broken) (chunks_of s) ≡ s
 partition_within n [] l = ap (flat_map (λ c. c.valid ++ c.broken)) chunks_of-nil
@@ -106,16 +109,16 @@ partition_within (suc n) (b ∷ bs) l =
 pub chunks_partition : ChunksPartition
 chunks_partition s = partition_within (length s) s (le_refl (length s))
 
--- at most three bytes of the first chunk are invalid
+-- the first chunk of s has at most three invalid bytes
 first_is_short : (s : List ℕ) → length (first_chunk_of s).broken ≤ 3
 unfolding first_chunk_of
 first_is_short s = longest_front_is_short (drop (longest_len is_text s) s) (none_after_text s)
 
--- at most three bytes of the chunk are invalid
+-- the chunk c has at most three invalid bytes
 abbrev IsShort : Chunk → Type 0
 IsShort c = length c.broken ≤ 3
 
--- if s has at most n bytes, at most three bytes of each of its chunks are invalid
+-- if s has at most n bytes, each chunk of s has at most three invalid bytes
 short_within : (n : ℕ) (s : List ℕ) → length s ≤ n → All IsShort (chunks_of s)
 short_within n [] l = subst (All IsShort) (sym chunks_of-nil) (All-nil IsShort)
 short_within zero (b ∷ bs) l = absurd (omega arith)
@@ -129,7 +132,7 @@ short_within (suc n) (b ∷ bs) l =
 pub chunks_are_short : ChunksAreShort
 chunks_are_short s = short_within (length s) s (le_refl (length s))
 
--- only the empty byte string has an empty first front
+-- if the first front of s is empty, s is empty
 longest_front_of-empty : (s : List ℕ) → longest_front_of s ≡ [] → s ≡ []
 longest_front_of-empty [] e = refl
 longest_front_of-empty (b ∷ bs) e =
@@ -137,7 +140,7 @@ longest_front_of-empty (b ∷ bs) e =
     let none : length (longest_front_of (b ∷ bs)) ≡ 0 = ap length e in
     absurd (omega arith)
 
--- if the first chunk has no invalid bytes, no byte follows it
+-- if the first chunk of s has no invalid bytes, no byte of s follows this chunk
 nothing_follows : (s : List ℕ) → (first_chunk_of s).broken ≡ []
     → drop (chunk_len (first_chunk_of s)) s ≡ []
 unfolding first_chunk_of
@@ -148,7 +151,7 @@ nothing_follows s e =
     omega (arith, v, ap length e) in
     ap (λ j. drop j s) k ∙ longest_front_of-empty (drop n s) e
 
--- if s has at most n bytes, a chunk of s without invalid bytes is the last
+-- if s has at most n bytes, and c is a chunk of s without invalid bytes, no chunk comes after c
 last_within : (n : ℕ) (s : List ℕ) (before after : List Chunk) (c : Chunk) → length s ≤ n
     → chunks_of s ≡ before ++ c ∷ after → c.broken ≡ [] → after ≡ []
 last_within n [] [] after c l e z = let h = chunks_of-nil in cc

@@ -9,8 +9,8 @@ use Rattle.unix_bytes.specs.Steps.{chunk_len, rest_after_text, Splits}
 use Rattle.unix_bytes.proofs.lemmas.lossy.BrokenLemmas.{longest_front_of-none}
 use Rattle.unix_bytes.proofs.lemmas.chunks.ChunkLemmas.{none_after_text, chunks_of-some}
 
--- if s is `valid`, `broken` and then `rest`, and the first two are its first chunk, then the chunks
--- of s are this chunk and the chunks of `rest`
+-- if s is not empty, if s is `valid` and then `broken` and then `rest`, and if `valid` and `broken`
+-- are the first chunk of s, the chunks of s are this chunk and then the chunks of `rest`
 chunks_of-parts : (s valid broken rest : List ℕ) → 0 < length s → s ≡ valid ++ (broken ++ rest)
     → first_chunk_of s ≡ record { valid = valid; broken = broken }
     → chunks_of s ≡ record { valid = valid; broken = broken } ∷ chunks_of rest
@@ -25,7 +25,8 @@ chunks_of-parts (b ∷ bs) valid broken rest some e f =
     ∙ ap (drop (length broken)) (drop_at valid (broken ++ rest) (length valid) refl)
     ∙ drop_at broken rest (length broken) refl)
 
--- if `Splits` holds, the valid prefix and the invalid front are the first chunk
+-- if s is not empty and is split into `valid`, `broken` and `rest` (`Splits`), the chunks of s are
+-- the chunk of `valid` and `broken`, and then the chunks of `rest`
 pub splits_first_chunk : {s valid broken rest : List ℕ} → 0 < length s → Splits s valid broken rest
     → chunks_of s ≡ record { valid = valid; broken = broken } ∷ chunks_of rest
 unfolding first_chunk_of

@@ -17,25 +17,26 @@ use Rattle.unix_bytes.proofs.lemmas.sequences.StepLemmas.{two_byte_sequence, thr
 use Rattle.unix_bytes.proofs.lemmas.sequences.StepLemmas.{four_byte_sequence}
 use Rattle.unix_bytes.proofs.lemmas.lossy.LossyLemmas.{is_sequence-longest_front_of}
 
--- the empty byte string has no invalid front
+-- if s is empty, it has no invalid front
 pub broken_len-empty : (s : List ℕ) → length s ≡ 0 → broken_len s ≡ 0
 broken_len-empty [] e =
     cond-false _ _ _ (ap is_sequence longest_front_of-nil ∙ is_sequence-nil)
     ∙ ap length longest_front_of-nil
 broken_len-empty (b ∷ bs) e = absurd (omega arith)
 
--- if no prefix is a sequence, the first front is invalid
+-- if no prefix of s is a sequence, the whole first front of s is invalid: `broken_len s` is the
+-- length of this front
 pub broken_len-none : (s : List ℕ) → longest_len is_sequence s ≡ 0
     → broken_len s ≡ length (longest_front_of s)
 broken_len-none s z = cond-false _ _ _ (is_sequence-longest_front_of s z)
 
--- if no prefix is a sequence, the first front is the first `broken_len s` bytes
+-- if no prefix of s is a sequence, the first front of s is the first `broken_len s` bytes of s
 pub longest_front_of-none : (s : List ℕ) → longest_len is_sequence s ≡ 0
     → longest_front_of s ≡ take (broken_len s) s
 longest_front_of-none s z =
     longest_front_of-take s ∙ ap (λ k. take k s) (sym (broken_len-none s z))
 
--- if the first front is invalid, no prefix is a sequence
+-- if s begins with an invalid front, no prefix of s is a sequence
 pub no_sequence_first : (s : List ℕ) → 0 < broken_len s → longest_len is_sequence s ≡ 0
 no_sequence_first s some =
     let k = longest_len is_sequence s in
@@ -47,12 +48,12 @@ no_sequence_first s some =
     let z : broken_len s ≡ 0 = cond-true _ _ _ (ap is_sequence e ∙ h) in
     absurd (omega arith)) (longest_len-longest is_sequence s).passes
 
--- the first front is no longer than the bytes
+-- the first front of s is no longer than s
 longest_front_within : (s : List ℕ) → length (longest_front_of s) ≤ length s
 longest_front_within [] = let e = ap length longest_front_of-nil in omega arith
 longest_front_within (b ∷ bs) = (front_within b bs).1
 
--- the invalid front is no longer than the bytes
+-- the invalid front at the beginning of s, if there is one, is no longer than s
 pub broken_len_within : (s : List ℕ) → broken_len s ≤ length s
 broken_len_within s =
     ⊎_elim (λ t. let e : broken_len s ≡ 0 = cond-true _ _ _ t in omega arith)
@@ -60,22 +61,23 @@ broken_len_within s =
     let e : broken_len s ≡ length (longest_front_of s) = cond-false _ _ _ f in
     omega (arith, longest_front_within s)) (cases_Bool (is_sequence (longest_front_of s)))
 
--- if the first byte is not ASCII, and it is the only byte or the first two bytes begin no sequence,
--- the invalid front has one byte
+-- if the first byte of s is not ASCII, and if s has no second byte or its first two bytes begin no
+-- sequence, then s begins with an invalid front of one byte
 pub one_byte_broken : (s : List ℕ) → 0 < length s → (HasBegun s 2 → ⊥) → 0x80 ≤ slice_index s 0
     → broken_len s ≡ 1
 one_byte_broken s some end non_ascii =
     broken_len-none s (none_of_two s end non_ascii) ∙ one_byte_front s some end
 
--- if the first byte is at least E0, the first two bytes begin a sequence, and there is no third
--- byte or the first three begin none, the invalid front has two bytes
+-- if the first byte of s is at least E0, and the first two bytes begin a sequence, and if s has no
+-- third byte or its first three bytes begin no sequence, then s begins with an invalid front of two
+-- bytes
 pub two_byte_broken : (s : List ℕ) → HasBegun s 2 → (HasBegun s 3 → ⊥) → 0xE0 ≤ slice_index s 0
     → broken_len s ≡ 2
 two_byte_broken s h end non_ascii =
     broken_len-none s (none_of_three s end non_ascii) ∙ two_byte_front s h end
 
--- if the byte at index i is not ASCII, and it is the last byte or the bytes at i and i + 1 begin no
--- sequence, the invalid front at index i has one byte
+-- let r be s from index i on: if the byte of s at index i is not ASCII, and if r has no second byte
+-- or its first two bytes begin no sequence, then r begins with an invalid front of one byte
 pub one_broken_at : (s r : List ℕ) (i : ℕ) → r ≡ drop i s → i < length s → 0x80 ≤ slice_index s i
     → (HasBegun r 2 → ⊥) → 1 ≡ broken_len r
 one_broken_at s r i rest some non_ascii end =
@@ -83,14 +85,16 @@ one_broken_at s r i rest some non_ascii end =
     ap (λ t. slice_index t 0) rest ∙ first_of_drop i s in
     sym (one_byte_broken r (omega (arith, ap length rest, length-drop i s)) end (omega arith))
 
--- if the first byte is at least F0, the first three bytes begin a sequence, and there is no fourth
--- byte or the first four begin none, the invalid front has three bytes
+-- if the first byte of s is at least F0, and the first three bytes begin a sequence, and if s has
+-- no fourth byte or its first four bytes begin no sequence, then s begins with an invalid front of
+-- three bytes
 pub three_byte_broken : (s : List ℕ) → HasBegun s 3 → (HasBegun s 4 → ⊥) → 0xF0 ≤ slice_index s 0
     → broken_len s ≡ 3
 three_byte_broken s h end non_ascii =
     broken_len-none s (none_of_four s end non_ascii) ∙ three_byte_front s h end
 
--- a first byte that begins no sequence is an invalid front by itself
+-- if the first byte of s is neither ASCII nor the first byte of a sequence of two, three or four
+-- bytes, s begins with an invalid front of one byte
 pub lone_byte_broken : (s : List ℕ) → 0 < length s → 0x80 ≤ slice_index s 0
     → ((0xC2 ≤ slice_index s 0) × (slice_index s 0 ≤ 0xDF) → ⊥)
     → ((0xE0 ≤ slice_index s 0) × (slice_index s 0 ≤ 0xEF) → ⊥)
@@ -98,12 +102,12 @@ pub lone_byte_broken : (s : List ℕ) → 0 < length s → 0x80 ≤ slice_index 
 lone_byte_broken s some non_ascii two three four =
     one_byte_broken s some (λ h. let lead = pair_bounds s h in grind arith) non_ascii
 
--- the length of a front whose first byte begins sequences of two bytes, or no sequence
+-- lemmas on the length of the first front, if its first byte begins sequences of two bytes, or none
 pub ruleset two_byte_fronts = (two_byte_sequence, one_byte_broken, lone_byte_broken)
 
--- the length of a front whose first byte begins sequences of three bytes
+-- lemmas on the length of the first front, if its first byte begins sequences of three bytes
 pub ruleset three_byte_fronts = (three_byte_sequence, one_byte_broken, two_byte_broken)
 
--- the length of a front whose first byte begins sequences of four bytes
+-- lemmas on the length of the first front, if its first byte begins sequences of four bytes
 pub ruleset four_byte_fronts =
     (four_byte_sequence, one_byte_broken, two_byte_broken, three_byte_broken)

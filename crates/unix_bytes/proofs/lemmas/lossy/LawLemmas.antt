@@ -28,7 +28,7 @@ use Rattle.unix_bytes.proofs.lemmas.sequences.GrowLemmas.{front_of-longest}
 use Rattle.unix_bytes.proofs.lemmas.lossy.LossyLemmas.{no_sequence, lossy_of-none, shown_front}
 use Rattle.unix_bytes.proofs.lemmas.lossy.LossyLemmas.{length-drop-some}
 
--- the first front begins a sequence, or is one byte
+-- the first front of a nonempty byte string begins a sequence, or is one byte
 longest_front_begins : (b : ℕ) (bs : List ℕ)
     → BeginsSequence (longest_front_of (b ∷ bs)) ⊎ (length (longest_front_of (b ∷ bs)) ≡ 1)
 unfolding longest_front_of
@@ -45,7 +45,7 @@ longest_front_begins b bs =
     let e : max 1 n ≡ 1 = omega arith in inr (ap (λ k. length (take k s)) e))
     (cases_lt 0 n)
 
--- the bytes begin a sequence, or are one byte
+-- u begins a sequence, or is one byte
 abbrev MayStand : List ℕ → Type 0
 MayStand u = BeginsSequence u ⊎ (length u ≡ 1)
 
@@ -70,7 +70,7 @@ fronts_one_by_one (b ∷ bs) =
     ap (drop 1) (fronts_of-some b bs)
     ∙ ap (λ u. fronts_of (drop (length u) (b ∷ bs))) (sym (front_of-longest (b ∷ bs)))
 
--- no prefix that begins a sequence is longer than the first front
+-- the first front of s is a prefix of s, and no prefix of s that begins a sequence is longer
 longest_front_is_longest : (s : List ℕ) → IsLongest BeginsSequence (longest_front_of s) s
 unfolding longest_front_of
 longest_front_is_longest s =
@@ -89,7 +89,7 @@ front_is_longest s =
     subst (λ u. IsLongest BeginsSequence u s) (sym (front_of-longest s))
     (longest_front_is_longest s)
 
--- if `BeginsWithNoSequence` holds, `longest_len` finds no prefix that is a sequence
+-- if no prefix of s is a sequence (`BeginsWithNoSequence`), `longest_len is_sequence s` is 0
 longest_len-BeginsWithNoSequence : (s : List ℕ) → BeginsWithNoSequence s
     → longest_len is_sequence s ≡ 0
 longest_len-BeginsWithNoSequence s none =
@@ -109,14 +109,15 @@ pub replacement_is_sequence : is_sequence replacement ≡ true
 unfolding is_sequence
 replacement_is_sequence = refl
 
--- the bytes that are shown for a front, either the front itself or U+FFFD, are a sequence
+-- the bytes that are shown for u as a front, either u itself or U+FFFD, are a sequence
 shown_front_is_sequence : (u : List ℕ) → is_sequence (shown_front u) ≡ true
 shown_front_is_sequence u =
     ⊎_elim (λ t. ap is_sequence (cond-true _ _ _ t) ∙ t)
     (λ f. ap is_sequence (cond-false _ _ _ f) ∙ replacement_is_sequence)
     (cases_Bool (is_sequence u))
 
--- if no prefix is a sequence, a prefix that begins a sequence has at most three bytes
+-- if no prefix of s is a sequence, the longest prefix of s that begins a sequence has at most three
+-- bytes
 beginning_is_short : (s : List ℕ) → longest_len is_sequence s ≡ 0
     → max 1 (longest_len begins_sequence s) ≤ 3
 beginning_is_short s z =
@@ -137,7 +138,7 @@ beginning_is_short s z =
         let four = (sequence_len (take n s ++ x ∷ u) is).1 in
         omega (arith, length-append (take n s) (x ∷ u))
 
--- if no prefix is a sequence, the first front has at most three bytes
+-- if no prefix of s is a sequence, the first front of s has at most three bytes
 pub longest_front_is_short : (s : List ℕ) → longest_len is_sequence s ≡ 0
     → length (longest_front_of s) ≤ 3
 unfolding longest_front_of
@@ -152,7 +153,7 @@ broken_is_short s none =
     subst (λ u. length u ≤ 3) (sym (front_of-longest s))
     (longest_front_is_short s (longest_len-BeginsWithNoSequence s none))
 
--- the bytes that are shown for each of the fronts us are a sequence
+-- for each u of us, the bytes that are shown for u as a front are a sequence
 shown_fronts_are_sequences : (us : List (List ℕ))
     → list_all is_sequence (map shown_front us) ≡ true
 shown_fronts_are_sequences [] = refl

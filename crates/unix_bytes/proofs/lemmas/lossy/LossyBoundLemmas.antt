@@ -10,7 +10,7 @@ use Rattle.unix_bytes.proofs.lemmas.sequences.FrontLemmas.{front_within}
 use Rattle.unix_bytes.proofs.lemmas.sequences.GrowLemmas.{fronts_of-some}
 use Rattle.unix_bytes.proofs.lemmas.lossy.LossyLemmas.{length-drop-some, lossy_of-nil, shown_front}
 
--- the bytes that are shown for a nonempty front are at most three times as long as the front
+-- the bytes that are shown for a nonempty front u are at most three times as long as u
 length-shown_front : (u : List ℕ) → 1 ≤ length u → length (shown_front u) ≤ 3 * length u
 length-shown_front u some =
     ⊎_elim
@@ -40,6 +40,6 @@ length-lossy_within (suc n) (b ∷ bs) le =
       within.1,
     )
 
--- the lossy form of any bytes is at most three times as long as the bytes
+-- the lossy form of s is at most three times as long as s
 pub length-lossy_of : (s : List ℕ) → length (lossy_of s) ≤ 3 * length s
 length-lossy_of s = length-lossy_within (length s) s (le_refl (length s))

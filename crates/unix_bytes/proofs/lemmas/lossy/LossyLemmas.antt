@@ -19,11 +19,11 @@ use Rattle.unix_bytes.proofs.lemmas.sequences.FrontLemmas.{longest_front_of-take
 use Rattle.unix_bytes.proofs.lemmas.sequences.FrontLemmas.{front_within}
 use Rattle.unix_bytes.proofs.lemmas.sequences.GrowLemmas.{fronts_of-nil, fronts_of-some}
 
--- the bytes that are shown for a front: a sequence unchanged, and U+FFFD for an invalid front
+-- the bytes that are shown for u as a front: u if it is a sequence, and otherwise U+FFFD
 abbrev pub shown_front : List ℕ → List ℕ
 shown_front u = if is_sequence u then u else replacement
 
--- if the bytes start with the sequence u, u is the first front
+-- if u is a sequence, the fronts of u followed by s are u and then the fronts of s
 fronts_of-sequence : (u s : List ℕ) → IsSequence u → fronts_of (u ++ s) ≡ u ∷ fronts_of s
 fronts_of-sequence [] s h = let k = is_sequence-nil in cc
 fronts_of-sequence (b ∷ u) s h =
@@ -32,7 +32,8 @@ fronts_of-sequence (b ∷ u) s h =
     ∙ ap (λ f. f ∷ fronts_of (drop (length f) (b ∷ u ++ s))) e
     ∙ ap (λ t. (b ∷ u) ∷ fronts_of t) (drop_at (b ∷ u) s (length (b ∷ u)) refl)
 
--- the fronts of the sequences us followed by s are the sequences us and then the fronts of s
+-- if us are sequences, the byte string that is us, one after the other, and then s has the fronts
+-- us and then the fronts of s
 fronts_of-concat : (us : List (List ℕ)) (s : List ℕ) → list_all is_sequence us ≡ true
     → fronts_of (concat us ++ s) ≡ us ++ fronts_of s
 fronts_of-concat [] s h = refl
@@ -41,12 +42,12 @@ fronts_of-concat (u ∷ us) s h =
     ap fronts_of (append_assoc u (concat us) s) ∙ fronts_of-sequence u (concat us ++ s) k.0
     ∙ ap (λ fs. u ∷ fs) (fronts_of-concat us s k.1)
 
--- if at least one byte is dropped from a string of at most n + 1 bytes, at most n bytes remain
+-- if at least one byte is dropped from a nonempty string of at most n + 1 bytes, at most n remain
 pub length-drop-some : (n k b : ℕ) (bs : List ℕ) → 1 ≤ k → length (b ∷ bs) ≤ suc n
     → length (drop k (b ∷ bs)) ≤ n
 length-drop-some n k b bs some le = omega (arith, length-drop k (b ∷ bs))
 
--- if s has at most n bytes, its fronts concatenate to s
+-- if s has at most n bytes, the fronts of s, one after the other, are s
 concat-fronts_within : (n : ℕ) (s : List ℕ) → length s ≤ n → concat (fronts_of s) ≡ s
 concat-fronts_within n [] le = ap concat fronts_of-nil
 concat-fronts_within zero (b ∷ bs) le = absurd (omega arith)
@@ -58,7 +59,7 @@ concat-fronts_within (suc n) (b ∷ bs) le =
     (concat-fronts_within n (drop k s) (length-drop-some n k b bs (front_within b bs).0 le))
     ∙ take-append-drop k s
 
--- the fronts of s concatenate to s
+-- the fronts of s, one after the other, are s
 pub concat-fronts_of : (s : List ℕ) → concat (fronts_of s) ≡ s
 concat-fronts_of s = concat-fronts_within (length s) s (le_refl (length s))
 
@@ -68,8 +69,8 @@ unfolding is_text
 IsText-from_is_text s h =
     (fronts_of s, AllPass-from_list_all is_sequence (fronts_of s) h, concat-fronts_of s)
 
--- if t is valid UTF-8, the fronts of t followed by s are the sequences of t and then the fronts of
--- s
+-- if t is valid UTF-8, then t is some sequences us, one after the other, and the fronts of t
+-- followed by s are us and then the fronts of s
 pub fronts_of-text : (t s : List ℕ) → IsText t → (us : List (List ℕ))
     × (list_all is_sequence us ≡ true) × (concat us ≡ t) × (fronts_of (t ++ s) ≡ us ++ fronts_of s)
 fronts_of-text t s (us, h, e) =
@@ -85,7 +86,7 @@ is_text-from_IsText s t =
     ap fronts_of (sym (append-nil s)) ∙ cut ∙ ap (λ fs. us ++ fs) fronts_of-nil ∙ append-nil us in
     ap (list_all is_sequence) same ∙ all
 
--- if t is valid UTF-8, and t followed by s too, so is s
+-- if t is valid UTF-8, and t followed by s is valid UTF-8, so is s
 pub text_rest : (t s : List ℕ) → IsText t → IsText (t ++ s) → IsText s
 unfolding is_text
 text_rest t s h k =
@@ -95,7 +96,7 @@ text_rest t s h k =
     IsText-from_is_text s
     (and_parts _ _ (sym (list_all-append is_sequence us (fronts_of s)) ∙ both)).1
 
--- sequences are shown unchanged
+-- if us are sequences, the bytes that are shown for them as fronts are us, one after the other
 flat_map-shown_front : (us : List (List ℕ)) → list_all is_sequence us ≡ true
     → flat_map shown_front us ≡ concat us
 flat_map-shown_front [] h = refl
@@ -103,7 +104,7 @@ flat_map-shown_front (u ∷ us) h =
     let k : IsSequence u × (list_all is_sequence us ≡ true) = and_parts _ _ h in
     ap₂ (λ f t. f ++ t) (cond-true _ _ _ k.0) (flat_map-shown_front us k.1)
 
--- the lossy form of no bytes is empty
+-- the lossy form of the empty byte string is empty
 pub lossy_of-nil : lossy_of [] ≡ []
 unfolding lossy_of
 lossy_of-nil = ap (flat_map shown_front) fronts_of-nil
@@ -122,14 +123,14 @@ lossy_of-text s t =
     ap lossy_of (sym (append-nil s)) ∙ lossy_of-append s [] t
     ∙ ap (λ x. s ++ x) lossy_of-nil ∙ append-nil s
 
--- if `longest_len` finds no prefix that is a sequence, there is none
+-- if `longest_len is_sequence s` is 0, no prefix u of s is a sequence
 pub no_sequence : (s u v : List ℕ) → longest_len is_sequence s ≡ 0 → s ≡ u ++ v → IsSequence u → ⊥
 no_sequence s u v z e h =
     let some = sequence_len u h in
     let few = longest_len-prefix is_sequence s u v h e in
     absurd (omega arith)
 
--- if no prefix is a sequence, neither is the first front
+-- if no prefix of s is a sequence, the first front of s is no sequence either
 pub is_sequence-longest_front_of : (s : List ℕ) → longest_len is_sequence s ≡ 0
     → is_sequence (longest_front_of s) ≡ false
 is_sequence-longest_front_of s z =
@@ -139,8 +140,8 @@ is_sequence-longest_front_of s z =
     false_from_ne_true (is_sequence (longest_front_of s))
     (no_sequence s (longest_front_of s) (drop k s) z e)
 
--- if no prefix is a sequence, the lossy form is U+FFFD and then the lossy form of the bytes after
--- the first front
+-- if no prefix of a nonempty byte string is a sequence, its lossy form is U+FFFD and then the lossy
+-- form of the bytes after its first front
 pub lossy_of-none : (b : ℕ) (bs : List ℕ) → longest_len is_sequence (b ∷ bs) ≡ 0
     → lossy_of (b ∷ bs)
     ≡ replacement ++ lossy_of (drop (length (longest_front_of (b ∷ bs))) (b ∷ bs))
@@ -151,7 +152,7 @@ lossy_of-none b bs z =
     ∙ ap (λ f. f ++ flat_map shown_front (fronts_of (drop (length (longest_front_of s)) s)))
     (cond-false _ _ _ (is_sequence-longest_front_of s z))
 
--- if no prefix is a sequence, only the empty prefix is valid UTF-8
+-- if no prefix of s is a sequence, no nonempty prefix of s is valid UTF-8
 pub no_text : (s : List ℕ) (k : ℕ) → IsText (take k s) → 0 < k → k ≤ length s
     → longest_len is_sequence s ≡ 0 → ⊥
 no_text s k (us, h, e) some within z =

@@ -22,7 +22,8 @@ use Rattle.unix_bytes.proofs.lemmas.lossy.BrokenLemmas.{broken_len_within}
 use Rattle.unix_bytes.proofs.lemmas.prefixes.TextPrefixLemmas.{ascii_is_text, sequence_within}
 use Rattle.unix_bytes.proofs.lemmas.lossy.LawLemmas.{replacement_is_sequence}
 
--- `Shows` holds if the first n bytes of s are valid UTF-8 and are written unchanged
+-- if the first n bytes of s are valid UTF-8, and `after` is `before` and then these n bytes, then
+-- `Shows s before n after` holds
 pub shows_text : (s before : List ℕ) (n : ℕ) (after : List ℕ) → IsText (take n s)
     → after ≡ before ++ take n s → Shows s before n after
 shows_text s before n after h e = record {
@@ -33,7 +34,8 @@ shows_text s before n after h e = record {
   text = λ k. subst IsText (sym e) (IsText-append before (take n s) k h);
 }
 
--- `Shows` holds if s begins with an invalid front of n bytes and U+FFFD is written for it
+-- if s begins with an invalid front of n bytes, and `after` is `before` and then U+FFFD, then
+-- `Shows s before n after` holds
 pub shows_broken : (s before : List ℕ) (n : ℕ) (after : List ℕ) → (0 < n) × (n ≡ broken_len s)
     → after ≡ before ++ replacement → Shows s before n after
 shows_broken [] before n after (some, is) e = absurd (omega (arith, broken_len-empty [] refl))
@@ -52,8 +54,9 @@ shows_broken (b ∷ bs) before n after (some, is) e =
           (IsText-sequence replacement replacement_is_sequence));
     }
 
--- if `Shows` holds for the first n bytes of s, and then for the next k, it holds for the first n +
--- k
+-- if t is s without its first n bytes, reading these has extended `before` to `middle`, and reading
+-- the first k bytes of t has extended `middle` to `after`, then reading the first n + k bytes of s
+-- has extended `before` to `after` (`Shows`)
 pub shows_more : (s t before middle after : List ℕ) (n k : ℕ) → t ≡ drop n s
     → Shows s before n middle → Shows t middle k after → Shows s before (n + k) after
 shows_more s t before middle after n k e p q = record {
@@ -63,34 +66,35 @@ shows_more s t before middle after n k e p q = record {
   text = λ h. q.text (p.text h);
 }
 
--- if reading the first n bytes of s filled `buffer`, and t is the rest of s, then `items`, `buffer`
--- and the lossy form of t concatenate to the same bytes as `items` and the lossy form of s
+-- if reading the first n bytes of s has written `buffer` (`Shows`), and t is the rest of s, then
+-- `items`, `buffer` and the lossy form of t, one after the other, are `items` and then the lossy
+-- form of s
 pub pushes_buffer : (items buffer s t : List ℕ) (n : ℕ) → t ≡ drop n s → Shows s [] n buffer
     → (items ++ buffer) ++ lossy_of t ≡ items ++ lossy_of s
 pushes_buffer items buffer s t n e p =
     append_assoc items buffer (lossy_of t)
     ∙ ap (λ u. items ++ u) (ap (λ u. buffer ++ lossy_of u) e ∙ p.lossy)
 
--- a buffer that was filled by reading the first n bytes of s is UTF-8
+-- if reading the first n bytes of s has written `buffer` (`Shows`), `buffer` is UTF-8
 pub buffer_is_utf8 : (s buffer : List ℕ) (n : ℕ) → Shows s [] n buffer → IsUtf8 buffer
 buffer_is_utf8 s buffer n p = IsUtf8-from_IsText buffer (p.text IsText-nil)
 
--- if s is empty, and `items` and then the lossy form of s are `whole`, then `items` is `whole`
+-- if s is empty, and `items` followed by the lossy form of s is `whole`, then `items` is `whole`
 pub writes_whole : (items s whole : List ℕ) → length s ≡ 0 → items ++ lossy_of s ≡ whole
     → items ≡ whole
 writes_whole items s whole z e =
     sym (append-nil items)
     ∙ ap (λ u. items ++ u) (sym (ap lossy_of (nil_from_length s z) ∙ lossy_of-nil)) ∙ e
 
--- if reading all of s filled `buffer`, and `items` and then the lossy form of s are `whole`, then
--- `items` and then `buffer` are `whole`
+-- if reading the first n bytes of s, which are all of s, has written `buffer` (`Shows`), and
+-- `items` followed by the lossy form of s is `whole`, then `items` followed by `buffer` is `whole`
 pub writes_last : (items buffer s t whole : List ℕ) (n : ℕ) → t ≡ drop n s → length t ≡ 0
     → Shows s [] n buffer → items ++ lossy_of s ≡ whole → items ++ buffer ≡ whole
 writes_last items buffer s t whole n cut z p e =
     writes_whole (items ++ buffer) t whole z (pushes_buffer items buffer s t n cut p ∙ e)
 
--- if the first n bytes of s were written into `out` at index `at`, so were the first k, where k is
--- at most n
+-- let k be at most n: if `out` begins with the first `at` bytes of `old` and then the first n bytes
+-- of s, it also begins with the first `at` bytes of `old` and then the first k bytes of s
 pub takes_fewer : (out old s : List ℕ) (at n k : ℕ) → k ≤ n → at ≤ length old
     → take (at + n) out ≡ take at old ++ take n s → take (at + k) out ≡ take at old ++ take k s
 takes_fewer out old s at n k few within e =
@@ -100,18 +104,18 @@ takes_fewer out old s at n k few within e =
     ∙ take-append-add (take at old) (take n s) k
     ∙ ap (λ t. take at old ++ t) (take-take k n s few)
 
--- if the first byte of s is written into `out` at index `at`, it comes after the first `at` bytes
--- of `out`
+-- if s is not empty, and its first byte is written into `out` at index `at`, then `out` begins with
+-- its old first `at` bytes and then the first byte of s
 pub takes_one : (out s : List ℕ) (at : ℕ) → 0 < length s → at < length out
     → take (at + 1) (slice_set out at (slice_index s 0)) ≡ take at out ++ take 1 s
 takes_one out [] at some within = absurd (omega arith)
 takes_one out (b ∷ bs) at some within = take_more_set out at b within
 
--- if the first byte of s is ASCII, it is valid UTF-8
+-- if the first byte of s is ASCII, it is valid UTF-8 by itself
 pub first_is_text : (s : List ℕ) → 0 < length s → slice_index s 0 < 0x80 → IsText (take 1 s)
 first_is_text s some h = ascii_is_text (take 1 s) (IsAscii-more s 0 some IsAscii-nil h)
 
--- the longest prefix that is a sequence has at most four bytes
+-- the longest prefix of s that is a sequence has at most four bytes
 pub sequence_is_short : (s : List ℕ) → longest_len is_sequence s ≤ 4
 sequence_is_short s =
     ⊎_elim (λ z. omega arith)
@@ -119,5 +123,6 @@ sequence_is_short s =
     omega (arith, length-take-le (longest_len is_sequence s) s (sequence_within s)))
     (longest_len-longest is_sequence s).passes
 
--- a sequence has at most four bytes, and an invalid front is no longer than the bytes
+-- the longest prefix of s that is a sequence has at most four bytes, and the invalid front at the
+-- beginning of s is no longer than s
 pub ruleset front_bounds = (sequence_is_short, broken_len_within)

@@ -22,7 +22,8 @@ use Rattle.unix_bytes.proofs.lemmas.lossy.LawLemmas.{replacement_is_sequence, lo
 use Rattle.unix_bytes.proofs.lemmas.chunks.OnlyLemmas.{first_chunk_is, only_chunk, only_text}
 use Rattle.unix_bytes.proofs.lemmas.chunks.OnlyLemmas.{lossy_of-first_chunk, text_has_none_broken}
 
--- if s is not empty, its rest after the first chunk is shorter than s
+-- if s is not empty and is split into `valid`, `broken` and `rest` (`Splits`), `rest` is shorter
+-- than s
 pub rest_is_shorter : {s valid broken rest : List ℕ} → eqb (length s) 0 ≡ false
     → Splits s valid broken rest → length rest < length s
 rest_is_shorter {s = []} some p = absurd (true≢false some)
@@ -47,7 +48,8 @@ rest_is_shorter {s = x ∷ xs} {valid} {broken} {rest} some p =
       length-drop k (drop n s),
     )
 
--- if the invalid front is empty, the valid prefix is the whole byte string, which is valid UTF-8
+-- if s is split into `valid`, `broken` and `rest` (`Splits`), and `broken` is empty, then `valid`
+-- is all of s, and s is valid UTF-8
 pub all_is_text : {s valid broken rest : List ℕ} → Splits s valid broken rest
     → length broken ≡ 0 → (valid ≡ s) × IsText s
 all_is_text {s = []} p none =
@@ -59,7 +61,8 @@ all_is_text {s = x ∷ xs} {valid} {broken} {rest} p none =
     let z = nil_from_length broken none in
     (only_chunk s c (chunks_of rest) e z, only_text s c (chunks_of rest) e z)
 
--- the invalid front that is split off valid UTF-8 is empty
+-- if s is split into `valid`, `broken` and `rest` (`Splits`), and s is valid UTF-8, `broken` is
+-- empty
 pub none_is_broken : {s valid broken rest : List ℕ} → Splits s valid broken rest
     → IsText s → length broken ≡ 0
 none_is_broken {s = []} p t =
@@ -73,14 +76,15 @@ none_is_broken {s = x ∷ xs} {valid} {broken} {rest} p t =
     ap length
     (text_has_none_broken s c (chunks_of rest) (splits_first_chunk (omega arith) p) t)
 
--- if the invalid front is not empty, the whole byte string is not valid UTF-8
+-- if s is split into `valid`, `broken` and `rest` (`Splits`), and `broken` is not empty, s is not
+-- valid UTF-8
 pub not_text : {s valid broken rest : List ℕ} → Splits s valid broken rest
     → eqb (length broken) 0 ≡ false → IsText s → ⊥
 not_text {broken = broken} p some t =
     true≢false (sym (eq-eqb (length broken) 0 (none_is_broken p t)) ∙ some)
 
--- the first chunk, shown with U+FFFD for its invalid front, and the lossy form of the rest
--- concatenate to the lossy form of s
+-- if s is split into `valid`, `broken` and `rest` (`Splits`), then `valid`, U+FFFD unless `broken`
+-- is empty, and the lossy form of `rest`, one after the other, are the lossy form of s
 pub lossy_of-split : {s valid broken rest : List ℕ} → Splits s valid broken rest
     → (valid ++ replacement_for broken) ++ lossy_of rest ≡ lossy_of s
 lossy_of-split {s = []} {valid} {broken} {rest} p =
@@ -97,7 +101,8 @@ lossy_of-split {s = x ∷ xs} {valid} {broken} {rest} p =
     ap (λ t. shown_chunk c ++ t) (sym (flat_map-shown_chunk rest))
     ∙ lossy_of-first_chunk s c (chunks_of rest) (splits_first_chunk (omega arith) p)
 
--- if the bytes have no invalid front, they are shown with the padding of a `str`
+-- if s is split into `valid`, `broken` and `rest` (`Splits`), and `broken` is empty, `pad valid` is
+-- the output for s: `pad s` if s is valid UTF-8, and otherwise the lossy form of s
 pub pads_text : (pad : List ℕ → List ℕ) {s valid broken rest : List ℕ}
     → Splits s valid broken rest → length broken ≡ 0
     → pad valid ≡ (if is_text s then pad s else lossy_of s)
@@ -105,15 +110,17 @@ pads_text pad {s} p none =
     let (all, text) = all_is_text p none in
     ap pad all ∙ sym (cond-true _ _ _ (is_text-from_IsText s text))
 
--- if the bytes have an invalid front, their lossy form is shown without padding
+-- if s is split into `valid`, `broken` and `rest` (`Splits`), and `broken` is not empty, the lossy
+-- form of s is the output for s: `pad s` if s is valid UTF-8, and otherwise the lossy form of s
 pub shows_lossy_text : (pad : List ℕ → List ℕ) {s valid broken rest : List ℕ}
     → Splits s valid broken rest → eqb (length broken) 0 ≡ false
     → lossy_of s ≡ (if is_text s then pad s else lossy_of s)
 shows_lossy_text pad {s} {valid} {broken} p some =
     sym (cond-false _ _ _ (is_text-not s (not_text p some)))
 
--- `items`, the first chunk as it is shown, and the lossy form of the rest concatenate to the same
--- bytes as `items` and the lossy form of s
+-- if s is split into `valid`, `broken` and `rest` (`Splits`), then `items`, as many first bytes of
+-- s as `valid` has, U+FFFD unless `broken` is empty, and the lossy form of `rest`, one after the
+-- other, are `items` and then the lossy form of s
 pub pushes_split : (items : List ℕ) {s valid broken rest : List ℕ} → Splits s valid broken rest
     → ((items ++ take (length valid) s) ++ replacement_for broken) ++ lossy_of rest
     ≡ items ++ lossy_of s
@@ -131,7 +138,7 @@ pushes_split items {s} {valid} {broken} {rest} p =
 replacement_is_utf8 : IsUtf8 replacement
 replacement_is_utf8 = IsUtf8-sequence replacement replacement_is_sequence
 
--- the bytes that are shown for `broken`, U+FFFD or none, are UTF-8
+-- the bytes that are shown for `broken`, U+FFFD or nothing, are UTF-8
 replacement_for_is_utf8 : (broken : List ℕ) → IsUtf8 (replacement_for broken)
 replacement_for_is_utf8 [] = IsUtf8-nil
 replacement_for_is_utf8 (b ∷ bs) =
@@ -139,7 +146,7 @@ replacement_for_is_utf8 (b ∷ bs) =
     subst IsUtf8 (sym (cond-false _ _ _ some)) replacement_is_utf8
 
 -- if `text` is UTF-8, then `text`, the bytes that are shown for `broken`, and the lossy form of
--- `rest` concatenate to UTF-8
+-- `rest`, one after the other, are UTF-8
 pub lossy_is_utf8 : (text broken rest : List ℕ) → IsUtf8 text
     → IsUtf8 ((text ++ replacement_for broken) ++ lossy_of rest)
 lossy_is_utf8 text broken rest h =
@@ -147,8 +154,8 @@ lossy_is_utf8 text broken rest h =
     (IsUtf8-append text (replacement_for broken) h (replacement_for_is_utf8 broken))
     (IsUtf8-from_IsText (lossy_of rest) (lossy_is_text rest))
 
--- if the first 16 bytes of s are appended to k items, and then only the first k + n items are kept,
--- the first n bytes of s have been appended
+-- if n is at most 16: appending the first 16 bytes of s to the k `items`, and then keeping only the
+-- first k + n items, appends the first n bytes of s to `items`
 pub first_of_sixteen : (items s : List ℕ) (k n : ℕ) → k ≡ length items → n ≤ 16
     → take (k + n) (items ++ take 16 s) ≡ items ++ take n s
 first_of_sixteen items s k n e few =

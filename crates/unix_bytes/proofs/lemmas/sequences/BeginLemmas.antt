@@ -1,4 +1,4 @@
--- Bytes that begin a sequence: the test for them, and the ranges of the bytes.
+-- Bytes begin a sequence (`BeginsSequence`) if and only if they pass the test `begins_sequence`.
 use Rattle.std.proofs.Common.{◌≡◌, ℕ, ◌≤◌, List, [], ◌∷◌, ◌++◌, length, take, drop, map, Bool, true}
 use Rattle.std.proofs.Common.{⊎_elim, nat_le, refl, sym, ap, ◌∙◌, subst, arith, append_assoc}
 use Rattle.std.proofs.Common.{take-append-drop}
@@ -10,7 +10,7 @@ use Rattle.std.proofs.lemmas.List.{take-take}
 use Rattle.unix_bytes.specs.Utf8.{table, fits, is_sequence, IsSequence, BeginsSequence}
 use Rattle.unix_bytes.specs.Utf8.{begins_sequence}
 
--- if bytes fit a row, each prefix of them fits the row's prefix of the same length
+-- if t followed by u fits `row`, then t fits the first ranges of `row`, as many as t has bytes
 fits_prefix : (row : List (ℕ × ℕ)) (t u : List ℕ)
     → fits row (t ++ u) ≡ true → fits (take (length t) row) t ≡ true
 fits_prefix row [] u h = refl
@@ -19,7 +19,8 @@ fits_prefix (r ∷ row) (b ∷ t) u h =
     let k : (fits row (t ++ u) ≡ true) × (is_in_range r.0 r.1 b ≡ true) = and_parts _ _ h in
     rw (fits_prefix row t u k.0, k.1) refl
 
--- if each element that passes p passes q, and some element passes p, then some element passes q
+-- if each x that passes p passes q, and some element of xs passes p, then some element of xs passes
+-- q
 any_more : {X : Type 0} (p q : X → Bool) (xs : List X)
     → ((x : X) → p x ≡ true → q x ≡ true) → list_any p xs ≡ true → list_any q xs ≡ true
 any_more p q [] f h = h
@@ -34,23 +35,23 @@ begins_sequence-from t (u, h) =
     any_more (λ row. fits row (t ++ u)) (λ row. fits (take (length t) row) t) table
     (λ row e. fits_prefix row t u e) h
 
--- no range of the row is empty
+-- no range of `row` is empty
 abbrev has_bytes : List (ℕ × ℕ) → Bool
 has_bytes row = list_all (λ r. nat_le r.0 r.1) row
 
--- the least byte of a range that is not empty is in the range
+-- if the range from lo to hi, inclusive, is not empty, lo is in it
 in_min : (lo hi : ℕ) → nat_le lo hi ≡ true → is_in_range lo hi lo ≡ true
 in_min lo hi h = grind (arith, nat_tests)
 
--- the least bytes of a row's ranges fit the row if no range is empty
+-- if no range of `row` is empty, the least bytes of its ranges fit `row`
 fits_min : (row : List (ℕ × ℕ)) → has_bytes row ≡ true → fits row (map (λ r. r.0) row) ≡ true
 fits_min [] h = refl
 fits_min (r ∷ row) h =
     let k : (nat_le r.0 r.1 ≡ true) × (has_bytes row ≡ true) = and_parts _ _ h in
     rw (fits_min row k.1, in_min r.0 r.1 k.0) refl
 
--- bytes that fit a prefix of a row, followed by the least bytes of the remaining ranges, fit the
--- row
+-- if no range of `row` is empty, and t fits the first ranges of `row`, as many as t has bytes, then
+-- t followed by the least bytes of the remaining ranges fits `row`
 fits_more : (row : List (ℕ × ℕ)) (t : List ℕ) → has_bytes row ≡ true
     → fits (take (length t) row) t ≡ true
     → fits row (t ++ map (λ r. r.0) (drop (length t) row)) ≡ true
@@ -62,7 +63,8 @@ fits_more (r ∷ row) (x ∷ t) b h =
     and_parts _ _ h in
     rw (fits_more row t k.1 j.0, j.1) refl
 
--- bytes that fit a prefix of some row can be continued to fit the whole row
+-- if no range in `rows` is empty, and t fits the first ranges of some row, as many as t has bytes,
+-- then for some bytes u, t followed by u fits a whole row
 some_row : (rows : List (List (ℕ × ℕ))) (t : List ℕ) → list_all has_bytes rows ≡ true
     → list_any (λ row. fits (take (length t) row) t) rows ≡ true
     → (u : List ℕ) × (list_any (λ row. fits row (t ++ u)) rows ≡ true)
@@ -81,7 +83,7 @@ pub BeginsSequence-from : (t : List ℕ) → begins_sequence t ≡ true → Begi
 unfolding is_sequence begins_sequence
 BeginsSequence-from t h = some_row table t refl h
 
--- if the first k bytes begin a sequence, so do the first j bytes, where j is at most k
+-- if j is at most k, and the first k bytes of t begin a sequence, so do the first j bytes of t
 pub BeginsSequence-take : (j k : ℕ) (t : List ℕ) → j ≤ k
     → BeginsSequence (take k t) → BeginsSequence (take j t)
 BeginsSequence-take j k t le (u, is) =

@@ -1,5 +1,5 @@
--- The first front as the longest prefix that begins a sequence (`longest_front_of`), and its
--- length.
+-- The first front of a byte string, as `longest_front_of` computes it, and how many bytes this
+-- front has.
 use Rattle.std.proofs.Common.{◌≡◌, ℕ, suc, ◌-◌, ◌+◌, ◌<◌, ◌≤◌, List, [], ◌∷◌, ◌++◌, length, take}
 use Rattle.std.proofs.Common.{◌⊎◌, ⊎_elim, inl, inr, refl, sym, ap, ◌∙◌, subst, arith}
 use Rattle.std.proofs.Common.{append_assoc, append-nil, length-append, length-take-le}
@@ -17,11 +17,12 @@ use Rattle.unix_bytes.proofs.lemmas.sequences.BeginLemmas.{BeginsSequence-take}
 use Rattle.unix_bytes.proofs.lemmas.sequences.LongestLemmas.{longest_len-is, longest_len-longest}
 use Rattle.unix_bytes.proofs.lemmas.sequences.LongestLemmas.{longest_len-least}
 
--- a whole sequence begins a sequence
+-- a sequence begins a sequence: itself
 pub BeginsSequence-sequence : (u : List ℕ) → IsSequence u → BeginsSequence u
 BeginsSequence-sequence u h = ([], subst IsSequence (sym (append-nil u)) h)
 
--- if the bytes start with the sequence u, no prefix longer than u begins a sequence
+-- if a byte string starts with the sequence u, no prefix of this byte string that is longer than u
+-- begins a sequence
 none_longer : (u s : List ℕ) (k : ℕ) → IsSequence u → length u < k → k ≤ length (u ++ s)
     → BeginsSequence (take k (u ++ s)) → ⊥
 none_longer u s k h more within (v, is) =
@@ -35,7 +36,8 @@ none_longer u s k h more within (v, is) =
     let some : j ≤ length s = omega (arith, length-append u s) in
     absurd (omega (arith, ap length none, length-append (take j s) v, length-take-le j s some))
 
--- if the bytes start with the sequence u, their longest prefix that is a sequence has u's length
+-- if a byte string starts with the sequence u, its longest prefix that is a sequence is as long as
+-- u
 pub longest_len-sequence : (u s : List ℕ) → IsSequence u
     → longest_len is_sequence (u ++ s) ≡ length u
 longest_len-sequence u s h =
@@ -44,8 +46,8 @@ longest_len-sequence u s h =
     (λ k p q. false_from_ne_true (is_sequence (take k (u ++ s)))
     (λ t. none_longer u s k h p q (BeginsSequence-sequence (take k (u ++ s)) t)))
 
--- if the bytes start with the sequence u, their longest prefix that begins a sequence has u's
--- length
+-- if a byte string starts with the sequence u, its longest prefix that begins a sequence is as long
+-- as u
 longest_len-begins_sequence : (u s : List ℕ) → IsSequence u
     → longest_len begins_sequence (u ++ s) ≡ length u
 longest_len-begins_sequence u s h =
@@ -55,7 +57,7 @@ longest_len-begins_sequence u s h =
     (λ k p q. false_from_ne_true (begins_sequence (take k (u ++ s)))
     (λ t. none_longer u s k h p q (BeginsSequence-from (take k (u ++ s)) t)))
 
--- if the bytes start with the sequence u, the first front is u
+-- if a byte string starts with the sequence u, its first front is u
 pub longest_front_of-sequence : (u s : List ℕ) → IsSequence u → longest_front_of (u ++ s) ≡ u
 unfolding longest_front_of
 longest_front_of-sequence u s h =
@@ -64,8 +66,8 @@ longest_front_of-sequence u s h =
     omega (arith, longest_len-begins_sequence u s h) in
     ap (λ n. take n (u ++ s)) e ∙ take_at u s (length u) refl
 
--- the first front has n bytes if the first n + 1 bytes begin no sequence, and either n is 1 or the
--- first n bytes begin a sequence
+-- let n be from 1 to the length of s: if n is 1 or the first n bytes of s begin a sequence, and if
+-- s has only n bytes or its first n + 1 bytes begin no sequence, the first front of s has n bytes
 pub length-longest_front_of : (s : List ℕ) (n : ℕ) → 1 ≤ n → n ≤ length s → (n ≡ 1) ⊎ HasBegun s n
     → (HasBegun s (suc n) → ⊥) → length (longest_front_of s) ≡ n
 unfolding longest_front_of
@@ -104,7 +106,7 @@ pub longest_front_of-nil : longest_front_of [] ≡ []
 unfolding longest_front_of
 longest_front_of-nil = take_all _ [] (omega arith)
 
--- the first front is a prefix
+-- the first front of s is a prefix of s
 pub longest_front_of-take : (s : List ℕ) → longest_front_of s ≡ take (length (longest_front_of s)) s
 unfolding longest_front_of
 longest_front_of-take [] = longest_front_of-nil ∙ sym (take_all _ [] (omega arith))
@@ -114,18 +116,20 @@ longest_front_of-take (b ∷ bs) =
     let k = length-take-le (max 1 l) (b ∷ bs) (omega arith) in
     ap (λ n. take n (b ∷ bs)) (sym k)
 
--- the first front has one byte if the first two bytes begin no sequence
+-- if s is not empty, and if s has no second byte or its first two bytes begin no sequence, the
+-- first front of s has one byte
 pub one_byte_front : (s : List ℕ) → 0 < length s → (HasBegun s 2 → ⊥)
     → length (longest_front_of s) ≡ 1
 one_byte_front s some end = length-longest_front_of s 1 (omega arith) (omega arith) (inl refl) end
 
--- the first front has two bytes if the first two bytes begin a sequence and the first three do not
+-- if the first two bytes of s begin a sequence, and if s has no third byte or its first three bytes
+-- begin no sequence, the first front of s has two bytes
 pub two_byte_front : (s : List ℕ) → HasBegun s 2 → (HasBegun s 3 → ⊥)
     → length (longest_front_of s) ≡ 2
 two_byte_front s h end = length-longest_front_of s 2 (omega arith) h.0 (inr h) end
 
--- the first front has three bytes if the first three bytes begin a sequence and the first four do
--- not
+-- if the first three bytes of s begin a sequence, and if s has no fourth byte or its first four
+-- bytes begin no sequence, the first front of s has three bytes
 pub three_byte_front : (s : List ℕ) → HasBegun s 3 → (HasBegun s 4 → ⊥)
     → length (longest_front_of s) ≡ 3
 three_byte_front s h end = length-longest_front_of s 3 (omega arith) h.0 (inr h) end

@@ -1,4 +1,4 @@
--- Fronts that are extended byte by byte (`front_of`) are the longest (`longest_front_of`).
+-- The first front, found byte by byte (`front_of`), is the longest front (`longest_front_of`).
 use Rattle.std.proofs.Common.{◌≡◌, ℕ, suc, ◌+◌, ◌≤◌, List, [], ◌∷◌, ◌++◌, length, take, drop, Bool}
 use Rattle.std.proofs.Common.{true, false, cond, ◌⊎◌, ⊎_elim, inl, inr, refl, sym, ap, ◌∙◌, arith}
 use Rattle.std.proofs.Common.{append_assoc, append-nil, length-append}
@@ -13,12 +13,12 @@ use Rattle.unix_bytes.proofs.lemmas.sequences.FrontLemmas.{length-longest_front_
 use Rattle.unix_bytes.proofs.lemmas.sequences.FrontLemmas.{longest_front_of-nil}
 use Rattle.unix_bytes.proofs.lemmas.sequences.FrontLemmas.{longest_front_of-take}
 
--- one byte, or bytes that begin a sequence
+-- u is one byte, or begins a sequence
 abbrev IsGrown : List ℕ → Type 0
 IsGrown u = (length u ≡ 1) ⊎ (begins_sequence u ≡ true)
 
--- if u is one byte or begins a sequence, and u with the next byte begins none, u is the longest
--- front
+-- let u be one byte, or begin a sequence and not be empty: if s is empty, or u and the first byte
+-- of s together begin no sequence, the longest front of u followed by s is u
 longest_front_of-append : (u s : List ℕ) → 1 ≤ length u → IsGrown u
     → (HasBegun (u ++ s) (suc (length u)) → ⊥) → longest_front_of (u ++ s) ≡ u
 longest_front_of-append u s some at end =
@@ -30,20 +30,22 @@ longest_front_of-append u s some at end =
     longest_front_of-take (u ++ s)
     ∙ ap (λ k. take k (u ++ s)) (length-longest_front_of (u ++ s) n some within begun end) ∙ front
 
--- the longest front, and then the fronts of the rest
+-- the longest front of s, and then the fronts of the bytes of s after it
 abbrev longest_fronts : List ℕ → List (List ℕ)
 longest_fronts s = longest_front_of s ∷ fronts_of (drop (length (longest_front_of s)) s)
 
--- if u is one byte or begins a sequence, and u with the next byte begins none, `longest_fronts` has
--- u and then the fronts of the rest
+-- let u be one byte, or begin a sequence and not be empty: if s is empty, or u and the first byte
+-- of s together begin no sequence, `longest_fronts` of u followed by s is u and then the fronts of
+-- s
 longest_fronts-append : (u s : List ℕ) → 1 ≤ length u → IsGrown u
     → (HasBegun (u ++ s) (suc (length u)) → ⊥) → longest_fronts (u ++ s) ≡ u ∷ fronts_of s
 longest_fronts-append u s some at end =
     ap (λ f. f ∷ fronts_of (drop (length f) (u ++ s))) (longest_front_of-append u s some at end)
     ∙ ap (λ t. u ∷ fronts_of t) (drop_at u s (length u) refl)
 
--- a step of `fronts_from`: the front u is extended by the next byte if u with this byte begins a
--- sequence, and otherwise ends
+-- one step of `fronts_from` with the next byte b yields `longest_fronts`, if the steps after an
+-- extension of u do: u, which is one byte or begins a sequence, is extended by b if both together
+-- begin a sequence, and otherwise u is the longest front
 fronts_from-step : (b : ℕ) (s u : List ℕ) → 1 ≤ length u → IsGrown u
     → (begins_sequence (push u b) ≡ true
     → fronts_from (push u b) s ≡ longest_fronts (push u b ++ s))
@@ -58,7 +60,8 @@ fronts_from-step b s u some at more false e =
     sym (longest_fronts-append u (b ∷ s) some at
     (λ h. absurd (true≢false (sym h.1 ∙ ap begins_sequence next ∙ e))))
 
--- a front that is extended byte by byte becomes the longest
+-- let u be one byte, or begin a sequence and not be empty: `fronts_from u s` is the longest front
+-- of u followed by s, and then the fronts of the bytes after that front
 fronts_from-longest : (s u : List ℕ) → 1 ≤ length u → IsGrown u
     → fronts_from u s ≡ longest_fronts (u ++ s)
 unfolding fronts_of
@@ -74,13 +77,14 @@ pub fronts_of-nil : fronts_of [] ≡ []
 unfolding fronts_of
 fronts_of-nil = refl
 
--- the fronts of a nonempty byte string are the longest front and then the fronts of the rest
+-- the fronts of a nonempty byte string are its longest front and then the fronts of the bytes after
+-- that front
 pub fronts_of-some : (b : ℕ) (bs : List ℕ) → fronts_of (b ∷ bs)
     ≡ longest_front_of (b ∷ bs) ∷ fronts_of (drop (length (longest_front_of (b ∷ bs))) (b ∷ bs))
 unfolding fronts_of
 fronts_of-some b bs = fronts_from-longest bs (b ∷ []) (omega arith) (inl refl)
 
--- the first front is the longest front
+-- the first front of s, by `front_of`, is the longest front of s
 pub front_of-longest : (s : List ℕ) → front_of s ≡ longest_front_of s
 front_of-longest [] =
     ap (λ us. concat (take 1 us)) fronts_of-nil ∙ sym longest_front_of-nil

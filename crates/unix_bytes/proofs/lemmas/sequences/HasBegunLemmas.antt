@@ -1,5 +1,5 @@
--- When the first two, three or four bytes begin a sequence (`HasBegun`), by the ranges of the
--- bytes.
+-- The ranges of the first two, three or four bytes of a byte string, if these begin a sequence
+-- (`HasBegun`).
 use Rattle.std.proofs.Common.{◌≡◌, ℕ, ◌<◌, ◌≤◌, List, [], ◌∷◌, length, take, true, ⊎_elim, arith}
 use Rattle.std.proofs.Common.{refl, ap, ◌∙◌, drop, slice_index, get_or-drop, add-zero}
 use Rattle.std.proofs.lemmas.Bool.{cases_lt}
@@ -11,36 +11,36 @@ use Rattle.unix_bytes.proofs.lemmas.sequences.SequenceLemmas.{IsSequence-three, 
 use Rattle.unix_bytes.proofs.lemmas.sequences.BeginLemmas.{begins_sequence-from}
 use Rattle.unix_bytes.proofs.lemmas.sequences.BeginLemmas.{BeginsSequence-from}
 
--- the ranges of the first two bytes of a sequence
+-- x and y are in the ranges of the first two bytes of a sequence
 abbrev Pair : ℕ → ℕ → Type 0
 Pair x y =
     (0xC2 ≤ x) × (x ≤ 0xF4) × (0x80 ≤ y) × (y ≤ 0xBF) × (x ≡ 0xE0 → 0xA0 ≤ y)
     × (x ≡ 0xED → y ≤ 0x9F) × (x ≡ 0xF0 → 0x90 ≤ y) × (x ≡ 0xF4 → y ≤ 0x8F)
 
--- the first two bytes of a sequence are in their ranges
+-- the first two bytes x and y of a sequence are in the ranges of `Pair`
 pair_of : (x y : ℕ) (u : List ℕ) → IsSequence (x ∷ y ∷ u) → Pair x y
 pair_of x y [] h = let p = two_bytes x y h in grind arith
 pair_of x y (a ∷ []) h = let p = three_bytes x y a h in grind arith
 pair_of x y (a ∷ b ∷ []) h = let p = four_bytes x y a b h in grind arith
 pair_of x y (a ∷ b ∷ c ∷ u) h = let p = is_sequence-more x y a b c u in cc
 
--- the byte may be the third or fourth of a sequence
+-- z is a tail byte: from 80 to BF
 abbrev IsTail : ℕ → Type 0
 IsTail z = (0x80 ≤ z) × (z ≤ 0xBF)
 
--- the first and the third byte of a sequence of at least three bytes are in their ranges
+-- if a sequence has a third byte, this is a tail byte, and the first byte is at least E0
 third_of : (x y z : ℕ) (u : List ℕ) → IsSequence (x ∷ y ∷ z ∷ u) → (0xE0 ≤ x) × IsTail z
 third_of x y z [] h = let p = three_bytes x y z h in (omega arith, (omega arith, omega arith))
 third_of x y z (a ∷ []) h =
     let p = four_bytes x y z a h in (omega arith, (omega arith, omega arith))
 third_of x y z (a ∷ b ∷ u) h = let p = is_sequence-more x y z a b u in cc
 
--- the first and the fourth byte of a sequence of four bytes are in their ranges
+-- if a sequence has a fourth byte, this is a tail byte, and the first byte is at least F0
 fourth_of : (x y z w : ℕ) (u : List ℕ) → IsSequence (x ∷ y ∷ z ∷ w ∷ u) → (0xF0 ≤ x) × IsTail w
 fourth_of x y z w [] h = let p = four_bytes x y z w h in (omega arith, (omega arith, omega arith))
 fourth_of x y z w (a ∷ u) h = let p = is_sequence-more x y z w a u in cc
 
--- two bytes that begin a sequence, the first of at least E0, and any tail byte after them begin a
+-- if x and y begin a sequence, x is at least E0, and z is a tail byte, then x, y and z begin a
 -- sequence
 third_begins : (x y z : ℕ) → begins_sequence (x ∷ y ∷ []) ≡ true → 0xE0 ≤ x → IsTail z
     → begins_sequence (x ∷ y ∷ z ∷ []) ≡ true
@@ -51,8 +51,8 @@ third_begins x y z b g r =
     (⊎_elim (λ (l : x < 0xF0). ([], IsSequence-three x y z (grind arith)))
     (λ (k : 0xF0 ≤ x). (0x80 ∷ [], IsSequence-four x y z 0x80 (grind arith))) (cases_lt x 0xF0))
 
--- three bytes that begin a sequence, the first of at least F0, and any tail byte after them begin a
--- sequence
+-- if x, y and z begin a sequence, x is at least F0, and w is a tail byte, then x, y, z and w begin
+-- a sequence
 fourth_begins : (x y z w : ℕ) → begins_sequence (x ∷ y ∷ z ∷ []) ≡ true → 0xF0 ≤ x → IsTail w
     → begins_sequence (x ∷ y ∷ z ∷ w ∷ []) ≡ true
 fourth_begins x y z w b g r =
@@ -61,19 +61,19 @@ fourth_begins x y z w b g r =
     let k = third_of x y z u is in
     begins_sequence-from (x ∷ y ∷ z ∷ w ∷ []) ([], IsSequence-four x y z w (grind arith))
 
--- the first two bytes of s are its bytes at indices 0 and 1
+-- if s has at least two bytes, its first two bytes are those at indices 0 and 1
 pub take-two : (s : List ℕ) → 1 < length s
     → take 2 s ≡ slice_index s 0 ∷ slice_index s 1 ∷ []
 take-two [] l = absurd (omega arith)
 take-two (x ∷ []) l = absurd (omega arith)
 take-two (x ∷ y ∷ s) l = refl
 
--- the first byte that remains after i bytes are dropped is the byte at index i
+-- the byte at index 0 of s without its first i bytes is the byte of s at index i
 pub first_of_drop : (i : ℕ) (s : List ℕ) → slice_index (drop i s) 0 ≡ slice_index s i
 first_of_drop i s = get_or-drop i s 0 0 ∙ ap (slice_index s) (add-zero i)
 
--- if the first two bytes begin a sequence, the first is from C2 to F4, and the second is a tail
--- byte
+-- if the first two bytes of s begin a sequence, s has at least two bytes, the first is from C2 to
+-- F4, and the second is a tail byte
 pub pair_bounds : (s : List ℕ) → HasBegun s 2 → (0xC2 ≤ slice_index s 0)
     × (slice_index s 0 ≤ 0xF4) × (1 < length s) × IsTail (slice_index s 1)
 pair_bounds [] h = absurd (omega arith)
@@ -83,8 +83,8 @@ pair_bounds (x ∷ y ∷ s) h =
     let p = pair_of x y u is in
     (p.0, p.1, omega arith, (p.2, p.3))
 
--- the first three bytes begin a sequence if the first two do, the first is at least E0 and the
--- third is a tail byte
+-- if the first two bytes of s begin a sequence, the first is at least E0, and s has a third byte,
+-- which is a tail byte, then the first three begin a sequence
 pub HasBegun-three : (s : List ℕ) → HasBegun s 2 → 0xE0 ≤ slice_index s 0 → 2 < length s
     → IsTail (slice_index s 2) → HasBegun s 3
 HasBegun-three [] h g l t = absurd (omega arith)
@@ -92,7 +92,8 @@ HasBegun-three (x ∷ []) h g l t = absurd (omega arith)
 HasBegun-three (x ∷ y ∷ []) h g l t = absurd (omega arith)
 HasBegun-three (x ∷ y ∷ z ∷ s) h g l t = (omega arith, third_begins x y z h.1 g t)
 
--- if the first three bytes begin a sequence, the first is at least E0, and the third is a tail byte
+-- if the first three bytes of s begin a sequence, s has at least three bytes, the first is at least
+-- E0, and the third is a tail byte
 pub third_byte_bounds : (s : List ℕ) → HasBegun s 3
     → (0xE0 ≤ slice_index s 0) × (2 < length s) × IsTail (slice_index s 2)
 third_byte_bounds [] h = absurd (omega arith)
@@ -103,8 +104,8 @@ third_byte_bounds (x ∷ y ∷ z ∷ s) h =
     let t = third_of x y z u is in
     (t.0, omega arith, t.1)
 
--- the first four bytes begin a sequence if the first three do, the first is at least F0 and the
--- fourth is a tail byte
+-- if the first three bytes of s begin a sequence, the first is at least F0, and s has a fourth
+-- byte, which is a tail byte, then the first four begin a sequence
 pub HasBegun-four : (s : List ℕ) → HasBegun s 3 → 0xF0 ≤ slice_index s 0 → 3 < length s
     → IsTail (slice_index s 3) → HasBegun s 4
 HasBegun-four [] h g l t = absurd (omega arith)
@@ -113,7 +114,8 @@ HasBegun-four (x ∷ y ∷ []) h g l t = absurd (omega arith)
 HasBegun-four (x ∷ y ∷ z ∷ []) h g l t = absurd (omega arith)
 HasBegun-four (x ∷ y ∷ z ∷ w ∷ s) h g l t = (omega arith, fourth_begins x y z w h.1 g t)
 
--- if the first four bytes begin a sequence, the first is at least F0, and the fourth is a tail byte
+-- if the first four bytes of s begin a sequence, s has at least four bytes, the first is at least
+-- F0, and the fourth is a tail byte
 pub fourth_byte_bounds : (s : List ℕ) → HasBegun s 4
     → (0xF0 ≤ slice_index s 0) × (3 < length s) × IsTail (slice_index s 3)
 fourth_byte_bounds [] h = absurd (omega arith)
@@ -125,7 +127,7 @@ fourth_byte_bounds (x ∷ y ∷ z ∷ w ∷ s) h =
     let t = fourth_of x y z w u is in
     (t.0, omega arith, t.1)
 
--- if the first four bytes begin a sequence, the first three do
+-- if the first four bytes of s begin a sequence, so do the first three
 pub HasBegun-three_of_four : (s : List ℕ) → HasBegun s 4 → HasBegun s 3
 HasBegun-three_of_four [] h = absurd (omega arith)
 HasBegun-three_of_four (x ∷ []) h = absurd (omega arith)
@@ -135,7 +137,7 @@ HasBegun-three_of_four (x ∷ y ∷ z ∷ w ∷ s) h =
     let (u, is) = BeginsSequence-from (x ∷ y ∷ z ∷ w ∷ []) h.1 in
     (omega arith, begins_sequence-from (x ∷ y ∷ z ∷ []) (w ∷ u, is))
 
--- if the first three bytes begin a sequence, the first two do
+-- if the first three bytes of s begin a sequence, so do the first two
 pub HasBegun-two_of_three : (s : List ℕ) → HasBegun s 3 → HasBegun s 2
 HasBegun-two_of_three [] h = absurd (omega arith)
 HasBegun-two_of_three (x ∷ []) h = absurd (omega arith)
@@ -144,7 +146,8 @@ HasBegun-two_of_three (x ∷ y ∷ z ∷ s) h =
     let (u, is) = BeginsSequence-from (x ∷ y ∷ z ∷ []) h.1 in
     (omega arith, begins_sequence-from (x ∷ y ∷ []) (z ∷ u, is))
 
--- lemmas about when the first two, three or four bytes begin a sequence, by the byte at each index
+-- lemmas that say for which bytes at indices 0 to 3 of s the first two, three or four bytes of s
+-- begin a sequence (`HasBegun`)
 pub ruleset beginnings =
     (take-two, pair_bounds, HasBegun-three, third_byte_bounds, HasBegun-four, fourth_byte_bounds)
 

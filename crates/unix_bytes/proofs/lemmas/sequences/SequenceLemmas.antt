@@ -6,17 +6,17 @@ use Rattle.std.proofs.lemmas.Bool.{or_cases}
 use Rattle.std.proofs.lemmas.Bool.Decides.{nat_tests}
 use Rattle.unix_bytes.specs.Utf8.{is_sequence, IsSequence}
 
--- a sequence of one byte is ASCII
+-- if the byte a is a sequence, it is ASCII
 pub one_byte : (a : ℕ) → IsSequence (a ∷ []) → a ≤ 0x7F
 unfolding is_sequence
 one_byte a h = grind (arith, nat_tests)
 
--- one byte of ASCII is a sequence
+-- if the byte a is ASCII, it is a sequence
 pub IsSequence-one : (a : ℕ) → a ≤ 0x7F → IsSequence (a ∷ [])
 unfolding is_sequence
 IsSequence-one a h = grind (arith, nat_tests)
 
--- the ranges of the bytes of a sequence of two bytes
+-- a and b are in the ranges of the first and the second byte of a sequence of two bytes
 abbrev pub Two : ℕ → ℕ → Type 0
 Two a b = (0xC2 ≤ a) × (a ≤ 0xDF) × (0x80 ≤ b) × (b ≤ 0xBF)
 
@@ -30,13 +30,14 @@ pub IsSequence-two : (a b : ℕ) → Two a b → IsSequence (a ∷ b ∷ [])
 unfolding is_sequence
 IsSequence-two a b h = grind (arith, nat_tests)
 
--- the ranges of the bytes of a sequence of three bytes
+-- a, b and c are in the ranges of the bytes of a sequence of three bytes
 abbrev pub Three : ℕ → ℕ → ℕ → Type 0
 Three a b c =
     (0xE0 ≤ a) × (a ≤ 0xEF) × (0x80 ≤ b) × (b ≤ 0xBF) × (0x80 ≤ c) × (c ≤ 0xBF)
     × (a ≡ 0xE0 → 0xA0 ≤ b) × (a ≡ 0xED → b ≤ 0x9F)
 
--- three bytes that pass the tests of a row are in its ranges
+-- if a, b and c pass the tests of a row of three ranges, the last of which is `tail`, they are in
+-- these ranges
 in_three : (al ah bl bh a b c : ℕ)
     → (is_in_range 0x80 0xBF c && is_in_range bl bh b && is_in_range al ah a) ≡ true
     → (al ≤ a) × (a ≤ ah) × (bl ≤ b) × (b ≤ bh) × (0x80 ≤ c) × (c ≤ 0xBF)
@@ -57,13 +58,14 @@ pub IsSequence-three : (a b c : ℕ) → Three a b c → IsSequence (a ∷ b ∷
 unfolding is_sequence
 IsSequence-three a b c h = grind (arith, nat_tests)
 
--- the ranges of the bytes of a sequence of four bytes
+-- a, b, c and d are in the ranges of the bytes of a sequence of four bytes
 abbrev pub Four : ℕ → ℕ → ℕ → ℕ → Type 0
 Four a b c d =
     (0xF0 ≤ a) × (a ≤ 0xF4) × (0x80 ≤ b) × (b ≤ 0xBF) × (0x80 ≤ c) × (c ≤ 0xBF)
     × (0x80 ≤ d) × (d ≤ 0xBF) × (a ≡ 0xF0 → 0x90 ≤ b) × (a ≡ 0xF4 → b ≤ 0x8F)
 
--- four bytes that pass the tests of a row are in its ranges
+-- if a, b, c and d pass the tests of a row of four ranges, the last two of which are `tail`, they
+-- are in these ranges
 in_four : (al ah bl bh a b c d : ℕ)
     → (is_in_range 0x80 0xBF d && is_in_range 0x80 0xBF c
     && is_in_range bl bh b && is_in_range al ah a) ≡ true

@@ -1,4 +1,4 @@
--- The length of a sequence, by its first byte. No sequence is a proper prefix of another.
+-- The first byte of a sequence determines its length. No sequence is a proper prefix of another.
 use Rattle.std.specs.Prelude.{◌↔◌}
 use Rattle.std.proofs.Common.{◌⊎◌, ◌≡◌, ℕ, suc, ◌<◌, ◌≤◌, List, [], ◌∷◌, ◌++◌, length, ⊎_elim, refl}
 use Rattle.std.proofs.Common.{sym, ◌∙◌, arith, length-append}
@@ -11,14 +11,15 @@ use Rattle.unix_bytes.proofs.lemmas.sequences.SequenceLemmas.{IsSequence-three}
 use Rattle.unix_bytes.proofs.lemmas.sequences.SequenceLemmas.{IsSequence-four, is_sequence-nil}
 use Rattle.unix_bytes.proofs.lemmas.sequences.SequenceLemmas.{is_sequence-more}
 
--- n is the length of the sequences that begin with the byte b
+-- b is the first byte of some sequence, and n is the length of the sequences that start with b
 pub record HasWidth (b n : ℕ) : Type 0 where
   pub one : b < 0xC2 → (b ≤ 0x7F) × (n ≡ 1)
   pub two : 0xC2 ≤ b → b ≤ 0xDF → n ≡ 2
   pub three : 0xE0 ≤ b → b ≤ 0xEF → n ≡ 3
   pub four : 0xF0 ≤ b → (b ≤ 0xF4) × (n ≡ 4)
 
--- the first byte of a sequence determines its length
+-- if b followed by u is a sequence, its length is the length of the sequences that start with b
+-- (`HasWidth`)
 pub has_width : (b : ℕ) (u : List ℕ) → IsSequence (b ∷ u) → HasWidth b (suc (length u))
 has_width b [] h =
     let p = one_byte b h in
@@ -54,7 +55,7 @@ has_width b (x ∷ y ∷ z ∷ []) h =
     }
 has_width b (x ∷ y ∷ z ∷ w ∷ u) h = let p = is_sequence-more b x y z w u in cc
 
--- the first byte determines only one length
+-- if n and m are both lengths of sequences that start with b (`HasWidth`), they are equal
 same_width : (b n m : ℕ) → HasWidth b n → HasWidth b m → n ≡ m
 same_width b n m p q =
     ⊎_elim (λ (l : b < 0xC2). (p.one l).1 ∙ sym (q.one l).1)
@@ -63,19 +64,19 @@ same_width b n m p q =
     (λ g. (p.four g).1 ∙ sym (q.four g).1)
     (cases_lt b 0xF0)) (cases_lt b 0xE0)) (cases_lt b 0xC2)
 
--- a suffix that adds no length is empty
+-- if u followed by v is as long as u, v is empty
 none_more : (u v : List ℕ) → length (u ++ v) ≡ length u → v ≡ []
 none_more u [] e = refl
 none_more u (x ∷ v) e = absurd (omega (arith, length-append u (x ∷ v)))
 
--- no sequence is a proper prefix of another
+-- if u and u followed by v are sequences, v is empty: no sequence is a proper prefix of another
 pub prefix_free : (u v : List ℕ) → IsSequence u → IsSequence (u ++ v) → v ≡ []
 prefix_free [] v h k = let e = is_sequence-nil in cc
 prefix_free (b ∷ u) v h k =
     none_more (b ∷ u) v
     (same_width b (length (b ∷ u ++ v)) (length (b ∷ u)) (has_width b (u ++ v) k) (has_width b u h))
 
--- a byte of ASCII begins a sequence
+-- if the byte b is ASCII, it begins a sequence
 pub begins_one : (b : ℕ) → b ≤ 0x7F → BeginsSequence (b ∷ [])
 begins_one b h = ([], IsSequence-one b h)
 
@@ -104,7 +105,7 @@ pub some_width : (b n : ℕ) → 0 < n → BeginsSequence (b ∷ [])
     → (n ≡ 0) ↔ ¬ (BeginsSequence (b ∷ []))
 some_width b n some begins = (λ e. absurd (omega arith), λ none. absurd (none begins))
 
--- the byte is from 80 to C1, or greater than F4
+-- b is from 80 to C1, or greater than F4
 abbrev pub LeadsNone : ℕ → Type 0
 LeadsNone b = ((0x80 ≤ b) × (b < 0xC2)) ⊎ (0xF4 < b)
 

@@ -18,7 +18,7 @@ use Rattle.unix_bytes.proofs.lemmas.sequences.SequenceLemmas.{IsSequence-three}
 use Rattle.unix_bytes.proofs.lemmas.sequences.SequenceLemmas.{IsSequence-four, is_sequence-nil}
 use Rattle.unix_bytes.proofs.lemmas.sequences.SequenceLemmas.{is_sequence-more}
 
--- a sequence is `IsUtf8`
+-- a sequence is UTF-8 as Rattle's std defines it (`IsUtf8`)
 pub IsUtf8-sequence : (u : List ℕ) → IsSequence u → IsUtf8 u
 IsUtf8-sequence [] h = let k = is_sequence-nil in cc
 IsUtf8-sequence (a ∷ []) h =
@@ -37,7 +37,7 @@ IsUtf8-sequence (a ∷ b ∷ c ∷ d ∷ []) h =
     (omega arith, omega arith) (omega arith, omega arith) (grind arith, grind arith)
 IsUtf8-sequence (a ∷ b ∷ c ∷ d ∷ e ∷ u) h = let k = is_sequence-more a b c d e u in cc
 
--- the encoding of a scalar value is a sequence
+-- if c is a scalar value, the encoding of c is a sequence
 IsSequence-encode : (c : ℕ) → scalar c ≡ true → IsSequence (encode c)
 IsSequence-encode c h =
     let k = scalar_cases c h in
@@ -71,19 +71,22 @@ IsSequence-encode c h =
     )))
     (cases_lt c 65536)) (cases_lt c 2048)) (cases_lt c 128)
 
--- sequences, one after the other, are `IsUtf8`
+-- if us are sequences, the byte string that is us, one after the other, is UTF-8 as Rattle's std
+-- defines it (`IsUtf8`)
 IsUtf8-concat : (us : List (List ℕ)) → list_all is_sequence us ≡ true → IsUtf8 (concat us)
 IsUtf8-concat [] h = IsUtf8-nil
 IsUtf8-concat (u ∷ us) h =
     let k : IsSequence u × (list_all is_sequence us ≡ true) = and_parts _ _ h in
     IsUtf8-append u (concat us) (IsUtf8-sequence u k.0) (IsUtf8-concat us k.1)
 
--- `IsText` implies `IsUtf8`
+-- if s is valid UTF-8 by the table of RFC 3629 (`IsText`), it is UTF-8 as Rattle's std defines it
+-- (`IsUtf8`)
 pub IsUtf8-from_IsText : (s : List ℕ) → IsText s → IsUtf8 s
 IsUtf8-from_IsText s (us, h, e) =
     subst IsUtf8 e (IsUtf8-concat us (list_all-from_AllPass is_sequence us h))
 
--- the encodings of scalar values are sequences, and concatenate to the encoding of the whole list
+-- if cs are scalar values, their encodings are sequences, and these, one after the other, are the
+-- encoding of the list cs
 sequences : (cs : List ℕ) → scalars cs ≡ true
     → (list_all is_sequence (map encode cs) ≡ true) × (concat (map encode cs) ≡ encodes cs)
 sequences [] h = (refl, refl)
@@ -92,7 +95,8 @@ sequences (c ∷ cs) h =
     let j = sequences cs k.1 in
     (rw (IsSequence-encode c k.0, j.0) refl, ap (λ t. encode c ++ t) j.1)
 
--- `IsUtf8` implies `IsText`
+-- if s is UTF-8 as Rattle's std defines it (`IsUtf8`), it is valid UTF-8 by the table of RFC 3629
+-- (`IsText`)
 pub IsText-from_IsUtf8 : (s : List ℕ) → IsUtf8 s → IsText s
 IsText-from_IsUtf8 s (cs, (h, e)) =
     let j = sequences cs h in
@@ -106,7 +110,7 @@ IsText-nil = IsText-from_IsUtf8 [] IsUtf8-nil
 pub IsText-sequence : (u : List ℕ) → IsSequence u → IsText u
 IsText-sequence u h = IsText-from_IsUtf8 u (IsUtf8-sequence u h)
 
--- valid UTF-8 followed by valid UTF-8 is valid UTF-8
+-- if s and t are valid UTF-8, so is s followed by t
 pub IsText-append : (s t : List ℕ) → IsText s → IsText t → IsText (s ++ t)
 IsText-append s t h k =
     IsText-from_IsUtf8 (s ++ t)

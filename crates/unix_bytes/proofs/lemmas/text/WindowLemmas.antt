@@ -1,4 +1,4 @@
--- Windows of UTF-8: bytes each of which may follow the three before it.
+-- Windows of UTF-8: consecutive bytes, each of which may follow the three bytes before it.
 use Rattle.std.proofs.Common.{◌≡◌, ℕ, zero, suc, ◌+◌, ◌-◌, ◌<◌, ◌≤◌, List, [], ◌∷◌, ◌++◌, length}
 use Rattle.std.proofs.Common.{take, drop, Bool, true, false, ⊎_elim, inl, inr, refl, sym, ap, ◌∙◌}
 use Rattle.std.proofs.Common.{subst, arith, slice_index, length-append, length-take-le, le-leb}
@@ -15,18 +15,21 @@ use Rattle.unix_bytes.proofs.lemmas.sequences.SequenceLemmas.{IsSequence-three}
 use Rattle.unix_bytes.proofs.lemmas.sequences.SequenceLemmas.{IsSequence-four}
 use Rattle.unix_bytes.proofs.lemmas.text.TextLemmas.{IsText-nil, IsText-append, IsText-sequence}
 
--- how many bytes at the end of a, b, c and the list after them belong to an unfinished sequence
+-- of the bytes a, b, c and then those of the list: how many at the end belong to an unfinished
+-- sequence
 abbrev unfinished_after : ℕ → ℕ → ℕ → List ℕ → ℕ
 unfinished_after a b c [] = unfinished_len a b c
 unfinished_after a b c (d ∷ s) = unfinished_after b c d s
 
--- the bytes, which come after a, b and c, are valid UTF-8 up to an unfinished sequence at their end
+-- the bytes s, which come after a, b and c, are valid UTF-8 up to an unfinished sequence at the end
+-- of s; `len` is the number of the valid bytes
 record TextPrefix (a b c : ℕ) (s : List ℕ) : Type 0 where
   len : ℕ
   whole : len + unfinished_after a b c s ≡ length s
   text : IsText (take len s)
 
--- if a, b and c leave no sequence unfinished, none of them belongs to an unfinished sequence
+-- if a, b and c leave no sequence unfinished, none of these three bytes belongs to an unfinished
+-- one
 unfinished_len-finished : (a b c : ℕ) → IsFinished a b c → unfinished_len a b c ≡ 0
 unfinished_len-finished a b c h = rw (lt-leb 0xC0 c h.2, lt-leb 0xE0 b h.1, lt-leb 0xF0 a h.0) refl
 
@@ -39,12 +42,14 @@ max_bound c = by (c == 0xED) (c == 0xF4)
     by false true = omega arith
     by false false = omega arith
 
--- if all bytes belong to an unfinished sequence, the valid prefix is empty
+-- if all bytes of s, and none of a, b and c before them, belong to an unfinished sequence,
+-- `TextPrefix a b c s` holds with an empty valid prefix
 no_prefix : (a b c : ℕ) (s : List ℕ) → unfinished_after a b c s ≡ length s → TextPrefix a b c s
 no_prefix a b c s e = record { len = 0; whole = omega (arith, e); text = IsText-nil }
 
--- `TextPrefix` holds of a sequence u followed by s if it holds of s, and the same number of bytes
--- is unfinished at the end of both
+-- if u is a sequence of n bytes, `TextPrefix x y z s` holds, and as many bytes are unfinished at
+-- the end of a, b, c, u and s as at the end of x, y, z and s, then `TextPrefix a b c` holds of u
+-- followed by s
 more_prefix : (u s : List ℕ) (a b c x y z n : ℕ) → IsSequence u → length u ≡ n → TextPrefix x y z s
     → unfinished_after a b c (u ++ s) ≡ unfinished_after x y z s → TextPrefix a b c (u ++ s)
 more_prefix u s a b c x y z n h l f e = record {
@@ -55,21 +60,22 @@ more_prefix u s a b c x y z n h l f e = record {
       (IsText-append u (take f.len s) (IsText-sequence u h) f.text);
 }
 
--- if the last byte is at least C0, one byte belongs to an unfinished sequence
+-- if c is at least C0, then of a, b and c one byte belongs to an unfinished sequence
 unfinished_len-one : (a b c : ℕ) → 0xC0 ≤ c → unfinished_len a b c ≡ 1
 unfinished_len-one a b c h = rw (le-leb 0xC0 c h) refl
 
--- if the last byte is less than C0 and the byte before it at least E0, two bytes belong to an
--- unfinished sequence
+-- if c is less than C0, and b is at least E0, then of a, b and c two bytes belong to an unfinished
+-- sequence
 unfinished_len-two : (a b c : ℕ) → c < 0xC0 → 0xE0 ≤ b → unfinished_len a b c ≡ 2
 unfinished_len-two a b c l h = rw (lt-leb 0xC0 c l, le-leb 0xE0 b h) refl
 
--- if the first byte is at least F0, the second less than E0 and the third less than C0, three bytes
--- belong to an unfinished sequence
+-- if c is less than C0, b is less than E0, and a is at least F0, then a, b and c all belong to an
+-- unfinished sequence
 unfinished_len-three : (a b c : ℕ) → c < 0xC0 → b < 0xE0 → 0xF0 ≤ a → unfinished_len a b c ≡ 3
 unfinished_len-three a b c l k h = rw (lt-leb 0xC0 c l, lt-leb 0xE0 b k, le-leb 0xF0 a h) refl
 
--- the bounds of the byte after E0, ED, F0 and F4
+-- if e is within the bounds of the byte after d, e is at least A0 if d is E0, at most 9F if d is
+-- ED, at least 90 if d is F0, and at most 8F if d is F4
 second_bounds : (d e : ℕ) → min_second d ≤ e → e ≤ max_second d
     → (d ≡ 0xE0 → 0xA0 ≤ e) × (d ≡ 0xED → e ≤ 0x9F) × (d ≡ 0xF0 → 0x90 ≤ e) × (d ≡ 0xF4 → e ≤ 0x8F)
 second_bounds d e l m = (
@@ -79,16 +85,17 @@ second_bounds d e l m = (
   λ h. subst (λ x. e ≤ max_second x) h m,
 )
 
--- `TextPrefix` holds of each s of at most n bytes if a, b and c leave no sequence unfinished and
--- each byte of s may follow the three bytes before it
+-- for all a, b, c and s: if s has at most n bytes, a, b and c leave no sequence unfinished, and
+-- each byte of s may follow the three bytes before it, then `TextPrefix a b c s` holds
 abbrev HasPrefixUpTo : ℕ → Type 0
 HasPrefixUpTo n =
     (a b c : ℕ) (s : List ℕ) → length s ≤ n → IsFinished a b c → FitAfter a b c s
     → TextPrefix a b c s
 
+-- `HasPrefixUpTo` holds of n, and a, b and c leave no sequence unfinished
 module _ (n : ℕ) (fewer : HasPrefixUpTo n) (a b c d : ℕ) (k : IsFinished a b c) where
-  -- if d is from C2 to DF, and each of at most n bytes s after d may follow the three bytes before
-  -- it, `TextPrefix` holds of d followed by s
+  -- if d is from C2 to DF, s has at most n bytes, and after b, c and d each byte of s may follow
+  -- the three bytes before it, then `TextPrefix a b c` holds of d followed by s
   two_byte_prefix : (s : List ℕ) → length s ≤ n → 0xC2 ≤ d → d ≤ 0xDF → FitAfter b c d s
       → TextPrefix a b c (d ∷ s)
   two_byte_prefix [] le g l hs = no_prefix _ _ _ _ (unfinished_len-one b c d (omega arith))
@@ -97,8 +104,8 @@ module _ (n : ℕ) (fewer : HasPrefixUpTo n) (a b c d : ℕ) (k : IsFinished a b
       more_prefix (d ∷ e ∷ []) s a b c c d e 2 (IsSequence-two d e (g, l, lo, hi)) refl
       (fewer c d e s (omega arith) (omega arith, omega arith, omega arith) hs) refl
 
-  -- if d is from E0 to EF, and each of at most n bytes s after d may follow the three bytes before
-  -- it, `TextPrefix` holds of d followed by s
+  -- if d is from E0 to EF, s has at most n bytes, and after b, c and d each byte of s may follow
+  -- the three bytes before it, then `TextPrefix a b c` holds of d followed by s
   three_byte_prefix : (s : List ℕ) → length s ≤ n → 0xE0 ≤ d → d ≤ 0xEF → FitAfter b c d s
       → TextPrefix a b c (d ∷ s)
   three_byte_prefix [] le g l hs = no_prefix _ _ _ _ (unfinished_len-one b c d (omega arith))
@@ -113,8 +120,8 @@ module _ (n : ℕ) (fewer : HasPrefixUpTo n) (a b c d : ℕ) (k : IsFinished a b
       (IsSequence-three d e f (g, l, lo, hi, lo2, hi2, second.0, second.1)) refl
       (fewer d e f s (omega arith) (omega arith, omega arith, omega arith) hs) refl
 
-  -- if d is from F0 to F4, and each of at most n bytes s after d may follow the three bytes before
-  -- it, `TextPrefix` holds of d followed by s
+  -- if d is from F0 to F4, s has at most n bytes, and after b, c and d each byte of s may follow
+  -- the three bytes before it, then `TextPrefix a b c` holds of d followed by s
   four_byte_prefix : (s : List ℕ) → length s ≤ n → 0xF0 ≤ d → d ≤ 0xF4 → FitAfter b c d s
       → TextPrefix a b c (d ∷ s)
   four_byte_prefix [] le g l hs = no_prefix _ _ _ _ (unfinished_len-one b c d (omega arith))
@@ -134,8 +141,8 @@ module _ (n : ℕ) (fewer : HasPrefixUpTo n) (a b c d : ℕ) (k : IsFinished a b
       (IsSequence-four d e f x (g, l, lo, hi, lo2, hi2, lo3, hi3, second.2, second.3)) refl
       (fewer e f x s (omega arith) (omega arith, omega arith, omega arith) hs) refl
 
-  -- if d and each of at most n bytes s after d may follow the three bytes before it, `TextPrefix`
-  -- holds of d followed by s
+  -- if d may follow a, b and c, s has at most n bytes, and after b, c and d each byte of s may
+  -- follow the three bytes before it, then `TextPrefix a b c` holds of d followed by s
   any_prefix : (s : List ℕ) → length s ≤ n → Fits a b c d → FitAfter b c d s
       → TextPrefix a b c (d ∷ s)
   any_prefix s le h hs =
@@ -158,8 +165,8 @@ has_prefix zero a b c (d ∷ s) le k h = absurd (omega arith)
 has_prefix (suc n) a b c (d ∷ s) le k (h, hs) =
     any_prefix n (has_prefix n) a b c d k s (omega arith) h hs
 
--- the last three bytes of a, b, c and the first n bytes of s determine how many bytes belong to an
--- unfinished sequence there
+-- if s has at least n bytes: of the bytes a, b, c and then the first n of s, the last three
+-- determine how many at the end belong to an unfinished sequence (`unfinished_len`)
 unfinished_after-take : (n a b c : ℕ) (s : List ℕ) → n ≤ length s
     → unfinished_after a b c (take n s)
     ≡ unfinished_len (slice_index (a ∷ b ∷ c ∷ s) n) (slice_index (a ∷ b ∷ c ∷ s) (suc n))
@@ -168,8 +175,9 @@ unfinished_after-take zero a b c s le = refl
 unfinished_after-take (suc n) a b c [] le = absurd (omega arith)
 unfinished_after-take (suc n) a b c (d ∷ s) le = unfinished_after-take n b c d s (omega arith)
 
--- if the first three bytes of w leave no sequence unfinished, and each of the next 16 may follow
--- the three bytes before it, these 16 are valid UTF-8 up to an unfinished sequence at their end
+-- if w has at least 19 bytes, the first three leave no sequence unfinished, and each of the next 16
+-- may follow the three bytes before it, then these 16 are valid UTF-8 up to an unfinished sequence
+-- at their end
 pub window_text : (w : List ℕ) → 19 ≤ length w
     → IsFinished (slice_index w 0) (slice_index w 1) (slice_index w 2) → FitsWindow w
     → let last = slice_index w in

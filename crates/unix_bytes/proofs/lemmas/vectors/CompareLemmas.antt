@@ -8,11 +8,11 @@ use Rattle.std.specs.List.{common_prefix_len}
 use Rattle.std.specs.Ordering.{ordering_then, MatchOrdering}
 use Rattle.std.proofs.lemmas.Bool.{cases_Bool, false≢true}
 
--- the order of equal numbers is `Equal`
+-- if x and y are equal, their order is `Equal`
 same_number : (x y : ℕ) → eqb x y ≡ true → nat_cmp x y ≡ Equal
 same_number x y same = sym (nat_cmp_is x y Equal (eqb-true x y same))
 
--- if two numbers differ, their order decides before the order r
+-- if x and y differ, their order decides, and the order r that is compared next doesn't matter
 other_number : (x y : ℕ) (r : Ordering) → eqb x y ≡ false
     → ordering_then (nat_cmp x y) r ≡ nat_cmp x y
 other_number x y r other =
@@ -23,7 +23,8 @@ other_number x y r other =
       | Greater ↦ λ behind. refl
     ] (ranks x y)
 
--- if both strings continue after their common prefix, the first bytes after it decide the order
+-- if a and b both continue after their common prefix of n bytes, their bytes at index n decide
+-- their order
 pub differing_bytes : (a b : List ℕ) (n : ℕ) → n ≡ common_prefix_len eqb a b → n < length a
     → n < length b → slice_cmp nat_cmp a b ≡ nat_cmp (get_or a n 0) (get_or b n 0)
 differing_bytes [] b n e l m = absurd (omega arith)
@@ -42,7 +43,7 @@ differing_bytes (x ∷ a) (y ∷ b) (suc n) e l m =
     (λ (other : eqb x y ≡ false). let f : suc n ≡ 0 = rw other at e in absurd (omega arith))
     (cases_Bool (eqb x y))
 
--- the successors of two numbers have the same order
+-- m and n have the same order as their successors
 nat_cmp-suc : (m n : ℕ) → nat_cmp m n ≡ nat_cmp (suc m) (suc n)
 nat_cmp-suc m n = nat_cmp_is (suc m) (suc n) (nat_cmp m n)
     (elim (nat_cmp m n)
@@ -53,7 +54,8 @@ nat_cmp-suc m n = nat_cmp_is (suc m) (suc n) (nat_cmp m n)
       | Greater ↦ λ behind. omega arith
     ] (ranks m n))
 
--- if one of two strings is their common prefix, the lengths decide the order
+-- if the common prefix of a and b is all of a or all of b, the lengths of a and b decide their
+-- order
 pub beginning_is_less : (a b : List ℕ) (n : ℕ) → n ≡ common_prefix_len eqb a b
     → (n < length a → n < length b → ⊥) → slice_cmp nat_cmp a b ≡ nat_cmp (length a) (length b)
 beginning_is_less [] [] n e ends = refl

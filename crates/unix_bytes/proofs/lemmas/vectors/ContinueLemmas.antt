@@ -1,4 +1,4 @@
--- If two bit masks add up to a third, each byte continues the three before it (`Continues`).
+-- Each byte continues the three bytes before it (`Continues`) if two bit masks add up to a third.
 use Rattle.std.proofs.Common.{◌≡◌, ℕ, ◌+◌, ◌*◌, ◌<◌, ◌≤◌, List, [], ◌∷◌, length, Bool}
 use Rattle.std.proofs.Common.{true, false, cond, map, nat_le, refl, sym, ap, ◌∙◌, arith}
 use Rattle.std.proofs.Common.{leb-true, leb-false, le-leb, ◌⊎◌, inl, inr, ⊎_elim}
@@ -50,7 +50,8 @@ adds false true false n m k h e = absurd (omega arith)
 adds false false true n m k h e = absurd (omega arith)
 adds false false false n m k h e = record { bits = refl; rest = omega arith }
 
--- equal numbers have the same lowest bit, and the same other bits
+-- if two numbers are equal, their lowest bits p and q are the same, and so are their other bits n
+-- and m
 same_bit : (p q : Bool) (n m : ℕ) → bit p + 2 * n ≡ bit q + 2 * m → (p ≡ q) × (n ≡ m)
 same_bit true true n m e = (refl, omega arith)
 same_bit true false n m e = absurd (omega arith)
@@ -65,9 +66,9 @@ bit_on t h = ap bit h
 bit_off : (t : Bool) → t ≡ false → bit t ≡ 0
 bit_off t h = ap bit h
 
--- if d is neither C0 nor C1, `Continues` holds if two bits add up to a third: the first bit is set
--- if a, b and c leave a sequence unfinished, the second if d is at least C0, and the third if d is
--- at least 80
+-- if d is neither C0 nor C1, and two bits add up to a third, then `Continues a b c d` holds: the
+-- first bit is set if a, b and c leave a sequence unfinished, the second if d is at least C0, and
+-- the third if d is at least 80
 continues : (a b c d : ℕ)
     → bit (nat_le 0x80 (unfinished_lane a b c)) + bit (nat_le 0xC0 d) ≡ bit (nat_le 0x80 d)
     → nat_le 0xC0 d ≡ nat_le 0xC2 d → Continues a b c d
@@ -105,20 +106,21 @@ continues a b c d e f = record {
         (λ (k : 0xC0 ≤ d). inr (leb-true 0xC2 d (sym f ∙ le-leb 0xC0 d k))) (cases_lt d 0xC0))
         (cases_lt d 0x80)
 
--- `unfinished_lane` at each index, as the code computes it: 255 where a sequence is unfinished, and
--- otherwise 0
+-- as the code computes it: 255 at each index where the bytes of s, t and u leave a sequence
+-- unfinished, and otherwise 0 (`unfinished_lane`)
 abbrev pub unfinished_lanes : List ℕ → List ℕ → List ℕ → List ℕ
 unfinished_lanes s t u =
     zip2 (λ b o. cond (nat_le 0xF0 b) 255 o) s
     (zip2 (λ b o. cond (nat_le 0xE0 b) 255 o) t
     (zip2 (λ b o. cond (nat_le 0xC0 b) 255 o) u (replicate (length u) 0)))
 
--- a byte of at least C0 is not ASCII
+-- if d is at least C0, it is not ASCII
 above_beginning : (d : ℕ) → nat_le 0xC0 d ≡ true → nat_le 0x80 d ≡ true
 above_beginning d h = let k = leb-true 0xC0 d h in le-leb 0x80 d (omega arith)
 
--- `AllContinue` holds if the mask of unfinished sequences and the mask of bytes of at least C0 add
--- up to the mask of bytes of at least 80, and no byte is C0 or C1
+-- if s, t and u are as long as v, the mask of where the bytes of s, t and u leave a sequence
+-- unfinished and the mask of bytes of v of at least C0 add up to the mask of bytes of v of at least
+-- 80, and no byte of v is C0 or C1, then `AllContinue s t u v` holds
 pub all_continue : (s t u v : List ℕ)
     → mask_l (map (nat_le 0x80) (unfinished_lanes s t u)) + mask_l (map (nat_le 0xC0) v)
     ≡ mask_l (map (nat_le 0x80) v)

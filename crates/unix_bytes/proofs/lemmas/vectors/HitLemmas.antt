@@ -14,8 +14,9 @@ use Rattle.std.proofs.lemmas.Simd.{bit_mask_l, mask_l-lt, run_in_chunk_fails, ru
 use Rattle.unix_bytes.specs.Lanes.{hit_mask}
 use Rattle.unix_bytes.proofs.lemmas.vectors.MaskLemmas.{bit, is_clear}
 
--- if the byte does not occur in s before `at`, and n is its first index in the window of 16 bytes
--- from `from` on, where `from` is at most `at`, then the byte does not occur in s before `from` + n
+-- if `byte` does not occur in s before index `at`, `from` is at most `at`, and n is the index of
+-- the first `byte` among the 16 bytes of s from `from` on, or 16 if none is there, then `byte` does
+-- not occur in s before index `from` + n
 pub none_before : (byte : ℕ) (s : List ℕ) (at from n : ℕ) → from ≤ at → from + 16 ≤ length s
     → n ≡ position_or_len (λ b. b == byte) (take 16 (drop from s))
     → ((k : ℕ) → k < at → (get_or s k 0 == byte) ≡ false)
@@ -25,9 +26,9 @@ none_before byte s at from n order fits is none k l =
     (λ (more : at ≤ k).
     run_in_chunk_fails (λ b. b == byte) s from 16 n 0 fits is k (omega arith) l) (cases_lt k at)
 
--- if the byte does not occur in s before `at`, and n is its first index in the window of 16 bytes
--- from `from` on, where `from` is at most `at`, then `from` + n is its first index in s; a window
--- without the byte, for which n is 16, has to end where s ends
+-- if `byte` does not occur in s before index `at`, `from` is at most `at`, and n is the index of
+-- the first `byte` among the 16 bytes of s from `from` on, or 16 if none is there and s ends after
+-- them, then `from` + n is the index of the first `byte` in s, or the length of s
 pub first_after : (byte : ℕ) (s : List ℕ) (at from n : ℕ) → from ≤ at → from + 16 ≤ length s
     → n ≡ position_or_len (λ b. b == byte) (take 16 (drop from s)) → n ≤ 16
     → ((k : ℕ) → k < at → (get_or s k 0 == byte) ≡ false) → (from + n < length s → n < 16)
@@ -48,7 +49,7 @@ top_bit a k low high =
     let some : 0 < 2 ^ k = omega (arith, pow_mono {i = 0} {j = k} (omega arith)) in
     omega (arith, le-div 1 a (2 ^ k) some (omega arith), div_below a (2 ^ k) 2 some (omega arith))
 
--- the bit of the mask at index k is set if and only if the byte at index k is `byte`
+-- the bit of the mask at index k is set if and only if the byte of xs at index k is `byte`
 bit_of : (byte : ℕ) (xs : List ℕ) (k : ℕ) → k < length xs
     → hit_mask byte xs / 2 ^ k % 2 ≡ bit (get_or xs k 0 == byte)
 bit_of byte xs k l =
@@ -60,7 +61,8 @@ is_set : (t : Bool) → bit t ≡ 1 → t ≡ true
 is_set true e = refl
 is_set false e = absurd (omega arith)
 
--- the last index of `byte` among 16 bytes is just before `past`, or there is none and `past` is 0
+-- among the 16 bytes xs, the last `byte` is just before index `past`; if none of them is `byte`,
+-- `past` is 0
 pub record LastHit (byte : ℕ) (xs : List ℕ) (past : ℕ) : Type 0 where
   pub in_range : past ≤ 16
   pub after : 0 < past → (get_or xs (past - 1) 0 == byte) ≡ true
@@ -79,8 +81,8 @@ at_most_16 a m small low =
 halves : (m : ℕ) → 0 < m → 2 ^ m ≡ 2 * 2 ^ (m - 1)
 halves m some = ap (λ k. 2 ^ k) {x = m} {y = suc (m - 1)} (omega arith) ∙ pow-succ' 2 (m - 1)
 
--- the index just after the last `byte` among 16 bytes, or 0 if there is none, is 64 less the number
--- of leading zeros of their mask
+-- the index just after the last `byte` among the 16 bytes xs, or 0 if none of them is `byte`, is 64
+-- less the number of leading zeros of their mask (`hit_mask`)
 pub last_hit : (byte : ℕ) (xs : List ℕ) → length xs ≡ 16
     → LastHit byte xs (64 - count_leading_zeros 64 (hit_mask byte xs))
 last_hit byte xs l =
@@ -103,8 +105,8 @@ last_hit byte xs l =
           is_clear _ (sym (bit_of byte xs k (omega arith)) ∙ ap (λ n. n % 2) (no_bit a k m high h));
     })
 
--- if the byte does not occur in s from index `from` on, `position_or_len` of the bytes from there
--- is their length
+-- if `byte` does not occur in s from index `from` on, `position_or_len` of the bytes of s from
+-- there on is the number of these bytes
 pub none_from : (byte : ℕ) (s : List ℕ) (from : ℕ) → from ≤ length s
     → ((k : ℕ) → from ≤ k → k < length s → (get_or s k 0 == byte) ≡ false)
     → position_or_len (λ b. b == byte) (drop from s) ≡ length (drop from s)
@@ -115,7 +117,8 @@ none_from byte s from l none =
     ∙ none (from + k) (omega arith) (omega arith))
     (λ few. absurd (omega arith))
 
--- the byte at index k of s is at index k - `at` of the window of n bytes from `at` on
+-- if k is at least `at` and less than `at` + n, the byte of s at index k is at index k - `at` of
+-- the window of n bytes of s from `at` on
 pub in_window : (at n : ℕ) (s : List ℕ) (k : ℕ) → at ≤ k → k < at + n
     → get_or (take n (drop at s)) (k - at) 0 ≡ get_or s k 0
 in_window at n s k l h =

@@ -16,7 +16,7 @@ use Rattle.std.proofs.Math.Seq.{take-add}
 use Rattle.unix_bytes.specs.Lanes.{is_non_ascii, non_ascii_mask}
 use Rattle.unix_bytes.proofs.lemmas.vectors.MaskLemmas.{min_bits, min_mask}
 
--- the byte is ASCII
+-- the byte b is ASCII
 abbrev is_narrow : ℕ → Bool
 is_narrow b = not (is_non_ascii b)
 
@@ -28,7 +28,7 @@ narrow_bound b h = grind (arith, nat_tests)
 non_ascii_bound : (b : ℕ) → is_narrow b ≡ false → 0x80 ≤ b
 non_ascii_bound b h = grind (arith, nat_tests)
 
--- the bytes before the first byte that is not ASCII are ASCII
+-- the bytes of xs before the first byte that is not ASCII are ASCII
 narrow_prefix : (xs : List ℕ) → IsAscii (take (prefix_len is_narrow xs) xs)
 narrow_prefix xs =
     let n = prefix_len is_narrow xs in
@@ -37,31 +37,32 @@ narrow_prefix xs =
     rw (get_or-take n xs k d few)
     (narrow_bound (get_or xs k d) (prefix_len_passes is_narrow xs k d few)))
 
--- if no bit of the mask of some bytes is set, all these bytes are ASCII
+-- if no bit of the mask of xs is set, all bytes of xs are ASCII
 ascii_from_mask : (xs : List ℕ) → non_ascii_mask xs ≡ 0 → IsAscii xs
 ascii_from_mask xs none =
     let e = leading_from_mask_l is_non_ascii xs none in
     subst IsAscii (take_all (prefix_len is_narrow xs) xs (omega arith)) (narrow_prefix xs)
 
--- if the code sets no bit for n bytes from i on, they are ASCII
+-- if the mask that the code computes for the n bytes of s from index i on, at most 64, has no bit
+-- set, these bytes are ASCII
 pub ascii_block : (s : List ℕ) (i n : ℕ) → n ≤ 64 → i + n ≤ length s
     → min_bits 0x80 n (take n (drop i s)) ≡ 0 → IsAscii (take n (drop i s))
 ascii_block s i n few l none =
     let block = take n (drop i s) in
     ascii_from_mask block (sym (min_mask 0x80 n block (length-chunk i n s l) few) ∙ none)
 
--- if the first j bytes are ASCII, so are the first i, where i is at most j
+-- if i is at most j, and the first j bytes of s are ASCII, so are the first i
 pub fewer_ascii : (s : List ℕ) (i j : ℕ) → i ≤ j → IsAscii (take j s) → IsAscii (take i s)
 fewer_ascii s i j le h = subst IsAscii (take-take i j s le) (IsAscii-take (take j s) i h)
 
--- if the bytes before i and the next n are ASCII, so are the bytes before i + n
+-- if the first i bytes of s and the next n bytes are ASCII, so are the first i + n bytes of s
 pub more_ascii : (s : List ℕ) (i n : ℕ) → IsAscii (take i s) → IsAscii (take n (drop i s))
     → IsAscii (take (i + n) s)
 more_ascii s i n before here =
     subst IsAscii (sym (take-add i n s))
     (IsAscii-append (take i s) (take n (drop i s)) before here)
 
--- at most 16 bytes are ASCII if the first 8 and the last 8 are
+-- if s has 8 to 16 bytes, and its first 8 and its last 8 bytes are ASCII, s is ASCII
 pub eight_and_eight : (s : List ℕ) (i : ℕ) → i ≡ length s - 8 → 8 ≤ length s → length s ≤ 16
     → IsAscii (take 8 (drop 0 s)) → IsAscii (take 8 (drop i s)) → IsAscii s
 eight_and_eight s i e long short first last =
@@ -69,14 +70,15 @@ eight_and_eight s i e long short first last =
     subst IsAscii (take_all (i + 8) s (omega arith))
     (more_ascii s i 8 (fewer_ascii s i 8 (omega arith) first) last)
 
--- if the bytes before i are ASCII, and no bit of the mask of the next 16 is set, the bytes before
--- i + 16 are ASCII
+-- if the first i bytes of s are ASCII, and the mask m of the next 16 bytes has no bit set, the
+-- first i + 16 bytes of s are ASCII
 pub ascii_window : (s : List ℕ) (i m : ℕ) → i + 16 ≤ length s → IsAscii (take i s)
     → m ≡ non_ascii_mask (take 16 (drop i s)) → m ≡ 0 → IsAscii (take (i + 16) s)
 ascii_window s i m l before mask none =
     more_ascii s i 16 before (ascii_from_mask (take 16 (drop i s)) (sym mask ∙ none))
 
--- the lowest bit set in the mask of 16 bytes is for the first byte that is not ASCII
+-- if the mask m of the 16 bytes of s from index i on has a bit set, the index of the lowest bit set
+-- is the number of these bytes before the first that is not ASCII
 count_trailing_zeros-non_ascii_mask : (s : List ℕ) (i m : ℕ) → i + 16 ≤ length s
     → m ≡ non_ascii_mask (take 16 (drop i s)) → (m ≡ 0 → ⊥)
     → count_trailing_zeros 64 m ≡ prefix_len is_narrow (take 16 (drop i s))
@@ -86,7 +88,8 @@ count_trailing_zeros-non_ascii_mask s i m l mask some =
     let nonzero : 0 < non_ascii_mask xs = omega arith in
     ap (count_trailing_zeros 64) mask ∙ trailing_mask_l is_non_ascii 64 xs (omega arith) nonzero
 
--- if the first byte is ASCII, at least one byte comes before the first byte that is not ASCII
+-- if the first byte of s is ASCII, at least one of the first 16 bytes of s comes before the first
+-- of them that is not ASCII
 narrow_some : (s : List ℕ) → 0 < length s → slice_index s 0 < 128
     → 0 < prefix_len is_narrow (take 16 (drop 0 s))
 narrow_some [] some h = absurd (omega arith)
@@ -94,8 +97,8 @@ narrow_some (x ∷ s) some h =
     let e : is_narrow x ≡ true = grind (arith, nat_tests) in
     rw e (omega arith)
 
--- if the first byte of s is ASCII, it is not the byte of the lowest bit set in the mask of the 16
--- bytes from i on
+-- if the first byte of s is ASCII, and the mask m of the 16 bytes of s from index i on has a bit
+-- set, the byte of the lowest bit set is not the first byte of s
 some_ascii : (s : List ℕ) (i m : ℕ) → i + 16 ≤ length s
     → m ≡ non_ascii_mask (take 16 (drop i s)) → (m ≡ 0 → ⊥) → slice_index s 0 < 128
     → 0 < i + count_trailing_zeros 64 m
@@ -105,8 +108,9 @@ some_ascii s zero m l mask some h =
     omega arith
 some_ascii s (suc i) m l mask some h = omega arith
 
--- if the bytes before i are ASCII, so are all bytes before the byte of the lowest bit set in the
--- mask of the next 16; there is at least one such byte if the first byte is ASCII
+-- if the first i bytes of s are ASCII, and the mask m of the next 16 bytes has a bit set, all bytes
+-- of s before the byte of the lowest bit set are ASCII; if the first byte of s is ASCII, there is
+-- at least one such byte
 pub ascii_prefix : (s : List ℕ) (i m : ℕ) → i + 16 ≤ length s → IsAscii (take i s)
     → m ≡ non_ascii_mask (take 16 (drop i s)) → (m ≡ 0 → ⊥)
     → let n = i + count_trailing_zeros 64 m in
@@ -124,8 +128,8 @@ ascii_prefix s i m l before mask some =
       some_ascii s i m l mask some,
     )
 
--- if a bit is set in the mask of the first 16 bytes, the byte at the index of the lowest bit set is
--- not ASCII
+-- if the mask m of the first 16 bytes of s has a bit set, the index of the lowest bit set is at
+-- most 16, and if it is less than 16, the byte of s at this index is not ASCII
 pub first_non_ascii : (s : List ℕ) (m : ℕ) → 16 ≤ length s → m ≡ non_ascii_mask (take 16 (drop 0 s))
     → (m ≡ 0 → ⊥) → (count_trailing_zeros 64 m ≤ 16)
     × (count_trailing_zeros 64 m < 16 → 0x80 ≤ slice_index s (count_trailing_zeros 64 m))

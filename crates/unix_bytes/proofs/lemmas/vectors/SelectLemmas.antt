@@ -6,7 +6,8 @@ use Rattle.std.specs.Simd.Lanes.{zip2, sel_l, top}
 use Rattle.std.proofs.lemmas.List.{map-id}
 use Rattle.std.proofs.lemmas.Simd.{tops_compared, zip2_splat, zip2_splat_left, zip2_of_maps}
 
--- y is selected where a byte passes the test, and elsewhere the byte of `os`
+-- selecting from y and `os`, by the test p of each of the n bytes xs, yields y where the byte of xs
+-- passes p, and elsewhere the byte of `os`
 sel_l-map : (p : ℕ → Bool) (y n : ℕ) (xs os : List ℕ) → length xs ≡ n
     → sel_l (map p xs) (replicate n y) os ≡ zip2 (λ b o. cond (p b) y o) xs os
 sel_l-map p y n [] os e = refl
@@ -15,7 +16,8 @@ sel_l-map p y (suc n) (x ∷ xs) [] e = refl
 sel_l-map p y (suc n) (x ∷ xs) (o ∷ os) e =
     ap (λ t. cond (p x) y o ∷ t) (sel_l-map p y n xs os (omega arith))
 
--- 255 is selected where a byte is not less than k
+-- selecting from 255 and `os`, by whether each of the n bytes xs is at least k, yields 255 where it
+-- is, and elsewhere the byte of `os`
 pub sel_l-lanes_ge : (k n : ℕ) (xs os : List ℕ) → length xs ≡ n
     → sel_l (map (top 7) (zip2 (λ a b. cond (nat_le a b) 255 0) (replicate n k) xs))
     (replicate n 255) os
@@ -25,7 +27,8 @@ sel_l-lanes_ge k n xs os e =
     (tops_compared w8 nat_le (replicate n k) xs ∙ zip2_splat_left nat_le k n xs e)
     ∙ sel_l-map (nat_le k) 255 n xs os e
 
--- `own` is selected where a byte equals k
+-- selecting from `own` and `os`, by whether each of the n bytes xs equals k, yields `own` where it
+-- does, and elsewhere the byte of `os`
 pub sel_l-equal : (k own n : ℕ) (xs os : List ℕ) → length xs ≡ n
     → sel_l (map (top 7) (zip2 (λ a b. cond (eqb a b) 255 0) xs (replicate n k)))
     (replicate n own) os
@@ -35,7 +38,8 @@ sel_l-equal k own n xs os e =
     (tops_compared w8 eqb xs (replicate n k) ∙ zip2_splat eqb xs n k e)
     ∙ sel_l-map (λ b. eqb b k) own n xs os e
 
--- selecting by g and then by f, from the same bytes, applies one function to each byte
+-- selecting by g, starting from z everywhere, and then by f, both by the same n bytes xs, maps each
+-- byte b of xs to `f b (g b z)`
 pub zip2-zip2 : (f g : ℕ → ℕ → ℕ) (z n : ℕ) (xs : List ℕ) → length xs ≡ n
     → zip2 f xs (zip2 g xs (replicate n z)) ≡ map (λ b. f b (g b z)) xs
 zip2-zip2 f g z n xs e =

@@ -12,7 +12,7 @@ use Rattle.std.proofs.lemmas.List.Sums.{prefix_len-le-length, prefix_len_passes,
 use Rattle.std.proofs.lemmas.Simd.{length-zip2, get_or-zip2, get_or-chunk, first_set_mask_l}
 use Rattle.std.proofs.lemmas.Simd.{mask_l-mod}
 
--- a lane: 255, which has all bits set, if the test is true, and otherwise 0
+-- the lane of a test whose result is b: 255, which has all bits set, if b is true, and otherwise 0
 abbrev pub lane : Bool → ℕ
 lane b = cond b 255 0
 
@@ -32,7 +32,7 @@ pub top_lane : (a : Bool) → top 7 (lane a) ≡ a
 top_lane true = refl
 top_lane false = refl
 
--- f applied to each of n bytes and y
+-- f applied to each of the n bytes xs and to y
 abbrev pub with : (ℕ → ℕ → ℕ) → ℕ → List ℕ → ℕ → List ℕ
 with f n xs y = zip2 f xs (replicate n y)
 
@@ -47,23 +47,23 @@ get_or-with f n xs y i l few =
     get_or-zip2 f xs (replicate n y) i 0 0 0 (omega arith) (omega (arith, length-replicate n y))
     ∙ ap (f (get_or xs i 0)) (get_or-replicate n i y 0 few)
 
--- the lanes that show whether the test is true of each of n bytes and y
+-- the lanes that show, for each of the n bytes xs, whether the test t is true of this byte and y
 abbrev pub tested : (ℕ → ℕ → Bool) → ℕ → List ℕ → ℕ → List ℕ
 tested t n xs y = with (λ a b. lane (t a b)) n xs y
 
--- the lanes that show which of n bytes are y
+-- the lanes that show which of the n bytes xs are y
 abbrev pub hits : ℕ → List ℕ → ℕ → List ℕ
 hits n xs y = tested eqb n xs y
 
--- the lanes that show whether two tests are both true
+-- the lanes that show at which indices the tests of the lanes xs and ys are both true
 abbrev pub both : List ℕ → List ℕ → List ℕ
 both xs ys = zip2 (λ a b. bit_and a b) xs ys
 
--- the lanes that show whether at least one of two tests is true
+-- the lanes that show at which indices at least one of the tests of the lanes xs and ys is true
 abbrev pub either : List ℕ → List ℕ → List ℕ
 either xs ys = zip2 (λ a b. bit_or a b) xs ys
 
--- the i-th of n lanes shows b
+-- xs are n lanes, and the lane at index i shows b
 pub record Tells (n : ℕ) (xs : List ℕ) (i : ℕ) (b : Bool) : Type 0 where
   pub size : length xs ≡ n
   pub is : get_or xs i 0 ≡ lane b
@@ -98,30 +98,32 @@ pub Tells-either : {n : ℕ} {xs ys : List ℕ} {i : ℕ} {a b : Bool} → i < n
 Tells-either {n} {xs} {ys} {i} {a} {b} =
     Tells-zip2 bit_or (λ a b. a || b) or_lane n xs ys i a b
 
--- if at + i is k, the byte at index i of the n bytes from `at` on is the byte of s at index k; d is
--- the default past the end
+-- if s has n bytes from index `at` on, i is less than n, and `at` + i is k, the byte at index i of
+-- these n bytes is the byte of s at index k; d, the default past the end of s, doesn't matter
 pub lane_at : (n d : ℕ) (s : List ℕ) (at i k : ℕ) → at + n ≤ length s → i < n → at + i ≡ k
     → get_or (chunk at n s) i 0 ≡ get_or s k d
 lane_at n d s at i k l few e =
     get_or-chunk at n s i 0 few ∙ ap (λ k. get_or s k 0) e
     ∙ get_or_default s k 0 d (omega arith)
 
--- the mask that the code makes of lanes
+-- the mask that the code computes from the lanes xs
 abbrev pub mask_of : List ℕ → ℕ
 mask_of xs = mask_l (map (top 7) xs) % 2 ^ 64
 
--- each of n lanes shows whether the test is true of its index; the first index is `at`
+-- xs are n lanes, from 1 to 64, and the lane at each index i shows whether the test is true of `at`
+-- + i
 pub record TellFrom (n : ℕ) (xs : List ℕ) (test : ℕ → Bool) (at : ℕ) : Type 0 where
   pub some : 0 < n
   pub few : n ≤ 64
   pub each : (i : ℕ) → i < n → Tells n xs i (test (at + i))
 
--- the test is false of the first `len` of n indices from `at` on
+-- the test is false of the first `len` of the n indices from `at` on
 pub record FailsFrom (n : ℕ) (test : ℕ → Bool) (at len : ℕ) : Type 0 where
   pub in_range : len ≤ n
   pub none_before : (i : ℕ) → at ≤ i → i < at + len → test i ≡ false
 
--- the test is false before the first lane that shows that it is true
+-- if the n lanes xs show the test from index `at` on (`TellFrom`), and `len` lanes come before the
+-- first that is set, then the test is false of the first `len` indices from `at` on
 before_first : {n : ℕ} {xs : List ℕ} {test : ℕ → Bool} {at : ℕ} (len : ℕ) → TellFrom n xs test at
     → len ≡ prefix_len (λ x. not (top 7 x)) xs → FailsFrom n test at len
 before_first {n} {xs} {test} {at} len h is =
@@ -137,8 +139,8 @@ before_first {n} {xs} {test} {at} len h is =
           ∙ ap (top 7) (sym told.is) ∙ not-true (top 7 (get_or xs k 0)) passes;
     }
 
--- the index of the lowest bit set in the mask, or n if none is set, is the index of the first lane
--- that shows that the test is true
+-- if the n lanes xs show the test from index `at` on (`TellFrom`), the number of lanes before the
+-- first that is set is the index of the lowest bit set in their mask, or n if none is set
 first_set : {n : ℕ} {xs : List ℕ} {test : ℕ → Bool} {at : ℕ} → TellFrom n xs test at
     → cond (eqb (mask_of xs) 0) n (count_trailing_zeros 64 (mask_of xs))
     ≡ prefix_len (λ x. not (top 7 x)) xs
@@ -148,7 +150,8 @@ first_set {n} {xs} h =
     ap (λ k. cond (eqb k 0) n (count_trailing_zeros 64 k)) (mask_l-mod (map (top 7) xs) 64 few)
     ∙ first_set_mask_l (top 7) xs n size h.few
 
--- if no bit is set, the test is false of all indices
+-- if the n lanes xs show the test from index `at` on (`TellFrom`), and no bit of their mask is set,
+-- the test is false of all n indices from `at` on
 pub none_set : {n : ℕ} {xs : List ℕ} {test : ℕ → Bool} {at : ℕ} → TellFrom n xs test at
     → mask_of xs ≡ 0 → FailsFrom n test at n
 none_set {n} {xs} h none =
@@ -156,8 +159,8 @@ none_set {n} {xs} h none =
     (sym (ap (λ c. cond c n (count_trailing_zeros 64 (mask_of xs))) (eq-eqb (mask_of xs) 0 none))
     ∙ first_set h)
 
--- if a bit is set, the lowest bit set has the index of the first lane that shows that the test is
--- true
+-- if the n lanes xs show the test from index `at` on (`TellFrom`), and a bit of their mask is set,
+-- the index of the lowest bit set is the number of lanes before the first that is set
 lowest : {n : ℕ} {xs : List ℕ} {test : ℕ → Bool} {at : ℕ} → TellFrom n xs test at
     → (mask_of xs ≡ 0 → ⊥)
     → count_trailing_zeros 64 (mask_of xs) ≡ prefix_len (λ x. not (top 7 x)) xs
@@ -165,18 +168,20 @@ lowest {n} {xs} h some =
     sym (ap (λ c. cond c n (count_trailing_zeros 64 (mask_of xs))) (ne_eqb (mask_of xs) 0 some))
     ∙ first_set h
 
--- if a bit is set, the test is false before the index of the lowest bit set
+-- if the n lanes xs show the test from index `at` on (`TellFrom`), and a bit of their mask is set,
+-- the test is false from `at` up to `at` plus the index of the lowest bit set, exclusive
 pub some_set : {n : ℕ} {xs : List ℕ} {test : ℕ → Bool} {at : ℕ} → TellFrom n xs test at
     → (mask_of xs ≡ 0 → ⊥) → FailsFrom n test at (count_trailing_zeros 64 (mask_of xs))
 some_set {n} {xs} h some = before_first (count_trailing_zeros 64 (mask_of xs)) h (lowest h some)
 
--- if no lane passes a test, no bit is set
+-- if no element of xs passes the test p, the mask of the elements that pass has no bit set
 no_bit : (p : ℕ → Bool) (xs : List ℕ) → prefix_len (λ x. not (p x)) xs ≡ length xs
     → mask_l (map p xs) ≡ 0
 no_bit p [] e = refl
 no_bit p (x ∷ xs) e = grind (arith, no_bit p xs)
 
--- if a bit is set, the test is true at the index of the lowest bit set
+-- if the n lanes xs show the test from index `at` on (`TellFrom`), and a bit of their mask is set,
+-- the lowest bit set has an index less than n, and the test is true of `at` plus this index
 pub found_set : {n : ℕ} {xs : List ℕ} {test : ℕ → Bool} {at : ℕ} → TellFrom n xs test at
     → (mask_of xs ≡ 0 → ⊥) → (count_trailing_zeros 64 (mask_of xs) < n)
     × (test (at + count_trailing_zeros 64 (mask_of xs)) ≡ true)

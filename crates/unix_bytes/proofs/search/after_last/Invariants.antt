@@ -1,7 +1,7 @@
 use Rattle.std.proofs.Common.{◌≡◌, ℕ, ◌<◌, ◌≤◌, ◌==◌, false, get_or, length}
 use Rattle.unix_bytes.proofs.search.after_last.Given as goal
 
--- `byte` does not occur in `bytes` from index `end` on
+-- `end` is at most the length of `bytes`, and `byte` does not occur in `bytes` from `end` on
 abbrev pub invariant-loop-end : goal.invariant-loop-end
 invariant-loop-end l = record {
   in_range : l.end ≤ length l.bytes;

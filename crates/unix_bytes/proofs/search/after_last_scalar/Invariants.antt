@@ -1,7 +1,8 @@
 use Rattle.std.proofs.Common.{◌≡◌, ℕ, ◌<◌, ◌≤◌, ◌==◌, false, get_or}
 use Rattle.unix_bytes.proofs.search.after_last_scalar.Given as goal
 
--- `byte` does not occur in `bytes` from index `past` up to `len`, exclusive
+-- `past` is at most `len`, and `byte` does not occur in `bytes` from index `past` up to `len`,
+-- exclusive
 abbrev pub invariant-loop-past : goal.invariant-loop-past
 invariant-loop-past l = record {
   in_range : l.past ≤ l.len;

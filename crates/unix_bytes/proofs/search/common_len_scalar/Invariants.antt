@@ -1,7 +1,7 @@
 use Rattle.std.proofs.Common.{◌≡◌, ℕ, ◌-◌, ◌<◌, ◌≤◌, get_or}
 use Rattle.unix_bytes.proofs.search.common_len_scalar.Given as goal
 
--- the first `len` bytes of `a` and `b` are the same
+-- `len` is at most `shorter_len`, and the first `len` bytes of `a` and of `b` are the same
 abbrev pub invariant-loop-len : goal.invariant-loop-len
 invariant-loop-len l = record {
   in_range : l.len ≤ l.shorter_len;

@@ -1,7 +1,7 @@
 use Rattle.std.proofs.Common.{◌≡◌, ◌==◌, ℕ, ◌+◌, ◌-◌, ◌<◌, get_or, false}
 use Rattle.unix_bytes.proofs.search.find_byte.Given as goal
 
--- `byte` does not occur in `bytes` before index `at`
+-- `at` is less than `last` + 16, and `byte` does not occur in `bytes` before index `at`
 abbrev pub invariant-loop-at : goal.invariant-loop-at
 invariant-loop-at l = record {
   in_range : l.at < l.last + 16;

@@ -2,7 +2,7 @@ use Rattle.std.proofs.Common.{◌≤◌, ◌-◌, length, take}
 use Rattle.std.specs.Str.{IsAscii}
 use Rattle.unix_bytes.proofs.utf8.ascii.ascii_blocks_len.Given as goal
 
--- the bytes before `at` are ASCII
+-- `at` is at most the length of `source`, and the bytes of `source` before `at` are ASCII
 abbrev pub invariant-loop-at : goal.invariant-loop-at
 invariant-loop-at l = record {
   within : l.at ≤ length l.source;

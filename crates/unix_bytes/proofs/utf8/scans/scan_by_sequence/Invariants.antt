@@ -2,7 +2,7 @@ use Rattle.std.proofs.Common.{length}
 use Rattle.unix_bytes.proofs.lemmas.prefixes.TextPrefixLemmas.{TextBefore}
 use Rattle.unix_bytes.proofs.utf8.scans.scan_by_sequence.Given as goal
 
--- the bytes before `rest` are valid UTF-8
+-- `rest` is a suffix of `source`, and the bytes of `source` before it are valid UTF-8
 abbrev pub invariant-loop-rest : goal.invariant-loop-rest
 invariant-loop-rest l = TextBefore l.source l.rest
 

@@ -2,7 +2,8 @@ use Rattle.std.proofs.Common.{◌≤◌, ◌-◌, length, take}
 use Rattle.unix_bytes.specs.Utf8.{IsText}
 use Rattle.unix_bytes.proofs.utf8.scans.text_end.Given as goal
 
--- the bytes before `at` are valid UTF-8
+-- `at` is from `from` to the length of `source`, and the bytes of `source` before `at` are valid
+-- UTF-8
 abbrev pub invariant-loop-at : goal.invariant-loop-at
 invariant-loop-at l = record {
   more : l.from ≤ l.at;
