@@ -28,7 +28,8 @@ abbrev pub first_rank : List Value → ℕ
 first_rank [] = 0
 first_rank (v ∷ vs) = 1 + rank v
 
--- x and y are the rests of a and b after a cut
+-- x and y are the rests of a and b after a cut; x is a suffix of a, in the same memory, and shorter
+-- than a
 pub record Cuts (a : Bor (List ℕ)) (b : List ℕ) (x : Bor (List ℕ)) (y : List ℕ) : Type 0 where
   pub shares : SharesPrefix a.now b x.now y
   pub shorter : length x.now < length a.now

@@ -55,8 +55,8 @@ ordinary_behind s n past l ordinary i from to =
     ap (λ b. eqb b 46 || eqb b 47) here
     ∙ ordinary (i - n) (omega arith) (omega (arith, length-drop n s))
 
--- if t, which is s without its first n bytes, is ordinary from index `past` on, and `place` is n +
--- `past`, s is ordinary from `place` on
+-- if t, which is s without its first n bytes, is ordinary from index `past` on, and `place` is
+-- `n + past`, then s is ordinary from `place` on
 pub ordinary_from : (s t : List ℕ) (n past place : ℕ) → n ≤ length s → t ≡ drop n s
     → OrdinaryFrom t past
     → place ≡ n + past → OrdinaryFrom s place
@@ -246,8 +246,8 @@ ends_in_stem_by s (Some bytes) is e =
 pub ends_in_stem : (s : List ℕ) → stem_end_of s ≡ Some (length s) → EndsInStem s
 ends_in_stem s e = ends_in_stem_by s (file_name_of (values s)) refl e
 
--- if s ends in a name, the stem of its first n bytes ends at n, and no dot and no slash is at n or
--- later, then the stem of s ends where s ends
+-- if s ends in a name, the stem of its first n bytes ends at n, and s has no dot and no slash at n
+-- or later, then the stem of s ends where s ends
 pub stem_end-longer : (s : List ℕ) (n : ℕ) → n ≤ length s → EndsInName s
     → stem_end_of (take n s) ≡ Some n → OrdinaryFrom s n → stem_end_of s ≡ Some (length s)
 stem_end-longer s n l h known ordinary =
@@ -289,8 +289,8 @@ pub stem_end-ordinary : (s : List ℕ) → EndsInName s → OrdinaryFrom s 0
 stem_end-ordinary s h ordinary = stem_end-whole s h
     (Dotless-ordinary s 0 (h.start + 1) ordinary (omega arith))
 
--- if s ends in a name, n is 0 or the stem of the first n bytes ends at n, and no dot and no slash
--- is at n or later, then the stem of s ends where s ends
+-- if s ends in a name, n is 0 or the stem of the first n bytes ends at n, and s has no dot and no
+-- slash at n or later, then the stem of s ends where s ends
 pub stem_end-known : (s : List ℕ) (n : ℕ) → EndsInName s → n ≤ length s
     → (0 < n → stem_end_of (take n s) ≡ Some n) → OrdinaryFrom s n
     → stem_end_of s ≡ Some (length s)

@@ -1,5 +1,5 @@
--- What calls on a cursor and chains of iterators yield: its components in order, or in reverse
--- order after `rev`.
+-- What calls on a cursor, and chains of iterators on it, yield: the components of the cursor in
+-- order, or in reverse order after `rev`.
 use Rattle.std.proofs.Common.{ap, ◌∙◌, ◌∷◌, [], length, None, reverse, subst, ◌≤◌, ◌-◌, drop}
 use Rattle.std.proofs.Common.{◌≡◌, refl, sym, arith, length-drop}
 use Rattle.std.specs.Iterator.Adapters.{rev_source, rev_steps}
@@ -28,12 +28,12 @@ length-cursor_rest c = omega (
   length-drop c.start c.source.now,
 )
 
--- the rest of a walk has no trailing filler, so that it is its own rest if no component is removed
+-- if r is the rest of a walk, r has no trailing filler: `rest r 0 0` is r
 pub cursor_rest-whole : (c : Components) → cursor_rest c ≡ rest (cursor_rest c) 0 0
 unfolding cursor_rest IsWalk
 cursor_rest-whole c = sym (rest-ended (cursor_rest c) c.fields.ends)
 
--- if the rest is empty, `next` returns `None`, and leaves the cursor unchanged
+-- if the rest of the cursor c is empty, `next` returns `None`, and leaves c unchanged
 pub GivesFirst-none : (c : Components) → cursor_rest c ≡ [] → GivesFirstPart c None c
 GivesFirst-none c none =
     let no_value = ap values none ∙ values-nil in
@@ -44,7 +44,7 @@ GivesFirst-none c none =
       end_is = refl;
     }
 
--- if the rest is empty, `next_back` returns `None`, and leaves the cursor unchanged
+-- if the rest of the cursor c is empty, `next_back` returns `None`, and leaves c unchanged
 pub GivesLast-none : (c : Components) → cursor_rest c ≡ [] → GivesLastPart c None c
 GivesLast-none c none =
     let no_value = ap values none ∙ values-nil in
