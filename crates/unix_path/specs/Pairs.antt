@@ -15,7 +15,7 @@ use Rattle.unix_path.specs.declared.pair.Difference.TheVariants.{CutBefore}
 use Rattle.unix_path.specs.declared.pair.Comparison.{Comparison}
 use Rattle.unix_path.specs.declared.pair.Comparison.TheVariants.{Differs, StartsWith, IsPrefix}
 
--- the position of a kind in the order of paths
+-- the position of a kind in the order of kinds: no component, the root, `.`, `..`, names
 abbrev pub kind_rank : Kind → ℕ
 kind_rank Nothing = 0
 kind_rank RootDir = 1
@@ -35,7 +35,7 @@ pub record Cuts (a : Bor (List ℕ)) (b : List ℕ) (x : Bor (List ℕ)) (y : Li
   pub shorter : length x.now < length a.now
   pub tail : IsTail x a
 
--- what the first difference of a and b, at n, shows
+-- what a `Difference` says of a and b, whose first difference is at n
 abbrev pub DifferenceShows : Bor (List ℕ) → List ℕ → ℕ → Difference → Type 0
 DifferenceShows a b n (Decided order) = AreApart a.now b order
 DifferenceShows a b n FirstComponents = DiffersAtStart a.now b n

@@ -1,4 +1,4 @@
--- Where edits cut a path.
+-- What a pop, and setting an extension, keep of a path.
 use Rattle.std.proofs.Common.{◌≡◌, ℕ, List, [], ◌∷◌, ◌++◌, length, take, refl, Option, Some, None}
 use Rattle.std.proofs.Common.{is_some, option_map, unwrap_or, true, false, sym, ap, ◌∙◌}
 use Rattle.std.proofs.Math.Dec.{eqb-suc-zero}

@@ -50,17 +50,18 @@ length-join_all_of-max_len a n (p ∷ paths) =
     ≤ length one + sum_of_paths more paths = length-join_all_of-max_len one more paths in
     omega (arith, rest, length-join_of-max_len a p.bytes.now)
 
--- if any first items of the iterator `items`, with 1 byte more for each, have at most
--- `spare_capacity` bytes in all, joining them to `old` adds at most `spare_capacity` bytes
+-- if the lengths of any number of first items of the iterator `items`, plus 1 for each item, add up
+-- to at most `spare_capacity`, then joining these items to `old` adds at most `spare_capacity`
+-- bytes
 pub JoinsFit-spare_capacity : {S : Type 0} {steps : S → Option Path → S → Type 0} {items : S}
     (old : List ℕ) (spare_capacity : ℕ) → ItemsFit steps items spare_capacity
     → JoinsFit steps items old (length old + spare_capacity)
 JoinsFit-spare_capacity old spare_capacity fits run met from =
     omega (arith, length-join_all_of-max_len old 0 run.items, fits run met from)
 
--- if the joins of `old` with first items of the iterator `items` have at most `max_len` bytes, and
--- `paths` are the first items and `path` is the next, then `old` joined with `paths` and then with
--- `path` has at most `max_len` bytes
+-- if `old` joined with any number of first items of the iterator `items` has at most `max_len`
+-- bytes, and the first items of `items` are `paths` and then `path`, then `old` joined with `paths`
+-- and then with `path` has at most `max_len` bytes
 pub JoinsFit-next : {S : Type 0} {steps : S → Option Path → S → Type 0} {items from : S}
     (old : List ℕ) (max_len : ℕ) → JoinsFit steps items old max_len → from ≡ items
     → (paths : List Path) (s t : S) (path : Path) → Yields steps from paths s

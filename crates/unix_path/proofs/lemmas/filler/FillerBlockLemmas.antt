@@ -10,8 +10,9 @@ use Rattle.unix_path.specs.Scan.{is_filler}
 use Rattle.unix_path.proofs.lemmas.filler.FillerLemmas.{inner_parts_filler_at}
 use Rattle.unix_path.proofs.lemmas.filler.DotLaneLemmas.{stops, goes_on, stop_lanes, Tells-stop}
 
--- if s has more than 16 bytes from `at` on, the lanes of the first 16 of them show which of these
--- 16 bytes are neither slashes nor dots before slashes
+-- if s has more than 16 bytes from `at` on, the `stop_lanes` of the first 16 of them, each with the
+-- byte after it as neighbour, show which of these 16 bytes are neither slashes nor dots before
+-- slashes
 ends_shown : (s : List ℕ) (at : ℕ) → at + 16 < length s
     → TellFrom 16 (stop_lanes (chunk at 16 s) (chunk (at + 1) 16 s))
     (λ k. stops (get_or s k 0) (get_or s (k + 1) 47)) at
@@ -28,8 +29,8 @@ ends_shown s at l =
           (length-chunk (at + 1) 16 s (omega arith)) few);
     }
 
--- if s has more than 16 bytes from `at` on, and no bit of the mask of the lanes is set, the first
--- 16 of them are filler
+-- if s has more than 16 bytes from `at` on, and the mask of the `stop_lanes` of the first 16 of
+-- them, each with the byte after it as neighbour, is 0, then these 16 bytes are filler
 pub filler_block : (s : List ℕ) (at : ℕ) → at + 16 < length s
     → mask_of (stop_lanes (chunk at 16 s) (chunk (at + 1) 16 s)) ≡ 0
     → (k : ℕ) → at ≤ k → k < at + 16 → is_filler s k ≡ true

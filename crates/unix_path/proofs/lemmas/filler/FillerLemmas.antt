@@ -45,7 +45,7 @@ inner_parts_filler at (b ∷ s) l e =
     (λ is. ap (λ b. inner_parts at (b ∷ s)) is.0 ∙ inner_parts-dot_cut at s is.1)
     (filler_from b s e)
 
--- whether a byte is filler doesn't depend on the bytes before it
+-- whether the byte of s at i is filler doesn't depend on the bytes before it
 pub is_filler-drop : (s : List ℕ) (i : ℕ) → is_filler (drop i s) 0 ≡ is_filler s i
 is_filler-drop s i =
     let here : get_or (drop i s) 0 0 ≡ get_or s i 0 = get_or-drop i s 0 0
@@ -96,8 +96,8 @@ not_filler_parts (b ∷ s) l e =
     let neither = or_parts (eqb b 47) (eqb b 46 && eqb (get_or s 0 47) 47) e in
     (neither.0, first_piece_dot (b ∷ s) ∙ neither.1)
 
--- if s is not empty and doesn't begin with filler, its inner components are its first piece and
--- then the inner components of the bytes after this piece
+-- if s is not empty and doesn't begin with filler, its inner components are the component of its
+-- first piece, and then the inner components of the bytes after this piece
 pub inner_parts_not_filler : (at : ℕ) (s : List ℕ) → 0 < length s → is_filler s 0 ≡ false
     → inner_parts at s ≡ record
     { start = at; end = at + length (first_piece s); value = value_of_piece (first_piece s) }
@@ -106,8 +106,8 @@ inner_parts_not_filler at s l e =
     let is = not_filler_parts s l e in
     inner_parts-first at s ∙ rw (nonempty_first_piece s l is.0, is.1) refl
 
--- a string that doesn't begin with filler has neither a root nor a leading `.`, so its components
--- are its inner components
+-- if s is empty or doesn't begin with filler, it has neither a root nor a leading `.`, so its
+-- components are its inner components
 pub parts-not_filler : (s : List ℕ) → (0 < length s → is_filler s 0 ≡ false) → parts s
     ≡ inner_parts 0 s
 unfolding parts leading_part
@@ -118,8 +118,8 @@ parts-not_filler (b ∷ s) h =
     ∙ ap (λ t. cond t (record { start = 0; end = 1; value = CurDir } ∷ []) []) is.1 in
     ap (λ ps. ps ++ inner_parts 0 (b ∷ s)) none
 
--- a string that doesn't begin with filler has the same components at the beginning of a path as
--- after a slash
+-- if s doesn't begin with filler, it has the same components at the beginning of a path as after a
+-- slash
 pub values-not_filler : (s : List ℕ) → is_filler s 0 ≡ false → values s ≡ inner_values s
 unfolding values
 values-not_filler s not_filler =

@@ -10,8 +10,9 @@ use Rattle.unix_path.specs.Scan.{is_trailing}
 use Rattle.unix_path.proofs.lemmas.filler.DotLaneLemmas.{stops, goes_on, stop_lanes, Tells-stop}
 use Rattle.unix_path.proofs.lemmas.filler.TrimLemmas.{parts_trailing}
 
--- if `at` isn't 0, and s has at least 16 bytes from `at` on, the lanes of the first 16 of them show
--- which of these bytes are neither slashes nor dots after slashes
+-- if `at` isn't 0, and s has at least 16 bytes from `at` on, the `stop_lanes` of the first 16 of
+-- them, each with the byte before it as neighbour, show which of these 16 bytes are neither slashes
+-- nor dots after slashes
 ends_shown : (s : List ℕ) (at : ℕ) → 0 < at → at + 16 ≤ length s
     → TellFrom 16 (stop_lanes (chunk at 16 s) (chunk (at - 1) 16 s))
     (λ k. stops (get_or s k 0) (get_or s (k - 1) 0)) at
@@ -28,8 +29,9 @@ ends_shown s at some l =
           (length-chunk (at - 1) 16 s (omega arith)) few);
     }
 
--- if `at` isn't 0, s has at least 16 bytes from `at` on, and no bit of the mask of the lanes is
--- set, the first 16 of them are slashes, or dots after slashes
+-- if `at` isn't 0, s has at least 16 bytes from `at` on, and the mask of the `stop_lanes` of the
+-- first 16 of them, each with the byte before it as neighbour, is 0, then `is_trailing` is true for
+-- these 16 bytes
 pub trailing_block : (s : List ℕ) (at : ℕ) → 0 < at → at + 16 ≤ length s
     → mask_of (stop_lanes (chunk at 16 s) (chunk (at - 1) 16 s)) ≡ 0
     → (k : ℕ) → at ≤ k → k < at + 16 → is_trailing s k ≡ true

@@ -123,8 +123,8 @@ EndsInPart-take s n l ends some =
     rw (here, before, m) refl in
     same ∙ ends (omega arith)
 
--- the first `len` bytes of t, at most n, have the same components as the first n bytes, and are
--- empty or end in a component
+-- `len` is at most n, and the first `len` bytes of t have the same components as its first n bytes,
+-- and are empty or end in a component
 pub record TrimsTo (t : List ℕ) (n : ℕ) : Type 0 where
   pub len : ℕ
   pub in_range : len ≤ n

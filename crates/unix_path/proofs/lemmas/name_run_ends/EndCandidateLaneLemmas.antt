@@ -1,4 +1,5 @@
--- Searching many bytes at once for an end candidate. The separator is m, and the dot is p.
+-- Searching many bytes at once for an end candidate: the separator m before another m or before the
+-- dot p.
 use Rattle.std.proofs.Common.{◌≡◌, ℕ, ◌+◌, ◌<◌, ◌≤◌, eqb, ◌&&◌, ◌||◌, List, length, get_or, ap₂}
 use Rattle.std.proofs.Common.{subst, arith}
 use Rattle.std.specs.Simd.Lanes.{chunk}
@@ -14,7 +15,7 @@ abbrev candidate_lanes : ℕ → ℕ → ℕ → List ℕ → List ℕ → List 
 candidate_lanes n m p here next = both (hits n here m) (either (hits n next m) (hits n next p))
 
 -- if `here` and `next` have n bytes each, lane i of `candidate_lanes` shows whether byte i of
--- `here` is the separator, and byte i of `next` is the separator or the dot
+-- `here` is m, and byte i of `next` is m or p
 Tells-break : (n m p : ℕ) (here next : List ℕ) (i : ℕ) → length here ≡ n → length next ≡ n
     → i < n → Tells n (candidate_lanes n m p here next) i
     (eqb (get_or here i 0) m && (eqb (get_or next i 0) m || eqb (get_or next i 0) p))

@@ -1,4 +1,5 @@
--- Testing many bytes at once for a possible end candidate. The separator is m, and the dot is p.
+-- Testing many bytes at once for a possible end candidate: the separator m before another m or
+-- before the dot p.
 use Rattle.std.proofs.Common.{◌≡◌, ℕ, ◌+◌, ◌<◌, ◌≤◌, Bool, true, false, not, eqb, ◌&&◌, ◌||◌, List}
 use Rattle.std.proofs.Common.{length, get_or, bit_and, bit_or, refl, sym, ap, ap₂, subst, ◌∙◌}
 use Rattle.std.proofs.Common.{arith, eq-eqb, eqb-true}
@@ -52,7 +53,7 @@ zero_at m p x y h e = by (eqb x m) (eqb y m) (eqb y p) refl refl refl e
     by true false false i j k e = absurd (cc)
 
 -- if m and p have none of the bits of 208, and `(x ^ m) | (y & 208)` is not 0, then x followed by y
--- is no end candidate
+-- is no end candidate: x isn't m, or y is neither m nor p
 other_at : (m p x y : ℕ) → BothLackBits m p
     → eqb (bit_or (bit_xor x m) (bit_and y 208)) 0 ≡ false
     → (eqb x m && (eqb y m || eqb y p)) ≡ false
@@ -99,7 +100,7 @@ may_end_shown n m s at some low l =
     }
 
 -- if m and p have none of the bits of 208, n is 1 to 64, s has more than n bytes from `at` on, and
--- the mask of the lanes is 0, then none of the first n of these bytes is an end candidate
+-- the mask of `lanes` is 0, then none of the first n of these bytes is an end candidate
 pub none_told : (n m p : ℕ) (s : List ℕ) (at : ℕ) → BothLackBits m p → 0 < n → n ≤ 64
     → at + n + 1 ≤ length s → not (eqb (mask_of (lanes n m s at)) 0) ≡ false
     → (i : ℕ) → at ≤ i → i < at + n → is_end_candidate_of m p s i ≡ false
@@ -108,7 +109,7 @@ none_told n m p s at bits some low l none i from to =
     ((none_set (may_end_shown n m s at some low l)
     (eqb-true (mask_of (lanes n m s at)) 0 (negated _ none))).none_before i from to)
 
--- if `(x ^ m) | (y & 208)` is 0, x is the separator, and y has none of the bits of 208
+-- if `(x ^ m) | (y & 208)` is 0, then x is m, and y has none of the bits of 208
 near_at : (m x y : ℕ) → bit_or (bit_xor x m) (bit_and y 208) ≡ 0
     → (x ≡ m) × (bit_and y 208 ≡ 0)
 near_at m x y e =
@@ -118,9 +119,8 @@ near_at m x y e =
       omega (arith, e, le_or_r (bit_xor x m) (bit_and y 208)),
     )
 
--- if n is 1 to 64, s has more than n bytes from `at` on, and the mask of the lanes is not 0, then
--- one of the first n of these bytes is the separator, and the byte after it has none of the bits of
--- 208
+-- if n is 1 to 64, s has more than n bytes from `at` on, and the mask of `lanes` is not 0, then one
+-- of the first n of these bytes is m, and the byte after it has none of the bits of 208
 pub one_told : (n m : ℕ) (s : List ℕ) (at : ℕ) → 0 < n → n ≤ 64 → at + n + 1 ≤ length s
     → not (eqb (mask_of (lanes n m s at)) 0) ≡ true
     → (i : ℕ) × (at ≤ i) × (i < at + n) × IsRoughEndCandidate m s i

@@ -139,8 +139,8 @@ separator_or_no_byte m p s n h = ⊎_elim
     (λ past. get_or_past s n m past)
     (cases_lt n (length s))
 
--- if the first run of names in s ends at n, no byte of the string of the first n bytes of s ends a
--- run of names
+-- if the first run of names in s ends at n, no byte of the first n bytes of s, taken as a string of
+-- their own, ends a run of names
 pub no_end_before : (m p : ℕ) (s : List ℕ) (n : ℕ) → IsNameRunEnd m p s n
     → (i : ℕ) → i < length (take n s) → ends_name_run_of m p (take n s) i ≡ false
 no_end_before m p s n h i l =

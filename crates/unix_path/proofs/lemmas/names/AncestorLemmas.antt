@@ -90,8 +90,8 @@ length-ancestors_of s =
 abbrev ancestors_from : Option Path → List (List ℕ)
 ancestors_from next = option_map_or (λ path. ancestors_of path.bytes.now) next []
 
--- the ancestors of the optional path o are the paths that a walk over ancestors whose next path is
--- o yields
+-- a walk over ancestors whose next path is o (if any) yields the ancestors of o, or nothing if o is
+-- None
 ancestors_by-bytes : (o : Option Path)
     → ancestors_by (option_map (λ path. path.bytes.now) o) ≡ ancestors_from o
 ancestors_by-bytes None = refl

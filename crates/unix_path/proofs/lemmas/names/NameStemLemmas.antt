@@ -135,8 +135,8 @@ extension_of-nameless s e = by (file_name_of (values s)) refl
     by (Some name) is =
         absurd (none-some _ (e ∙ sym (name_end_of-some s name (length (rest s 0 0)) is refl)))
 
--- if the file name of s ends at `end`, and its stem ends at `stem`, which is `end`, s has no
--- extension
+-- if the file name of s ends at `end`, and the stem of the first `end` bytes of s ends at `stem`,
+-- which is `end`, then s has no extension
 pub extension_of-none : (s : List ℕ) (end stem : ℕ) → Some end ≡ name_end_of s
     → stem_end_of (take end s) ≡ Some stem → stem ≡ end → None ≡ extension_of (values s)
 extension_of-none s end stem e at same =
@@ -144,8 +144,9 @@ extension_of-none s end stem e at same =
     sym (extension-none h.name (omega (arith, h.end_is, h.stem_is)))
     ∙ ap (option_and_then (λ name. (split_name name).1)) h.is
 
--- if the file name of s ends at `end`, and its stem ends at `stem`, which is less than `end`, the
--- extension of s is the bytes from `stem` + 1 up to `end`
+-- if the file name of s ends at `end`, and the stem of the first `end` bytes of s ends at `stem`,
+-- which is less than `end`, then the extension of s is the bytes of s from `stem + 1` up to `end`,
+-- exclusive
 pub extension_of-some : (s : List ℕ) (end stem : ℕ) → Some end ≡ name_end_of s
     → stem_end_of (take end s) ≡ Some stem → stem < end
     → Some (drop (stem + 1) (take end s)) ≡ extension_of (values s)

@@ -40,12 +40,13 @@ no_dot b e = by_test (eqb b 46) (λ t. absurd (true≢false (rw t at e))) (λ f.
 no_slash : (b : ℕ) → (eqb b 46 || eqb b 47) ≡ false → eqb b 47 ≡ false
 no_slash b e = by_test (eqb b 46) (λ t. absurd (true≢false (rw t at e))) (λ f. rw f at e)
 
--- if every byte of s at index n or later is ordinary, and m is at least n, no byte of s at index m
--- or later is a dot
+-- if s has no dot and no slash at index n or later, and m is at least n, s has no dot at index m or
+-- later
 Dotless-ordinary : (s : List ℕ) (n m : ℕ) → OrdinaryFrom s n → n ≤ m → DotlessFrom s m
 Dotless-ordinary s n m ordinary l i from to = no_dot (get_or s i 0) (ordinary i (omega arith) to)
 
--- if s without its first n bytes is ordinary from index `past` on, s is ordinary from n + `past` on
+-- if s without its first n bytes has no dot and no slash at index `past` or later, s has neither at
+-- index `n + past` or later
 pub ordinary_behind : (s : List ℕ) (n past : ℕ) → n ≤ length s → OrdinaryFrom (drop n s) past
     → OrdinaryFrom s (n + past)
 ordinary_behind s n past l ordinary i from to =
@@ -55,8 +56,8 @@ ordinary_behind s n past l ordinary i from to =
     ap (λ b. eqb b 46 || eqb b 47) here
     ∙ ordinary (i - n) (omega arith) (omega (arith, length-drop n s))
 
--- if t, which is s without its first n bytes, is ordinary from index `past` on, and `place` is
--- `n + past`, then s is ordinary from `place` on
+-- if t, which is s without its first n bytes, has no dot and no slash at index `past` or later, and
+-- `place` is `n + past`, then s has neither at index `place` or later
 pub ordinary_from : (s t : List ℕ) (n past place : ℕ) → n ≤ length s → t ≡ drop n s
     → OrdinaryFrom t past
     → place ≡ n + past → OrdinaryFrom s place

@@ -103,8 +103,9 @@ pub begins_past : (v w x : List Value) → IsPrefixOf (v ++ w) (v ++ x) → IsPr
 begins_past [] w x h = h
 begins_past (y ∷ v) w x h = begins_past v w x (begins_tail y y (v ++ w) (v ++ x) h).1
 
--- if t and u are the rests of a and b after the same components, and begin with no filler, and
--- `AreApart` holds for t and u in `order`, then `AreApart` holds for a and b in `order`
+-- if t and u are the rests of a and b after the same components, and begin with no filler, and t
+-- doesn't start with u, and `order` is their order (`AreApart`), then a doesn't start with b, and
+-- `order` is the order of a and b
 pub apart-shared : {a b t u : List ℕ} {order : Ordering} → SharesPrefix a b t u
     → is_filler t 0 ≡ false → is_filler u 0 ≡ false → AreApart t u order → AreApart a b order
 apart-shared {a} {b} {t} {u} h busy_t busy_u apart = record {

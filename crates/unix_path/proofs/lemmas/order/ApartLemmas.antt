@@ -39,7 +39,8 @@ ranks_end (x ∷ a) (y ∷ b) zero is same = grind arith
 ranks_end (x ∷ a) (y ∷ b) (suc n) is same = grind (arith, ranks_end a b n)
 
 -- if a has the components v, then s, then ss, b has the components v, then t, then ts, and s and t
--- are in the order of the different numbers x and y, then a and b are apart, in this order
+-- are in the order of the different numbers x and y, then a doesn't start with b, and this is the
+-- order of a and b
 pub apart-values : {a b : List ℕ} (v : List Value) (s t : Value) (ss ts : List Value) (x y : ℕ)
     → values a ≡ v ++ s ∷ ss → values b ≡ v ++ t ∷ ts → value_cmp s t ≡ nat_cmp x y
     → (x ≡ y → ⊥) → AreApart a b (nat_cmp x y)
@@ -109,7 +110,7 @@ IsInName s n = (piece_rank s n ≡ 0 → ⊥) × (piece_rank s n ≡ 47 → ⊥)
 
 -- if a and b have different `piece_rank`s at their first difference n, and either both have a byte
 -- at n that is neither a slash nor a dot, or the bytes of the piece before n are neither none nor a
--- single dot, then a and b are apart, in the order of these ranks
+-- single dot, then a doesn't start with b, and these ranks decide the order of a and b
 apart-after : (a b : List ℕ) (n : ℕ) → n ≡ common_prefix_len eqb a b
     → (piece_rank a n ≡ piece_rank b n → ⊥)
     → ((k : ℕ) → is_piece_start a k ≡ true → k ≤ n → n ≤ k + 1 → (k < n → get_or a k 0 ≡ 46)
@@ -143,7 +144,7 @@ apart-after a b n is differs in_name =
     differs
 
 -- if a and b both have a byte at their first difference n, and these bytes are neither slashes nor
--- dots, then a and b are apart, in the order of these bytes
+-- dots, then a doesn't start with b, and these bytes decide the order of a and b
 pub apart-here : (a b : List ℕ) (n : ℕ) → n ≡ common_prefix_len eqb a b
     → (piece_rank a n ≡ 0 → ⊥) → (piece_rank a n ≡ 47 → ⊥)
     → (piece_rank b n ≡ 0 → ⊥) → (piece_rank b n ≡ 47 → ⊥)
@@ -153,7 +154,8 @@ apart-here a b n is end_a dot_a end_b dot_b =
     (λ k _ _ _ _. ((end_a, dot_a), (end_b, dot_b)))
 
 -- if a and b have different `piece_rank`s at their first difference n, and the bytes of the piece
--- before n are neither none nor a single dot, then a and b are apart, in the order of these ranks
+-- before n are neither none nor a single dot, then a doesn't start with b, and these ranks decide
+-- the order of a and b
 pub apart-inside : (a b : List ℕ) (n : ℕ) → n ≡ common_prefix_len eqb a b
     → is_piece_start a n ≡ false → (get_or a (n - 1) 0 ≡ 46 → is_piece_start a (n - 1) ≡ false)
     → (piece_rank a n ≡ piece_rank b n → ⊥)

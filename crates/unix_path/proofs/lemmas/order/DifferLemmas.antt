@@ -42,8 +42,8 @@ pub record Counts (p q : List ℕ) : Type 0 where
   pub counts : (bytes_eq (p ++ q) [] || bytes_eq (p ++ q) cur_dir) ≡ false
   pub parent : bytes_eq (p ++ q) parent_dir ≡ true → head_rank q ≡ 0
 
--- if p is neither empty nor a dot, or q is not empty and begins with a byte that isn't a dot,
--- `Counts` holds for p and q
+-- if p is neither empty nor a dot, or q is not empty and begins with a byte that isn't a dot, then
+-- the piece `p ++ q` is neither empty nor `.`, and if it is `..`, q is empty (`Counts`)
 pub counts_from : (p q : List ℕ) → (length p ≤ 1 → get_or p 0 46 ≡ 46
     → (head_rank q ≡ 0 → ⊥) × (head_rank q ≡ 47 → ⊥)) → Counts p q
 counts_from [] [] h = absurd ((h (omega arith) refl).0 refl)

@@ -88,7 +88,8 @@ no_root x y a b n is dot same =
     (first, grind (arith, first_rank_of (x ∷ a), first_rank_of (y ∷ b)))
 
 -- if a and b differ at their start, at byte n, their first components are of the same kind, and b
--- isn't empty, then a and b are apart, in the order of their `piece_rank`s at n
+-- isn't empty, then a doesn't start with b, and the `piece_rank`s of a and b at n decide their
+-- order
 first_parts-same : (a b : List ℕ) (n : ℕ) → n ≡ common_prefix_len eqb a b → DiffersAtStart a b n
     → first_rank (values a) ≡ first_rank (values b) → 0 < length b
     → AreApart a b (nat_cmp (piece_rank a n) (piece_rank b n))

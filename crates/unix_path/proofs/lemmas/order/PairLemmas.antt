@@ -91,8 +91,8 @@ pub record CutsAt (a b : List ℕ) (k : ℕ) : Type 0 where
   pub in_second : k ≤ length b
   pub shares : 0 < k → SharesPrefix a b (drop k a) (drop k b)
 
--- if the common prefix of a and b has n bytes, k is at most n, and both a and b can be cut at k,
--- then `CutsAt` holds for a, b and k
+-- if the common prefix of a and b has n bytes, k is at most n, and a piece of a and a piece of b
+-- begin or end at k, then a and b can be cut at k, after the same components (`CutsAt`)
 pub cuts : (a b : List ℕ) (n k : ℕ) → IsCommonPrefixLen a b n → k ≤ n → CanCut a k → CanCut b k
     → CutsAt a b k
 unfolding values
@@ -117,7 +117,7 @@ cuts a b n k alike l first second =
     }
 
 -- if a and b have the same `piece_rank` at their first difference n, where a piece of each then
--- ends, `CutsAt` holds for a, b and n
+-- ends, a and b can be cut at n, after the same components (`CutsAt`)
 pub cuts-ends : (a b : List ℕ) (n : ℕ) → IsCommonPrefixLen a b n → piece_rank a n ≡ piece_rank b n
     → CutsAt a b n
 cuts-ends a b n alike same =
@@ -125,7 +125,7 @@ cuts-ends a b n alike same =
     cuts a b n n alike (omega arith) (inr end) (inr (sym same ∙ end))
 
 -- if the common prefix of a and b has n bytes, k is at most n, and a piece of a, and so of b,
--- begins at k, then `CutsAt` holds for a, b and k
+-- begins at k, then a and b can be cut at k, after the same components (`CutsAt`)
 pub cuts-begins : (a b : List ℕ) (n k : ℕ) → IsCommonPrefixLen a b n → k ≤ n → is_piece_start a k
     ≡ true
     → CutsAt a b k

@@ -123,8 +123,8 @@ pub record IsFirst (t : List ℕ) (e n : ℕ) (v : Value) : Type 0 where
   pub parts_are : parts t ≡ record { start = 0; end = e; value = v } ∷ inner_parts n (drop n t)
   pub not_filler : n < length t → is_filler t n ≡ false
 
--- if the first component of t is v and ends at e, and exactly d bytes of filler follow it,
--- `IsFirst` holds for t, e, e + d and v
+-- if the first component of t is v and ends at e, and exactly d bytes of filler follow it, then
+-- `IsFirst` holds for t, e, `e + d` and v: this filler ends at `e + d`
 pub is_first : (t : List ℕ) (e d : ℕ) (v : Value) → e ≤ length t
     → parts t ≡ record { start = 0; end = e; value = v } ∷ inner_parts e (drop e t)
     → d ≤ length (drop e t)
