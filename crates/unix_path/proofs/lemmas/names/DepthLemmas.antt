@@ -6,7 +6,8 @@ use Rattle.unix_path.specs.Parts.{Value, RootDir, CurDir, ParentDir, Normal, val
 use Rattle.unix_path.specs.Parents.{depth_of}
 use Rattle.unix_path.proofs.lemmas.rests.RootLemmas.{root_count, root_count-values, root_last}
 
--- a list of components contains at least as many components as roots
+-- `root_count vs`, which is 1 if vs begins with the root and otherwise 0, is at most the length of
+-- vs
 root_count-le : (vs : List Value) → root_count vs ≤ length vs
 root_count-le [] = omega arith
 root_count-le (RootDir ∷ vs) = omega arith
@@ -14,7 +15,7 @@ root_count-le (CurDir ∷ vs) = omega arith
 root_count-le (ParentDir ∷ vs) = omega arith
 root_count-le (Normal name ∷ vs) = omega arith
 
--- appending a component that is not the root doesn't change the number of roots
+-- if v is not the root, appending v to vs doesn't change whether vs begins with the root
 root_count-push : (vs : List Value) (v : Value) → (v ≡ RootDir → ⊥)
     → root_count (vs ++ v ∷ []) ≡ root_count vs
 root_count-push [] RootDir differs = absurd (differs refl)

@@ -1,5 +1,5 @@
--- Two strings whose order is decided by the bytes at their first difference. Two strings are called
--- apart, in an order, if `AreApart` holds for them and this order.
+-- Two strings whose order is decided by the bytes at their first difference. `AreApart` says that
+-- the first string doesn't start with the second, and in which order they are.
 use Rattle.std.proofs.Common.{◌≡◌, ℕ, zero, suc, ◌+◌, ◌-◌, ◌<◌, ◌≤◌, ◌||◌, true, false, eqb, List}
 use Rattle.std.proofs.Common.{[], ◌∷◌, ◌++◌, length, get_or, take, drop, map, refl, sym, ap, ◌∙◌}
 use Rattle.std.proofs.Common.{arith, take-append-drop, append_assoc, get_or-drop, length-drop}

@@ -11,22 +11,22 @@ use Rattle.unix_path.proofs.lemmas.steps.LastLemmas.{last_part, last_start, IsLa
 use Rattle.unix_path.proofs.lemmas.lists.SuffixLemmas.{ends_last}
 use Rattle.unix_path.proofs.lemmas.parts.ValueLemmas.{first_value, value_bytes-first}
 
--- if n is less than k, the byte of s before its last n bytes is one of the last k bytes of s, at
--- index k - 1 - n among them
+-- if n is less than k, the byte of s just before its last n bytes is one of the last k bytes of s,
+-- at index `k - 1 - n` among them
 from_end : (s : List ℕ) (n k : ℕ) → n < k → k ≤ length s
     → get_or s (length s - 1 - n) 0 ≡ get_or (drop (length s - k) s) (k - 1 - n) 0
 from_end s n k more inside = grind (arith, get_or-drop)
 
--- if a and b have a common suffix of k bytes, and n is less than k, the bytes before the last n
--- bytes of a and of b are the same
+-- if a and b have a common suffix of k bytes without a slash, and n is less than k, the byte just
+-- before the last n bytes of a equals the byte just before the last n bytes of b
 pub same_end_byte : (a b : List ℕ) (n k : ℕ) → HasCommonSuffix a b k → n < k
     → get_or a (length a - 1 - n) 0 ≡ get_or b (length b - 1 - n) 0
 same_end_byte a b n k h more =
     from_end a n k more h.in_first ∙ ap (λ w. get_or w (k - 1 - n) 0) h.same
     ∙ sym (from_end b n k more h.in_second)
 
--- if a and b have a common suffix of k bytes, none of which is a slash, and n is less than k, the
--- byte before the last n bytes of a is not a slash
+-- if a and b have a common suffix of k bytes without a slash, and n is less than k, the byte just
+-- before the last n bytes of a is not a slash
 pub same_end_no_slash : (a b : List ℕ) (n k : ℕ) → HasCommonSuffix a b k → n < k
     → get_or a (length a - 1 - n) 0 ≡ 47 → ⊥
 same_end_no_slash a b n k h more slash =
@@ -34,7 +34,7 @@ same_end_no_slash a b n k h more slash =
     let none = fails_before_first is_slash (drop (length a - k) a) (k - 1 - n) 0 in
     grind (arith, slash, is, none, h.no_slash)
 
--- the two lemmas above, about the byte before the last n bytes in a longer common suffix
+-- the two lemmas above, about the byte just before the last n bytes
 pub ruleset longer_ends = (same_end_byte, same_end_no_slash)
 
 -- if the last k bytes of s contain no slash, and a piece begins with them, they are the last piece
@@ -68,9 +68,9 @@ last_is s start h ends =
     ap (map (λ (p : Part). p.value)) all
     ∙ map-append (λ (p : Part). p.value) (parts (take start s)) _
 
--- if a and b end in their last components, and a piece begins in both where their common suffix of
--- k bytes begins, then the components of a and b are those of the bytes before this suffix, each
--- followed by the same components
+-- if a and b end in their last components, have a common suffix of k bytes without a slash, and a
+-- piece of each begins where this suffix begins, then the components of a and b are those of the
+-- bytes before this suffix, each followed by the same components
 pub shares_last : (a b : List ℕ) (k : ℕ) → EndsInPiece a → EndsInPiece b → HasCommonSuffix a b k
     → is_piece_start a (length a - k) ≡ true → is_piece_start b (length b - k) ≡ true
     → SharesSuffix (values a) (values b) (values (take (length a - k) a))
@@ -85,7 +85,7 @@ shares_last a b k first second h begins_a begins_b =
     }
 
 -- if a and b end in their last components, k is the length of their longest common suffix without a
--- slash, and the components of a end with the components of b, then a piece begins in both where
+-- slash, and the components of a end with the components of b, then a piece of each begins where
 -- this suffix begins
 pub ends_longest : (a b : List ℕ) (k : ℕ) → EndsInPiece a → EndsInPiece b → HasCommonSuffix a b k
     → ((n : ℕ) → HasCommonSuffix a b n → n ≤ k) → IsSuffixOf (values b) (values a)

@@ -86,7 +86,7 @@ IsCut-drop (x ∷ xs) = by_test (eqb x 47)
     (λ e. subst (λ n. IsCut (drop n (x ∷ xs))) (sym (position_or_len-other x xs e))
     (subst IsCut (sym (drop-suc_cons (position_or_len is_slash xs) x xs)) (IsCut-drop xs)))
 
--- if s is not empty and contains no slash, it doesn't begin with one
+-- if s is not empty and contains no slash, its first byte isn't a slash
 pub no_slash_head : (s : List ℕ) → position_or_len is_slash s ≡ length s → 0 < length s
     → eqb (get_or s 0 0) 47 ≡ false
 no_slash_head [] e l = absurd (omega arith)
@@ -108,8 +108,8 @@ abbrev pub parts_of_piece : ℕ → List ℕ → List Part
 parts_of_piece at p = cond (counts p)
     (record { start = at; end = at + length p; value = value_of_piece p } ∷ []) []
 
--- if s is empty or begins with a slash, the components of the pieces after this slash are the inner
--- components of s
+-- if s is empty or begins with a slash, the components of the pieces after this slash (none if s is
+-- empty) are the inner components of s
 parts_of_pieces-later_pieces : (at : ℕ) (s : List ℕ) → IsCut s
     → parts_of_pieces (at + 1) (later_pieces s) ≡ inner_parts at s
 unfolding inner_parts

@@ -26,8 +26,8 @@ pub record SplitsFirst (t : List ℕ) : Type 0 where
   pub in_range : len ≤ length t
   pub is : parts t ≡ first ∷ map (part_at len) (parts (drop len t))
 
--- if the first component of t ends at e, and the other components are the inner components of t
--- from e on, `SplitsFirst` holds
+-- if the first component of t ends at e, which isn't 0, and the other components are the inner
+-- components of t from e on, then t can be split after its first component (`SplitsFirst`)
 splits_at : (t : List ℕ) (e : ℕ) (v : Value) → 0 < e → e ≤ length t
     → parts t ≡ record { start = 0; end = e; value = v } ∷ inner_parts e (drop e t) → SplitsFirst t
 splits_at t e v some l is =
