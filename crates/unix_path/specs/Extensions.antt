@@ -10,7 +10,7 @@ use Rattle.unix_path.specs.Edits.{last_start_of}
 use Rattle.unix_path.specs.declared.buf.extensions.ExtensionError.{ExtensionError}
 use Rattle.unix_path.specs.declared.buf.extensions.ExtensionError.TheVariants.{Separator, Memory}
 
--- one of the bytes of s is a slash
+-- at least one of the bytes of s is a slash
 abbrev pub has_slash : List ℕ → Bool
 has_slash s = list_any is_slash s
 

@@ -10,11 +10,11 @@ abbrev pub name_of : Value → Option (List ℕ)
 name_of (Normal name) = Some name
 name_of _ = None
 
--- the bytes of the last value, if it is a name; otherwise None
+-- the bytes of the last of these values, if it is a name; otherwise None
 unfoldable pub file_name_of : List Value → Option (List ℕ)
 file_name_of vs = option_and_then name_of (last_or None vs)
 
--- the index just after the last byte that passes p, or 0 if none does
+-- the index just after the last byte of s that passes p, or 0 if no byte of s does
 abbrev pub after_last : (ℕ → Bool) → List ℕ → ℕ
 after_last p s = length s - suffix_len (λ b. not (p b)) s
 

@@ -23,7 +23,7 @@ kind_rank CurDir = 2
 kind_rank ParentDir = 3
 kind_rank Name = 4
 
--- the position of the first value's kind, or 0 if there is no value
+-- the position of the kind of the first of these values, or 0 if there is none
 abbrev pub first_rank : List Value → ℕ
 first_rank [] = 0
 first_rank (v ∷ vs) = 1 + rank v

@@ -16,8 +16,8 @@ use Rattle.unix_path.specs.Steps.{TakesLast}
 use Rattle.unix_path.proofs.lemmas.parts.ValueLemmas.{first_value}
 use Rattle.unix_path.proofs.lemmas.steps.StepLemmas.{takes_last}
 
--- if s ends in a component, its last piece isn't empty, and s isn't `.`, then its last piece isn't
--- `.`
+-- if s ends in a component and isn't `.`, and the last piece of s isn't empty, then this piece
+-- isn't `.`
 no_dot_piece : (s : List ℕ) (start : ℕ) → IsLastStart s start → start < length s → EndsInPart s
     → bytes_eq s cur_dir ≡ false → bytes_eq (drop start s) cur_dir ≡ false
 no_dot_piece s zero h l ends no_dot = no_dot
@@ -52,8 +52,8 @@ no_parent_piece s start h l no_parent =
     absurd (both_ways _ no_parent hit))
     (λ e. e)
 
--- if s ends in a component, its last piece isn't empty, s isn't `.`, and its last piece isn't `..`,
--- then this piece is a name
+-- if s ends in a component and isn't `.`, and the last piece of s is neither empty nor `..`, then
+-- this piece is a name
 pub last_name : (s : List ℕ) (start : ℕ) → IsLastStart s start → start < length s → EndsInPart s
     → bytes_eq s cur_dir ≡ false → ends_with_parent_dir s ≡ false
     → first_value (drop start s) ≡ Normal (drop start s)

@@ -19,7 +19,7 @@ use Rattle.unix_path.specs.declared.cursor.walk.Components.{Components}
 use Rattle.unix_path.specs.declared.cursor.iter.Iter.{Iter}
 use Rattle.unix_path.specs.Steps.{IsWalk}
 
--- the rest of a walk is no longer than its source
+-- the rest of the walk c is no longer than the source of c
 pub length-cursor_rest : (c : Components) → length (cursor_rest c) ≤ length (cursor_source c).now
 unfolding cursor_rest
 length-cursor_rest c = omega (
@@ -55,13 +55,13 @@ GivesLast-none c none =
       start_is = refl;
     }
 
--- a cursor yields its components in order
+-- a cursor yields the components that remain in it, in order
 pub Components-yields : (s : Components) → YieldsList GivesFirstPart value_of s (cursor_values s)
 Components-yields s =
     YieldsList-from_shown GivesFirstPart value_of cursor_values (λ s t h. ap length h.item_is.0)
     (λ s x t h. h.item_is) s
 
--- after `rev` an `Iter` yields the bytes of its components in reverse order
+-- after `rev`, an `Iter` yields the bytes of each component that remains in it, in reverse order
 Rev-yields : (s : Rev Iter)
     → YieldsList (rev_steps GivesLastName) name_bytes s (reverse (iter_bytes (rev_source s)))
 Rev-yields s =
@@ -71,7 +71,7 @@ Rev-yields s =
     (λ s x t h. ap reverse h.item_is
     ∙ reverse-append (iter_bytes (rev_source t)) (name_bytes x ∷ [])) s
 
--- the `rev` of c yields the bytes of the components of c in reverse order
+-- if s is the `rev` of c, s yields the bytes of each component that remains in c, in reverse order
 pub Iter-yields_back : {s : Rev Iter} {c : Iter} → rev_source s ≡ c
     → YieldsList (rev_steps GivesLastName) name_bytes s (reverse (iter_bytes c))
 Iter-yields_back {s} e =
