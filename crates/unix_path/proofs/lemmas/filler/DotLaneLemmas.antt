@@ -8,7 +8,8 @@ use Rattle.unix_bytes.proofs.lemmas.vectors.TestLaneLemmas.{Tells-tested, Tells-
 abbrev pub stops : ℕ → ℕ → Bool
 stops x y = not (eqb x 47) && (not (eqb x 46) || not (eqb y 47))
 
--- if `stops` is false for byte x and its neighbour y, x is a slash, or a dot next to a slash
+-- if `stops` is false for byte x and its neighbour y, then x is a slash, or x is a dot and y is a
+-- slash
 pub goes_on : (x y : ℕ) → stops x y ≡ false → (eqb x 47 || (eqb x 46 && eqb y 47)) ≡ true
 goes_on x y = by (eqb x 47) (eqb x 46) (eqb y 47)
   where

@@ -52,11 +52,11 @@ is_filler-drop s i =
     ∙ ap (λ k. get_or s k 0) {x = i + 0} {y = i} (omega arith) in
     ap₂ (λ b next. eqb b 47 || (eqb b 46 && eqb next 47)) here (get_or-drop i s 1 47)
 
--- a slash is filler
+-- if the byte of s at i is a slash, `is_filler` is true for it
 pub filler_slash : (s : List ℕ) (i : ℕ) → get_or s i 0 ≡ 47 → is_filler s i ≡ true
 filler_slash s i e = rw e refl
 
--- a `.` followed by a slash or the end is filler
+-- if the byte of s at i is a `.` before a slash or the end of s, `is_filler` is true for it
 pub filler_dot : (s : List ℕ) (i : ℕ) → get_or s i 0 ≡ 46 → get_or s (i + 1) 47 ≡ 47
     → is_filler s i ≡ true
 filler_dot s i e next = rw (e, next) refl

@@ -46,7 +46,8 @@ parts-slash_dot x =
     parts-append x (46 ∷ []) ∙ ap (λ ps. parts (x ++ 47 ∷ []) ++ ps) (inner_parts-dot _)
     ∙ append-nil (parts (x ++ 47 ∷ []))
 
--- a byte for which `is_trailing` is true is not the first, and is a slash, or a `.` after a slash
+-- if `is_trailing` is true for the byte of s at i, then i is not 0, and this byte is a slash, or a
+-- `.` just after a slash
 trailing_from : (s : List ℕ) (i : ℕ) → is_trailing s i ≡ true
     → (0 < i) × ((get_or s i 0 ≡ 47) ⊎ ((get_or s i 0 ≡ 46) × (get_or s (i - 1) 0 ≡ 47)))
 trailing_from s i e =

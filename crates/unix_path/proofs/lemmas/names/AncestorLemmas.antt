@@ -21,8 +21,8 @@ use Rattle.unix_bytes.proofs.lemmas.lists.ListLemmas.{Snoc, Empty, Push, snoc}
 abbrev pub ancestors_by : Option (List ℕ) → List (List ℕ)
 ancestors_by parent = option_map_or ancestors_of parent []
 
--- for each of the n numbers m from a on, removing m + 1 trailing components is the same as removing
--- the last component and then m more
+-- for each of the n numbers m from a on, removing m + 1 trailing components of s is the same as
+-- removing the last component of s and then m more
 shift : (s : List ℕ) (a n : ℕ) → map (λ m. rest s 0 m) (range_with_len (a + 1) n)
     ≡ map (λ m. rest (rest s 0 1) 0 m) (range_with_len a n)
 shift s a zero = refl
@@ -80,7 +80,7 @@ pub ancestors_of-above : (s parent : List ℕ) → parent_of s ≡ Some parent
     → ancestors_of s ≡ s ∷ ancestors_of parent
 ancestors_of-above s parent e = ancestors_of-parent s ∙ ap (λ o. s ∷ ancestors_by o) e
 
--- a path of n bytes has at most n + 1 ancestors, including itself
+-- s has at most one ancestor more than it has bytes, counting s itself as an ancestor
 pub length-ancestors_of : (s : List ℕ) → length (ancestors_of s) ≤ length s + 1
 unfolding ancestors_of
 length-ancestors_of s =

@@ -52,7 +52,7 @@ split_name-cut name n e l =
     rw (lt-ltb 1 (after_last is_dot name) (omega arith))
     (ap (λ k. (take (k - 1) name, Some (drop k name))) (sym e))
 
--- a stem is a prefix of its name
+-- the stem of `name` is a prefix of `name`
 pub split_name-stem : (name : List ℕ)
     → take (length (split_name name).0) name ≡ (split_name name).0
 unfolding split_name

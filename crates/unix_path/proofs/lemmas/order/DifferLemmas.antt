@@ -16,12 +16,12 @@ use Rattle.unix_path.proofs.lemmas.parts.PieceLemmas.{first_piece-slash}
 pub rank_end : (s : List ℕ) (i : ℕ) → piece_rank s i ≡ 0 → get_or s i 47 ≡ 47
 rank_end s i e = grind arith
 
--- one more than the first byte of a piece, or 0 if the piece is empty
+-- the first byte of a piece, plus 1; or 0 if the piece is empty
 abbrev pub head_rank : List ℕ → ℕ
 head_rank [] = 0
 head_rank (b ∷ p) = 1 + b
 
--- `head_rank` of the piece that starts at n is `piece_rank s n`
+-- the `head_rank` of the bytes of s from n up to the next slash is `piece_rank s n`
 pub head_rank-drop : (s : List ℕ) (n : ℕ) → head_rank (first_piece (drop n s)) ≡ piece_rank s n
 head_rank-drop [] zero = refl
 head_rank-drop [] (suc n) = refl

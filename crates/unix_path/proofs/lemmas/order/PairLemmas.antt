@@ -33,7 +33,7 @@ use Rattle.unix_path.specs.declared.pair.Kind.{Kind}
 use Rattle.unix_path.specs.declared.pair.Kind.TheVariants.{Nothing, RootDir, CurDir, ParentDir}
 use Rattle.unix_path.specs.declared.pair.Kind.TheVariants.{Name}
 
--- an index at which no piece begins is not 0
+-- if no piece of s begins at i, i is not 0
 pub inside_piece : (s : List ℕ) (i : ℕ) → is_piece_start s i ≡ false → 0 < i
 inside_piece s i e = omega (arith, eqb-false i 0 (or_parts (eqb i 0) _ e).0)
 

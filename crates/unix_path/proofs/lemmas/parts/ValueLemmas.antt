@@ -22,12 +22,12 @@ pub value_bytes-first : (p : List ℕ) → value_bytes (first_value p) ≡ p
 value_bytes-first p = by_test (bytes_eq p cur_dir)
     (λ e. rw e (sym ((bytes_eq-Decides p cur_dir).0 e))) (λ e. rw e (value_bytes-piece p))
 
--- the component of a piece is not the root
+-- the component of the piece p is not the root
 pub no_root_piece : (p : List ℕ) → value_of_piece p ≡ RootDir → ⊥
 no_root_piece p =
     by_test (bytes_eq p parent_dir) (λ e. rw e (λ h. cc)) (λ e. rw e (λ h. cc))
 
--- the component of a piece at the beginning of a string is not the root
+-- the component of a piece p at the beginning of a string is not the root
 pub no_root_first : (p : List ℕ) → first_value p ≡ RootDir → ⊥
 no_root_first p = by_test (bytes_eq p cur_dir) (λ e. rw e (λ h. cc)) (λ e. rw e (no_root_piece p))
 

@@ -70,7 +70,7 @@ pub middle_of-at : (s : List ℕ) (m : ℕ) → (middle_of s 0 m).at ≡ 0
 unfolding middle_of drops_to
 middle_of-at s m = refl
 
--- if no leading component is removed, the rest is a prefix of s
+-- `rest s 0 m`, from which no leading component is removed, is a prefix of s
 pub take-rest : (s : List ℕ) (m : ℕ) → take (length (rest s 0 m)) s ≡ rest s 0 m
 take-rest s m =
     let h = middle_of s 0 m in

@@ -27,14 +27,14 @@ NoRoot (Normal name ∷ vs) = NoRoot vs
 no_root_cons : (p : List ℕ) (vs : List Value) → NoRoot vs → NoRoot (value_of_piece p ∷ vs)
 no_root_cons p vs h = by_test (bytes_eq p parent_dir) (λ e. rw e h) (λ e. rw e h)
 
--- none of the components of pieces is the root
+-- none of the components of the pieces ps is the root
 no_root_pieces : (at : ℕ) (ps : List (List ℕ)) → NoRoot (map (λ p. p.value) (parts_of_pieces at ps))
 no_root_pieces at [] = tt
 no_root_pieces at (p ∷ ps) =
     let next = no_root_pieces (at + length p + 1) ps in
     by_test (counts p) (λ e. rw e (no_root_cons p _ next)) (λ e. rw e next)
 
--- none of the inner components is the root
+-- none of the inner components of s is the root
 no_root_inner : (at : ℕ) (s : List ℕ) → NoRoot (map (λ p. p.value) (inner_parts at s))
 unfolding inner_parts
 no_root_inner at s = no_root_pieces at (slice_split is_slash s)
@@ -73,7 +73,7 @@ IsPrefixOf-root [] e = absurd (let d : false ≡ true = e in cc)
 IsPrefixOf-root (RootDir ∷ vs) e = (vs, refl)
 IsPrefixOf-root (v ∷ vs) e = absurd (let d : false ≡ true = e in cc)
 
--- a path is rooted if and only if its components begin with the root
+-- s is rooted if and only if the components of s begin with the root
 pub rooted-IsPrefixOf : (s : List ℕ) (r : Bool) → r ≡ is_rooted s
     → r ≡ true ↔ IsPrefixOf (RootDir ∷ []) (values s)
 rooted-IsPrefixOf s r e = (
@@ -85,7 +85,7 @@ rooted-IsPrefixOf s r e = (
 abbrev pub root_count : List Value → ℕ
 root_count vs = cond (root_first vs) 1 0
 
--- `root_count` of a path's components is 1 if the path is rooted, and otherwise 0
+-- `root_count` of the components of s is 1 if s is rooted, and otherwise 0
 pub root_count-values : (s : List ℕ) → cond (is_rooted s) 1 0 ≡ root_count (values s)
 root_count-values s = ap (λ c. cond c 1 0) (sym (root_first-values s))
 

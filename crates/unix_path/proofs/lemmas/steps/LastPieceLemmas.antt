@@ -106,7 +106,7 @@ starts_parent s e =
       ap first_value is,
     )
 
--- the last piece of `.` is `.`, and begins at index 0
+-- if s is `.`, its last piece begins at index 0 and is the component `.`
 pub starts_dot : (s : List ℕ) → bytes_eq s cur_dir ≡ true
     → IsLastStart s 0 × (first_value (drop 0 s) ≡ CurDir)
 starts_dot s e =

@@ -13,15 +13,15 @@ use Rattle.unix_path.proofs.lemmas.rests.RestLemmas.{rest-rest}
 use Rattle.unix_path.specs.CallsMixed.{GivesMixed}
 
 module _ {S A V : Type 0} (shows : A → V) (pending : S → List V) where
-  -- the item that a call of `next` returned, and then the items that remain after the call, are the
-  -- items that remained before
+  -- the item that a call of `next` returned, if any, and then the items that remain after the call,
+  -- are the items that remained before
   first_taken : (s t : S) (item : Option A) → YieldsFirstBy shows pending s item t
       → map shows (option_to_list item) ++ pending t ≡ pending s
   first_taken s t None h = h.1 ∙ sym h.0
   first_taken s t (Some x) h = sym h
 
-  -- the items that remain after a call of `next_back`, and then the item that the call returned,
-  -- are the items that remained before
+  -- the items that remain after a call of `next_back`, and then the item that the call returned, if
+  -- any, are the items that remained before
   last_taken : (s t : S) (item : Option A) → YieldsLastBy shows pending s item t
       → pending t ++ reverse (map shows (option_to_list item)) ≡ pending s
   last_taken s t None h = append-nil (pending t) ∙ h.1 ∙ sym h.0
