@@ -26,7 +26,7 @@ IsInner CurDir = ⊥
 IsInner ParentDir = Unit {0}
 IsInner (Normal name) = Unit {0}
 
--- the parts of pieces, without their positions, are inner components
+-- the components of the pieces ps, where the first piece begins at index `at`, are inner components
 inner_pieces : (at : ℕ) (ps : List (List ℕ))
     → AllByRecursion IsInner (map (λ p. p.value) (parts_of_pieces at ps))
 inner_pieces at [] = tt
@@ -42,7 +42,7 @@ inner_values-inner : (s : List ℕ) → AllByRecursion IsInner (inner_values s)
 unfolding inner_parts
 inner_values-inner s = inner_pieces 0 (slice_split is_slash s)
 
--- the first component is neither the root nor a `.`
+-- the list of components vs doesn't begin with the root or a `.`
 pub record HasNoLead (vs : List Value) : Type 0 where
   pub no_lead : drop_leading vs ≡ vs
   pub no_root : root_first vs ≡ false
@@ -68,8 +68,8 @@ dot_first (p ∷ ps) = bytes_eq p cur_dir
 abbrev pub lead_by : Bool → Bool → List Value
 lead_by rooted dotted = cond rooted (RootDir ∷ []) (cond dotted (CurDir ∷ []) [])
 
--- the leading part, without its position, is the root if there is one, or else a leading `.` if
--- there is one
+-- the leading part of s, without its position, is the root if s is rooted, or else a `.` if the
+-- first piece of s is `.`, or else nothing
 leading_values : (s : List ℕ)
     → map (λ (p : Part). p.value) (leading_part s) ≡ lead_by (is_rooted s)
     (dot_first (slice_split is_slash s))
@@ -83,7 +83,8 @@ pub values-lead : (s : List ℕ)
     → values s ≡ lead_by (is_rooted s) (dot_first (slice_split is_slash s)) ++ inner_values s
 values-lead s = values-leading s ∙ ap (λ vs. vs ++ inner_values s) (leading_values s)
 
--- if vs doesn't begin with the root or a `.`, removing the leading component before vs leaves vs
+-- if vs doesn't begin with the root or a `.`, then `lead_by c d` followed by vs, without a leading
+-- root or `.`, is vs
 drop_leading-lead_by : (c d : Bool) (vs : List Value) → HasNoLead vs
     → drop_leading (lead_by c d ++ vs) ≡ vs
 drop_leading-lead_by true d vs h = refl
@@ -145,23 +146,23 @@ append_values-some s b l =
     let some = some_values s l in
     rw (some.2, drop_leading-values b) refl
 
--- if u is empty or ends in a slash, the bytes b after it add their components, without a leading
--- root or `.` unless u is empty
+-- if u is empty or ends in a slash, u followed by b has the components of u and then those of b,
+-- without a leading root or `.` unless u is empty
 pub values-append_open : (u b : List ℕ) → needs_no_separator u ≡ true
     → values (u ++ b) ≡ append_values (values u) (values b)
 values-append_open [] b o = rw values-nil refl
 values-append_open (x ∷ u) b o =
     values-open (x ∷ u) b o (omega arith) ∙ append_values-some (x ∷ u) b (omega arith)
 
--- a join with a rootless path b has the components of a, and then those of b, without a leading `.`
--- unless a is empty
+-- if b has no root, the join of a and b has the components of a and then those of b, without a
+-- leading `.` unless a is empty
 pub values-join_of_rootless : (a b : List ℕ) → is_rooted b ≡ false
     → values (join_of a b) ≡ append_values (values a) (values b)
 values-join_of_rootless [] b r = rw (join_of-nil b, values-nil) refl
 values-join_of_rootless (x ∷ a) b r =
     values-join_of (x ∷ a) b (omega arith) r ∙ append_values-some (x ∷ a) b (omega arith)
 
--- a join with a rootless path b has the components of a, followed by `values_added a b`
+-- if b has no root, the join of a and b has the components of a, followed by `values_added a b`
 pub values-join_of_values_added : (a b : List ℕ) → is_rooted b ≡ false
     → values (join_of a b) ≡ values a ++ values_added a b
 values-join_of_values_added [] b r =
@@ -173,7 +174,7 @@ values-join_of_values_added (x ∷ a) b r = values-join_of (x ∷ a) b (omega ar
 pub roots_same : (s t : List ℕ) → values s ≡ values t → is_rooted s ≡ is_rooted t
 roots_same s t e = sym (root_first-values s) ∙ ap root_first e ∙ root_first-values t
 
--- equal paths, joined to equal paths, are equal
+-- if a and b are equal paths, and so are c and d, the join of a and c equals the join of b and d
 pub joins_same : (a b c d : List ℕ) → values a ≡ values b → values c ≡ values d
     → values (join_of a c) ≡ values (join_of b d)
 joins_same a b c d e f = by_test (is_rooted c)
@@ -185,7 +186,7 @@ joins_same a b c d e f = by_test (is_rooted c)
     root : is_rooted c ≡ is_rooted d
     root = roots_same c d f
 
--- a join with the empty path adds no component
+-- a joined with the empty path has the components of a
 pub values-join_of_nil : (a : List ℕ) → values (join_of a []) ≡ values a
 values-join_of_nil a = values-join_of_rootless a [] refl
     ∙ ap (append_values (values a)) values-nil

@@ -19,7 +19,7 @@ ends_open (x ∷ y ∷ u) o l =
     let more = ends_open (y ∷ u) o (omega arith) in
     (x ∷ more.0, ap (λ z. x ∷ z) more.1)
 
--- if u ends in a slash, the bytes b after it add their inner components
+-- if u ends in a slash, u followed by b has the components of u and then the inner components of b
 pub values-open : (u b : List ℕ) → needs_no_separator u ≡ true → 0 < length u
     → values (u ++ b) ≡ values u ++ inner_values b
 values-open u b o l =
@@ -32,7 +32,8 @@ pub not_open : (a : List ℕ) → needs_no_separator a ≡ false → 0 < length 
 not_open [] o = absurd (let d : true ≡ false = o in cc)
 not_open (x ∷ a) o = omega arith
 
--- if a isn't empty and b has no root, joining b to a adds the inner components of b
+-- if a isn't empty and b has no root, the join of a and b has the components of a and then the
+-- inner components of b
 pub values-join_of : (a b : List ℕ) → 0 < length a → is_rooted b ≡ false
     → values (join_of a b) ≡ values a ++ inner_values b
 values-join_of a b l r = by_test (needs_no_separator a)

@@ -21,8 +21,8 @@ use Rattle.path_runs.proofs.lemmas.joins.LeadLemmas.{append_values, values-appen
 regroup : (f a b c : List ℕ) → ((f ++ a) ++ b) ++ c ≡ f ++ (a ++ (b ++ c))
 regroup f a b c = simp append_assoc
 
--- if a is a prefix of the file name, the bytes of the path up to the end of a are the bytes before
--- the file name and then a
+-- if s is cut at its file name `name` (`NameCut`), and `name` is a and then r, the bytes of s up to
+-- the end of a are the bytes before `name` and then a
 take-name : (s name a r : List ℕ) (c : NameCut s name) → name ≡ a ++ r
     → take (last_start_of (parts s) + length a) s ≡ c.prefix ++ a
 take-name s name a r c e =
@@ -34,8 +34,8 @@ take-name s name a r c e =
     ∙ append_assoc (c.prefix ++ a) r c.back)
     ∙ take_at (c.prefix ++ a) (r ++ c.back) n size
 
--- if s has a file name, setting x as its extension leaves the bytes before the name, the stem, a
--- dot unless x is empty, and x
+-- if s has the file name `name`, s with the extension x set is the bytes before `name`, the stem of
+-- `name`, a dot unless x is empty, and x
 pub with_extension_of-cut : (s name x : List ℕ) → file_name_of (values s) ≡ Some name
     → (c : NameCut s name)
     → with_extension_of s x ≡ c.prefix ++ ((split_name name).0 ++ (dot_before x ++ x))
@@ -52,8 +52,8 @@ with_extension_of-none : (s x : List ℕ) → file_name_of (values s) ≡ None
 unfolding with_extension_of stem_end_of
 with_extension_of-none s x e = ap (λ o. with_extension_at s x (stem_end_by s o)) e
 
--- if s has a file name, adding the extension x, which isn't empty, leaves the bytes before the
--- name, the name, a dot and x
+-- if s has the file name `name`, and x isn't empty, s with the extension x added is the bytes
+-- before `name`, then `name`, a dot and x
 added_extension_of-cut : (s name x : List ℕ) → eqb (length x) 0 ≡ false
     → file_name_of (values s) ≡ Some name → (c : NameCut s name)
     → added_extension_of s x ≡ c.prefix ++ (name ++ 46 ∷ x)
@@ -70,8 +70,9 @@ abbrev pub renamed : (List ℕ → List ℕ) → List Value → List Value
 renamed n vs =
     option_map_or (λ name. append_values (middle 0 1 vs) (values (n name))) (file_name_of vs) vs
 
--- if f only replaces the file name `name` by `n name`, the components of `f s` depend only on the
--- components of s
+-- if `f s` is s when s has no file name, and otherwise the bytes before the file name `name` and
+-- then `n name`, then the components of `f s` are those of s with the file name replaced (`renamed
+-- n`)
 values-renamed : (f n : List ℕ → List ℕ) (s : List ℕ)
     → (file_name_of (values s) ≡ None → f s ≡ s)
     → ((name : List ℕ) → file_name_of (values s) ≡ Some name → (c : NameCut s name)
