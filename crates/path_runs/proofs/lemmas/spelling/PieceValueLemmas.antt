@@ -20,7 +20,7 @@ names_of ps = map value_of_piece (filter counts ps)
 abbrev pub AllCount : List (List ℕ) → Type 0
 AllCount ps = AllByRecursion (λ p. counts p ≡ true) ps
 
--- if all pieces count, none is left out
+-- if all pieces of ps count, the pieces of ps that count are ps
 pub filter-all : (ps : List (List ℕ)) → AllCount ps → filter counts ps ≡ ps
 filter-all [] h = refl
 filter-all (p ∷ ps) h = rw h.0 (ap (λ qs. p ∷ qs) (filter-all ps h.1))
@@ -91,7 +91,8 @@ HoldsOfPieces P =
     (p : List ℕ) → NoSlash p → bytes_eq p [] ≡ false → bytes_eq p cur_dir ≡ false
     → P (value_of_piece p)
 
--- if P holds of the component of each piece that counts, it holds of all components of such pieces
+-- if P holds of the component of each piece that counts and has no slash, and no piece of ps has a
+-- slash, then P holds of the components of all pieces of ps that count
 names_of-hold : (P : Value → Type 0) → HoldsOfPieces P → (ps : List (List ℕ))
     → AllByRecursion NoSlash ps → AllByRecursion P (names_of ps)
 names_of-hold P of_piece [] h = tt
@@ -116,8 +117,8 @@ values-hold_rootless P of_dot of_piece s r =
     (lead-hold P of_dot (dot_first ps) (names_of ps)
     (names_of-hold P of_piece ps (slice_split-no_slash s)))
 
--- if P holds of the component of each piece that counts, it holds of each component after the root
--- of a rooted path
+-- if P holds of the component of each piece that counts and has no slash, and s is rooted, the
+-- components of s are the root and then components of each of which P holds
 pub values-hold_rooted : (P : Value → Type 0) → HoldsOfPieces P → (s : List ℕ)
     → is_rooted s ≡ true
     → (vs : List Value) × (values s ≡ RootDir ∷ vs) × AllByRecursion P vs

@@ -18,7 +18,8 @@ use Rattle.path_runs.proofs.lemmas.spelling.PieceValueLemmas.{slice_split-no_sla
 use Rattle.path_runs.proofs.lemmas.spelling.SpellLemmas.{bytes_of_pieces, spelling_of-dot}
 use Rattle.path_runs.proofs.lemmas.spelling.SpellLemmas.{spelling_of-pieces, spelling_of-rooted}
 
--- if no piece has a slash, the joined pieces are split into the same pieces again
+-- if none of the pieces p and ps has a slash, splitting the joined pieces at their slashes yields p
+-- and ps again
 slice_split-join_with_byte : (p : List ℕ) (ps : List (List ℕ)) → AllByRecursion NoSlash (p ∷ ps)
     → slice_split is_slash (join_with_byte slash (p ∷ ps)) ≡ p ∷ ps
 slice_split-join_with_byte p [] h =
@@ -44,14 +45,15 @@ filter-counts (p ∷ ps) =
 names_of-counts : (ps : List (List ℕ)) → AllCount ps → names_of ps ≡ map value_of_piece ps
 names_of-counts ps h = ap (map value_of_piece) (filter-all ps h)
 
--- if all pieces count, the joined pieces are split into pieces with the same components
+-- if no piece of ps has a slash, and all count, splitting the joined pieces at their slashes yields
+-- pieces with the components of ps
 pub names_of-join_with_byte : (ps : List (List ℕ)) → AllByRecursion NoSlash ps → AllCount ps
     → names_of (slice_split is_slash (join_with_byte slash ps)) ≡ map value_of_piece ps
 names_of-join_with_byte [] h k = refl
 names_of-join_with_byte (p ∷ ps) h k =
     ap names_of (slice_split-join_with_byte p ps h) ∙ names_of-counts (p ∷ ps) k
 
--- if the first byte of joined pieces isn't a slash, they have no root
+-- if the first piece begins with a byte x that isn't a slash, the joined pieces have no root
 is_rooted-join_with_byte : (x : ℕ) (p : List ℕ) (ps : List (List ℕ)) → is_slash x ≡ false
     → is_rooted (join_with_byte slash ((x ∷ p) ∷ ps)) ≡ false
 is_rooted-join_with_byte x p [] h = h
@@ -72,7 +74,7 @@ values-spelling_rooted t =
     (names_of-join_with_byte kept (filter-no_slash ps (slice_split-no_slash t)) (filter-counts ps))
     ∙ sym (values-rooted t)
 
--- if all pieces count, the joined pieces have the components of these pieces
+-- if no piece of ps has a slash, and all count, the joined pieces have the components of ps
 pub values-join_with_byte : (ps : List (List ℕ)) → AllByRecursion NoSlash ps → AllCount ps
     → values (join_with_byte slash ps) ≡ map value_of_piece ps
 values-join_with_byte [] h k = values-rootless [] ([] ∷ []) refl refl
@@ -84,7 +86,8 @@ values-join_with_byte ((x ∷ p) ∷ ps) h k =
     ∙ ap (λ c. cond c (CurDir ∷ []) [] ++ names_of all) (counts-no_dot x p k.0)
     ∙ names_of-counts all k
 
--- if all pieces count, a `.` joined with them has a leading `.` and the components of these pieces
+-- if no piece of ps has a slash, and all count, then `.` and ps, joined, have a leading `.` and
+-- then the components of ps
 pub values-join_with_byte_dot : (ps : List (List ℕ)) → AllByRecursion NoSlash ps → AllCount ps
     → values (join_with_byte slash (cur_dir ∷ ps)) ≡ CurDir ∷ map value_of_piece ps
 values-join_with_byte_dot ps h k =

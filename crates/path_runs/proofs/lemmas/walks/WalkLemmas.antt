@@ -38,8 +38,8 @@ turns_total (t ∷ ts) =
     let backs = sum_by-cons (λ t. cond (is_back t) 1 0) t ts in
     omega (arith, one_turn t, turns_total ts, fronts, backs)
 
--- the numbers of remaining components and of components taken add up to the number of components of
--- the path; the first i turns take a component each until none remains
+-- if s has n components, the number of components that remain after the first i turns, plus the
+-- number of these turns, or n if there are more than n, is n
 pub length-remaining : {s : List ℕ} {ts : List Turn} {i : ℕ} {front behind : List Value}
     {remaining : List ℕ}
     → HasWalked s ts i front remaining behind
