@@ -24,8 +24,9 @@ map_before : (done : List EditValue) (edit : EditValue) (o : Option (List EditVa
 map_before done edit None = refl
 map_before done edit (Some edits) = ap Some (sym (append_assoc done (edit ∷ []) edits))
 
--- if field n names an edit, this edit comes before the edits that the fields after it name;
--- otherwise the fields name no edits
+-- the edits `done`, followed by the edits that the fields from n on name, are `done`, then `said`,
+-- the edit that field n names, and then the edits that the fields after n name; both are `None` if
+-- field n or a field after it names no edit
 edits_then-next : (done : List EditValue) (fields : List (List ℕ)) (n : ℕ) (field : List ℕ)
     (said : Option EditValue) → (n < length fields) × (field ≡ get_or fields n field)
     → said ≡ edit_of_field field → edits_then done (drop n fields)
@@ -79,8 +80,8 @@ module _ {A : Type 0} (shown : A → List ℕ) (fields : List (List ℕ)) (taken
 abbrev are_edits : List (List ℕ) → Bool
 are_edits fields = list_all (λ field. is_some (edit_of_field field)) fields
 
--- if there is an edit and `known` is true, the result is this edit and then `edits`; otherwise it
--- is `None`
+-- if `edit` is `Some` and `known` is true, `prepend_edit` returns this edit and then `edits`;
+-- otherwise it returns `None`
 prepend_edit-known : (edit : Option EditValue) (known : Bool) (edits : List EditValue)
     → prepend_edit edit (if known then Some edits else None)
     ≡ (if is_some edit && known then Some (cons_option edit edits) else None)

@@ -37,8 +37,8 @@ module _ {A : Type 0} (shown : A → List ℕ) (paths : List (List ℕ)) (yielde
   entries_with-all h =
       sym (at_drop_all (entries_with entries) paths (length yielded) (omega (arith, h))) ∙ so_far
 
--- if `found` is what a table of the paths has under the base, the canonical forms of `found` are
--- the answer of the command `under`
+-- if `table` has the entries for `paths`, and `found` are the items that it has under `base`, the
+-- canonical forms of `found`, joined by tabs, are the answer of the command `under`
 pub under_answer-found : (base : List ℕ) (paths : List (List ℕ))
     (found : List (Path × Bor (Unit {0}))) (key : List ℕ) (table : List (List Value × Unit {0}))
     → key ≡ base → table ≡ entries_with [] paths
