@@ -27,8 +27,9 @@ fn push_respelled(out: &mut Vec<u8>, path: &[u8], noise: u64) -> Result<(), Allo
     Ok(())
 }
 
-// Returns the path or a part of it, which `word` selects: the bytes before or from index `place`
-// on, the path's parent, or its file name.
+// Returns the path or a part of it, which `word` selects: the bytes before index `place`, the bytes
+// from index `place` on, the path's parent, or its file name. Returns the path if it has no such
+// part.
 fn part_of(path: &[u8], place: usize, word: u64) -> &[u8] {
     let part = match word & 7 {
         0 => path.get(..place),
