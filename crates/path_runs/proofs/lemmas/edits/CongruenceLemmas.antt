@@ -98,8 +98,8 @@ one_same s t (AddExtension x) k =
     (added_extension_same s t x k)
 one_same s t Clear k = (refl, refl)
 
--- the same edit of equal paths, or a push of equal paths to them, leaves equal paths and returns
--- the same answer
+-- if s and t are equal paths, and d and e are the same edit or push equal paths (`SameEdit`), then
+-- d of s and e of t leave equal paths and return the same answer
 edit_same : (s t : List ℕ) (d e : EditValue) → SameValues s t → SameEdit d e
     → SameOutcome (edit_of s d) (edit_of t e)
 edit_same s t (Push b) (Push c) k h = (joins_same s t b c k h, refl)

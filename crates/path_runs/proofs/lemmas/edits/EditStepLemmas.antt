@@ -116,7 +116,7 @@ pub with_name_of-nameless : (s name : List ℕ) → None ≡ name_end_of s
 unfolding before_name_of
 with_name_of-nameless s name e = rw (file_name_of-no_name_end s e) refl
 
--- s without its file name and the filler around it, or the whole s if it has no file name, has the
+-- s without its file name and the filler around it, or all of s if it has no file name, has the
 -- same bytes as the beginning of s
 keeps-before : (s : List ℕ) → Keeps s (before_name_of s) (length (before_name_of s))
 unfolding before_name_of

@@ -20,8 +20,8 @@ use Rattle.unix_path.proofs.lemmas.parts.PlaceLemmas.{values-inner_parts}
 use Rattle.unix_path.proofs.lemmas.parts.ValueLemmas.{value_bytes-piece}
 use Rattle.path_runs.specs.Gaps.{is_gap, slashed_parts, FirstGap, IsPartStart}
 
--- if byte i of s is filler, the bytes of s from i on and the bytes of s from i + 1 on have the same
--- inner components
+-- if byte i of s is filler, the bytes of s from i on and those from i + 1 on have the same
+-- components, apart from a leading root or `.`
 pub slashed_parts-filler : (s : List ℕ) (i : ℕ) → i < length s → is_filler s i ≡ true
     → slashed_parts (drop i s) ≡ slashed_parts (drop (i + 1) s)
 unfolding slashed_parts
@@ -30,8 +30,9 @@ slashed_parts-filler s i l e = ap (flat_map (λ v. slash ∷ value_bytes v))
     ∙ ap (map (λ (p : Part). p.value)) (inner_parts_filler_at 0 s i l e)
     ∙ values-inner_parts (0 + (i + 1)) (drop (i + 1) s))
 
--- if s isn't empty and begins with a component, the inner components of s, each after a slash, are
--- a slash, the first piece of s, and then the components after that piece, each after a slash
+-- if s isn't empty and begins with a component that is neither the root nor `.`, the components of
+-- s, each after a slash, are a slash, the first piece of s, and then the components after that
+-- piece, each after a slash
 slashed_parts-not_filler : (s : List ℕ) → 0 < length s → is_filler s 0 ≡ false
     → slashed_parts s ≡ slash ∷ (first_piece s ++ slashed_parts
     (drop (position_or_len is_slash s) s))
@@ -68,15 +69,15 @@ component_after_slash : (x : ℕ) (s : List ℕ) → eqb x 47 ≡ true → is_ga
 component_after_slash x [] e g = absurd (let d : true ≡ false = rw e at g in cc)
 component_after_slash x (y ∷ s) e g = (omega arith, rw e at g)
 
--- if x is a slash, the first piece of x ∷ s, which is empty, and the components after it, each
--- after a slash, are the inner components of x ∷ s, each after a slash
+-- if x is a slash, the first piece of x ∷ s, which is empty, and the components after that piece,
+-- each after a slash, are the components of x ∷ s without the root, each after a slash
 pub first_slash : (x : ℕ) (s : List ℕ) → eqb x 47 ≡ true
     → first_piece (x ∷ s) ++ slashed_parts (drop (position_or_len is_slash (x ∷ s)) (x ∷ s))
     ≡ slashed_parts (x ∷ s)
 first_slash x s e = ap₂ (λ p k. p ++ slashed_parts (drop k (x ∷ s))) (first_piece-slash x s e)
     (position_or_len-slash x s e)
 
--- if x is a slash, x ∷ s and s have the same inner components
+-- if x is a slash, x ∷ s and s have the same components, apart from a leading root or `.`
 pub slashed_parts-slash : (x : ℕ) (s : List ℕ) → eqb x 47 ≡ true
     → slashed_parts (x ∷ s) ≡ slashed_parts s
 slashed_parts-slash x s e = slashed_parts-filler (x ∷ s) 0 (omega arith) (rw e refl)
@@ -105,9 +106,9 @@ before_first_gap (x ∷ s) (suc n) h = by_test (eqb x 47)
     ∙ ap (λ u. x ∷ (first_piece s ++ slashed_parts u)) (drop-suc_cons m x s)
     ∙ ap (λ u. x ∷ u) (before_first_gap s n (FirstGap-after_start x s n h)))
 
--- if s isn't empty and begins with a component, and n is the index of its first gap, or its length
--- if it has none, then the inner components of s, each after a slash, are a slash, the first n
--- bytes of s, and the components after them, each after a slash
+-- if s isn't empty and begins with a component that is neither the root nor `.`, and n is the index
+-- of its first gap, or its length if it has none, then the components of s, each after a slash, are
+-- a slash, the first n bytes of s, and the components after them, each after a slash
 pub component_before_gap : (s : List ℕ) (n : ℕ) → 0 < length s → is_filler s 0 ≡ false
     → FirstGap s n
     → slashed_parts s ≡ (slash ∷ take n s) ++ slashed_parts (drop n s)

@@ -18,8 +18,8 @@ use Rattle.path_runs.proofs.lemmas.gaps.FirstGapLemmas.{slashed_parts-filler, sl
 use Rattle.path_runs.proofs.lemmas.spelling.LeanLemmas.{slashed_parts-length, spelling_of-shortest}
 use Rattle.path_runs.proofs.lemmas.gaps.GapSpellingLemmas.{spelling_of-run, spelling_of-whole}
 
--- if s begins with a gap, its inner components, each with a slash before it, have fewer bytes in
--- total than s
+-- if s begins with a gap, the components of s without the root, each with a slash before it, have
+-- fewer bytes in total than s
 first_gap-longer : (s : List ℕ) → 0 < length s → is_gap s 0 ≡ true
     → length (slashed_parts s) < length s
 first_gap-longer [] l g = absurd (omega arith)
