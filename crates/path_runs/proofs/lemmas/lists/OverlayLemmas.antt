@@ -10,8 +10,8 @@ use Rattle.path_runs.specs.Buffer.{buffer_after}
 abbrev pub bytes_over : List ℕ → List ℕ → List ℕ
 bytes_over bytes old = bytes ++ drop (length bytes) old
 
--- writing `first` over the beginning of `old` leaves the bytes of `old` from index `length first +
--- n` on unchanged
+-- writing `first` over the beginning of `old` leaves the bytes from index `length first + n` on
+-- unchanged
 drop-bytes_over : (first old : List ℕ) (n : ℕ)
     → drop (length first + n) (bytes_over first old) ≡ drop (length first + n) old
 drop-bytes_over first old n =

@@ -32,8 +32,8 @@ drop-past_dot : (f x : List ℕ) → drop (length f + 1) (f ++ 46 ∷ x) ≡ x
 drop-past_dot f x = ap (drop (length f + 1)) (sym (append_assoc f (46 ∷ []) x))
     ∙ drop_at (f ++ 46 ∷ []) x (length f + 1) (length-append f (46 ∷ []))
 
--- if x has no dot, the last dot of f, a dot and x is the dot after f: the index after it is `length
--- f + 1`
+-- if x has no dot, the last dot in f, a dot and x is the dot after f: the index just after this dot
+-- is `length f + 1`
 after_last-dot : (f x : List ℕ) → HasNoByte 46 x → length f + 1 ≡ after_last is_dot (f ++ 46 ∷ x)
 after_last-dot f x h =
     let s = f ++ 46 ∷ x in
@@ -42,7 +42,7 @@ after_last-dot f x h =
     ∙ get_or-append_seam f 46 x 0)
     (rw (drop-past_dot f x) (none_found x 46 h))
 
--- s has no dot, or it is f, its last dot and x
+-- s has no dot, or s is f, then the last dot of s, and then x
 data LastDot (s : List ℕ) : Type 0 where
   NoDot : HasNoByte 46 s → LastDot s
   AtDot : (f x : List ℕ) → s ≡ f ++ 46 ∷ x → HasNoByte 46 x → LastDot s

@@ -46,7 +46,7 @@ with_extension_of-cut s name x e c =
     ∙ ap (λ z. (z ++ dot_before x) ++ x) (take-name s name (split_name name).0 stem.0 c stem.1)
     ∙ regroup c.prefix (split_name name).0 (dot_before x) x
 
--- if a path has no file name, setting an extension leaves it unchanged
+-- if s has no file name, s with the extension x set is s
 with_extension_of-none : (s x : List ℕ) → file_name_of (values s) ≡ None
     → with_extension_of s x ≡ s
 unfolding with_extension_of stem_end_of
@@ -71,8 +71,8 @@ renamed n vs =
     option_map_or (λ name. append_values (middle 0 1 vs) (values (n name))) (file_name_of vs) vs
 
 -- if `f s` is s when s has no file name, and otherwise the bytes before the file name `name` and
--- then `n name`, then the components of `f s` are those of s with the file name replaced (`renamed
--- n`)
+-- then `n name`, then the components of `f s` are those of s with the file name replaced
+-- (`renamed`)
 values-renamed : (f n : List ℕ → List ℕ) (s : List ℕ)
     → (file_name_of (values s) ≡ None → f s ≡ s)
     → ((name : List ℕ) → file_name_of (values s) ≡ Some name → (c : NameCut s name)

@@ -32,8 +32,8 @@ strip_answer-ok path base rest h e =
     let test = (starts_with-Decides (values path) (values base)).1 h in
     rw test (ap (λ bytes. optional (Some bytes)) e)
 
--- if `path` doesn't start with the components of `base`, the answer of `strip` is `prefix not
--- found`
+-- if `path` doesn't start with the components of `base`, the answer of `strip` is
+-- `prefix not found`
 pub strip_answer-not_found : (path base : List ℕ) → (IsPrefixOf (values base) (values path) → ⊥)
     → codes "prefix not found" ≡ strip_answer path base
 strip_answer-not_found path base h = by_test (starts_with same_value (values path) (values base))
