@@ -64,8 +64,8 @@ added_extension_of-cut s name x some e c =
     ∙ ap (λ z. (z ++ 46 ∷ []) ++ x) (take-name s name name [] c (sym (append-nil name)))
     ∙ regroup c.prefix name (46 ∷ []) x
 
--- the components vs, with the file name `name` replaced by the components that the string `n name`
--- adds; if there is no file name, vs
+-- vs if these components have no file name; otherwise vs without the file name `name`, followed by
+-- the components of the string `n name` (`append_values`)
 abbrev pub renamed : (List ℕ → List ℕ) → List Value → List Value
 renamed n vs =
     option_map_or (λ name. append_values (middle 0 1 vs) (values (n name))) (file_name_of vs) vs

@@ -9,9 +9,9 @@ use Rattle.unix_path.specs.Parts.{Value}
 use Rattle.unix_path.specs.Order.{value_cmp, values_cmp}
 use Rattle.unix_path.specs.OrderLaws.{value_cmp-total, value_cmp-equal}
 
--- if b ∷ v is between two lists that begin with a, and v starts with base in case it is between
--- what follows a in these lists, then b ∷ v starts with a ∷ base; o and p compare a with b and b
--- with a, and q and r compare v with what follows a in the lower and in the upper list
+-- if b ∷ v is between two lists that begin with a, and v starts with base whenever v is between the
+-- rests of these lists after a, then b ∷ v starts with a ∷ base; o is the order of a and b, p that
+-- of b and a, q that of the first rest and v, and r that of v and the second rest
 begins_between-cons : (a b : Value) (base v : List Value) (o p q r : Ordering)
     → value_cmp a b ≡ o → p ≡ ordering_reverse o
     → is_le (ordering_then o q) ≡ true → is_le (ordering_then p r) ≡ true

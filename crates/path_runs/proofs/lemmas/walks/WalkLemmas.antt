@@ -29,8 +29,7 @@ one_turn : (t : Turn) → cond (is_front t) 1 0 + cond (is_back t) 1 0 ≡ 1
 one_turn Front = refl
 one_turn Back = refl
 
--- each turn of a list is at the front or at the back, so both counts add up to the length of the
--- list
+-- the number of turns of ts at the front and the number at the back add up to the length of ts
 turns_total : (ts : List Turn) → count_by is_front ts + count_by is_back ts ≡ length ts
 turns_total [] = refl
 turns_total (t ∷ ts) =

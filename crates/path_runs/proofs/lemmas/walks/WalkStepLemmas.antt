@@ -21,8 +21,8 @@ use Rattle.path_runs.proofs.lemmas.walks.WalkLemmas.{is_back, HasWalked, length-
 take-take_early : (n i : ℕ) (ts : List Turn) → i ≤ n → take n (take i ts) ≡ take i ts
 take-take_early n i ts l = take_all n (take i ts) (omega (arith, length-take i ts))
 
--- if i is less than n, the number of the first n turns that pass the test grows by one with turn i
--- if this turn passes it, and stays the same otherwise
+-- if there is a turn i, and i is less than n, then among the first i + 1 turns, but at most n, as
+-- many pass `test` as among the first i turns, but at most n, plus one if turn i passes
 count_by-more : (test : Turn → Bool) (n i : ℕ) (ts : List Turn) (passes : Bool) → i < n
     → i < length ts → test (get_or ts i Front) ≡ passes
     → count_by test (take n (take (i + 1) ts))

@@ -14,7 +14,7 @@ use Rattle.pathtool.proofs.lemmas.lines.LoopLemmas.{IsStep}
 use Rattle.pathtool.specs.EditFields.{edit_of_field, edit_answer}
 use Rattle.pathtool.specs.Steps.{prepend_edit, edits_of_fields, edited_answer}
 
--- the given edits, followed by the edits that the fields name, or `None` if a field names no edit
+-- the edits `done`, followed by the edits that `fields` name, or `None` if a field names no edit
 abbrev pub edits_then : List EditValue → List (List ℕ) → Option (List EditValue)
 edits_then done fields = option_map (λ edits. done ++ edits) (edits_of_fields fields)
 
@@ -43,7 +43,8 @@ edits_then-next done fields n field said h e =
 module _ {A : Type 0} (shown : A → List ℕ) (fields : List (List ℕ)) (taken : List A)
     (edits : List Edit) (so_far : edits_then (map edit_value edits) (drop (length taken) fields)
     ≡ edits_of_fields fields) where
-  -- if the next field names an edit, `so_far` holds with this edit added, for the fields after it
+  -- if the next field names `edit`, the fact `so_far` still holds after `edit` is added to the
+  -- edits so far and the field is taken from the remaining fields
   pub edits_then-more : (field : A) (edit : Edit) (found : Option Edit) (more : List Edit)
       → IsStep shown fields taken (Some field) → found ≡ Some edit
       → option_map edit_value found ≡ edit_of_field (shown field) → more ≡ edits ++ edit ∷ []
@@ -60,7 +61,7 @@ module _ {A : Type 0} (shown : A → List ℕ) (fields : List (List ℕ)) (taken
       ∙ map_before done (edit_value edit) (edits_of_fields left))
       ∙ so_far
 
-  -- if the next field names no edit, the fields as a whole name no edits
+  -- if the next field names no edit, `edits_of_fields` is `None` for the list of all fields
   pub edits_then-bad : (field : A) (found : Option Edit) → IsStep shown fields taken (Some field)
       → found ≡ None → option_map edit_value found ≡ edit_of_field (shown field)
       → None ≡ edits_of_fields fields

@@ -19,7 +19,8 @@ use Rattle.pathtool.proofs.lemmas.lines.LoopLemmas.{IsStep}
 module _ {A : Type 0} (shown : A → List ℕ) (paths : List (List ℕ)) (yielded : List A)
     (entries all : List (List Value × Unit {0}))
     (so_far : entries_with entries (drop (length yielded) paths) ≡ all) where
-  -- if the next path is inserted, `so_far` holds for the new entries and the paths after it
+  -- if `more` is `entries` with the next path inserted, the fact `so_far` still holds for `more`
+  -- and the paths after this path
   pub entries_with-more : (path : A) (more : List (List Value × Unit {0}))
       → IsStep shown paths yielded (Some path)
       → more ≡ insert_entry values_cmp entries (values (shown path)) tt
