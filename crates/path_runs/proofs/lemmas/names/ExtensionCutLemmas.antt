@@ -95,15 +95,15 @@ values-renamed f n s none some = by (file_name_of (values s)) refl
 abbrev pub name_with : List ℕ → List ℕ → List ℕ
 name_with x name = (split_name name).0 ++ (dot_before x ++ x)
 
--- s with the extension x set has the components of s, except that its file name `name`, if it has
--- one, is replaced by `name_with x name`
+-- s with the extension x set has the components of s, except that the file name `name`, if s has
+-- one, is replaced by the components of `name_with x name`
 pub values-with_extension_of : (s x : List ℕ)
     → values (with_extension_of s x) ≡ renamed (name_with x) (values s)
 values-with_extension_of s x = values-renamed (λ s. with_extension_of s x) (name_with x) s
     (with_extension_of-none s x) (λ name e c. with_extension_of-cut s name x e c)
 
--- if x isn't empty, s with the extension x added has the components of s, except that its file
--- name, if it has one, is followed by a dot and x
+-- if x isn't empty, s with the extension x added has the components of s, except that the file name
+-- `name`, if s has one, is replaced by the components of `name`, a dot and x
 pub values-added_extension_of : (s x : List ℕ) → eqb (length x) 0 ≡ false
     → values (added_extension_of s x) ≡ renamed (λ name. name ++ 46 ∷ x) (values s)
 values-added_extension_of s x some =
