@@ -110,7 +110,7 @@ parent_of-root_only (b ∷ s) (suc zero) some r same few =
     ∙ ap (λ (ps : List Part). RootDir ∷ map (λ p. p.value) ps) (inner_parts-nil 1))
 parent_of-root_only (b ∷ s) (suc (suc n)) some r same few = absurd (omega arith)
 
--- if a path has no file name, a new name is joined to the whole path
+-- if s has no file name, s with the new file name `name` is s joined with `name`
 pub with_name_of-nameless : (s name : List ℕ) → None ≡ name_end_of s
     → with_name_of s name ≡ join_of s name
 unfolding before_name_of
