@@ -1,5 +1,6 @@
 -- The first gap of a string. The bytes before it are the first piece and then components, each
--- after a slash. An inner component is a `..` or a name.
+-- after a slash. `slashed_parts s` are the components of s without a leading root or `.`, each
+-- after a slash.
 use Rattle.std.proofs.Common.{◌≡◌, ℕ, zero, suc, ◌+◌, ◌-◌, ◌<◌, ◌≤◌, true, false, eqb, ◌&&◌, ◌||◌}
 use Rattle.std.proofs.Common.{List, [], ◌∷◌, ◌++◌, length, take, drop, map, get_or, refl, sym, ap}
 use Rattle.std.proofs.Common.{ap₂, ◌∙◌, eqb-true, arith, append-nil, drop-cons, length-drop}
@@ -83,8 +84,8 @@ pub slashed_parts-slash : (x : ℕ) (s : List ℕ) → eqb x 47 ≡ true
 slashed_parts-slash x s e = slashed_parts-filler (x ∷ s) 0 (omega arith) (rw e refl)
 
 -- if n is the index of the first gap of s, or the length of s if there is none, then the first
--- piece of s and the components after it are the same bytes as the first n bytes of s and the
--- components after them; each component follows a slash
+-- piece of s and the components after that piece, each after a slash, are the same bytes as the
+-- first n bytes of s and the components after them, each after a slash
 pub before_first_gap : (s : List ℕ) (n : ℕ) → FirstGap s n
     → first_piece s ++ slashed_parts (drop (position_or_len is_slash s) s)
     ≡ take n s ++ slashed_parts (drop n s)

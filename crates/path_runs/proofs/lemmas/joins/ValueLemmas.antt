@@ -1,6 +1,6 @@
--- The components that bytes add after an open string, and the components of a join whose first path
--- isn't empty. A string is open if it is empty or ends in a slash, and an inner component is a `..`
--- or a name.
+-- The components that bytes add after a string that ends in a slash, and the components of a join
+-- whose first path isn't empty. `inner_values b` are the components of b without a leading root or
+-- `.`.
 use Rattle.std.proofs.Common.{◌≡◌, ℕ, ◌<◌, true, false, List, [], ◌∷◌, ◌++◌, length, sym, ap, ◌∙◌}
 use Rattle.std.proofs.Common.{arith, append_assoc, eqb-true}
 use Rattle.unix_path.specs.Parts.{slash, is_rooted, values}

@@ -68,9 +68,9 @@ in_time {s} {ts} {i} h l some = omega (
   length-take i ts,
 )
 
--- if the first i turns have taken `front` and `behind`, turn i is at the front, and its call of
--- `next` returned `item` and left `after`, then the first i + 1 turns have taken `front` with the
--- component of `item`, if there is one, at its end, and `behind`; the rest is `after`
+-- if the first i turns have taken `front` and `behind` (`HasWalked`), turn i is at the front, and
+-- its call of `next` returned `item` and left `after`, then the first i + 1 turns have taken
+-- `front` followed by the component of `item`, if any, and `behind`, and have left `after`
 pub HasWalked-front : {A : Type 0} (shows : A → Value) (s : List ℕ) (ts : List Turn) (i : ℕ)
     (front : List Value) (remaining : List ℕ) (behind : List Value) (item : Option A)
     (after : List ℕ)
@@ -96,9 +96,9 @@ HasWalked-front shows s ts i front remaining behind (Some x) after h l turn give
       backs = omega (arith, h.backs, count_by-more is_back n i ts false early l (ap is_back turn));
     }
 
--- if the first i turns have taken `front` and `behind`, turn i is at the back, and its call of
--- `next_back` returned `item` and left `after`, then the first i + 1 turns have taken `front`, and
--- `behind` with the component of `item`, if there is one, at its end; the rest is `after`
+-- if the first i turns have taken `front` and `behind` (`HasWalked`), turn i is at the back, and
+-- its call of `next_back` returned `item` and left `after`, then the first i + 1 turns have taken
+-- `front`, and `behind` followed by the component of `item`, if any, and have left `after`
 pub HasWalked-back : {A : Type 0} (shows : A → Value) (s : List ℕ) (ts : List Turn) (i : ℕ)
     (front : List Value) (remaining : List ℕ) (behind : List Value) (item : Option A)
     (after : List ℕ)
