@@ -23,7 +23,8 @@ is_same p path = is_eq (values_cmp (values path.bytes.now) (values (path_bytes p
 abbrev pub IsCanonical : PathBuf → Type 0
 IsCanonical p = path_bytes p ≡ spelling_of (values (path_bytes p))
 
--- the set is what `normalise` returns for the paths; no public clause cites this definition
+-- `set` is sorted, its paths are in canonical form, and it contains a path if and only if the path
+-- is equal to one of `paths`; no public clause cites this definition
 pub record IsNormalised (paths : List Path) (set : BTreeSet PathBuf) : Type 0 where
   pub ordered : IsOrdered paths_cmp set
   pub canonical : All IsCanonical set.keys

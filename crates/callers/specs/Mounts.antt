@@ -8,8 +8,8 @@ use Rattle.path_within.specs.Requests.{root_bytes}
 use Rattle.path_within.specs.declared.root.Root.{Root}
 use Rattle.path_tree.specs.Nearest.{IsNearest}
 
--- `file` is the rest of the path s after its nearest mount point, below the root that is mounted
--- there
+-- `file` is the rest of the path s after its nearest mount point, resolved, below the root that is
+-- mounted at this mount point
 pub record IsMounted (s : List ℕ) (mounts : List (List Value × Root)) (file : List ℕ)
     : Type 0 where
   pub root : Root
@@ -18,7 +18,8 @@ pub record IsMounted (s : List ℕ) (mounts : List (List Value × Root)) (file :
   pub file_is : file ≡ below_of (root_bytes root) (names_below (values rest))
   pub below : IsBelow (root_bytes root) file
 
--- the path s starts with no mount point, or a NUL byte follows the nearest one
+-- the path s starts with no mount point, or the rest of s after its nearest mount point has a NUL
+-- byte
 abbrev pub IsUnmounted : List ℕ → List (List Value × Root) → Type 0
 IsUnmounted s mounts =
     ((base : List Value) → IsPrefixOf base (values s) → value_at base mounts ≡ None)

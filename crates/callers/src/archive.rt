@@ -1,4 +1,5 @@
-//! An unpacker of archives: where its entries are unpacked, and why some are refused.
+//! An unpacker of archives: the paths at which entries are unpacked, and the reasons why some
+//! entries are refused.
 ghost use Rattle.std.specs.Prelude.{◌≡◌, ◌↔◌, true, false, IfOk, IsErrOf};
 ghost use Rattle.unix_path.specs.Buffers.{path_bytes};
 ghost use Rattle.unix_path.specs.Parts.{is_rooted, values};

@@ -1,4 +1,5 @@
-//! A router: finds the handler of a request by the longest prefix of its path.
+//! A router: finds the handler of a path, which is that of the longest route that is a prefix of
+//! the path.
 ghost use Rattle.std.specs.Prelude.{IfOk};
 ghost use Rattle.path_tree.specs.Tree.{table_of};
 ghost use Rattle.callers.specs.Router.{IsRouted};
@@ -7,8 +8,8 @@ use path_tree::PathTree;
 use std::alloc::AllocError;
 use unix_path::Path;
 
-/// Finds the route with the longest prefix of a path. Returns its handler, and the rest of the path
-/// after the prefix.
+/// Finds the longest route that is a prefix of a path. Returns the handler of the route, and the
+/// rest of the path after the route.
 ///
 /// If no route is a prefix of the path, returns the fallback and the whole path. A prefix consists
 /// of whole components, and no `..` is resolved. Allocates, once, only if the path's key is longer

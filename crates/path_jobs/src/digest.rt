@@ -22,7 +22,8 @@ impl Digest {
         self.add(u64::from(flag));
     }
 
-    // Adds the bytes, eight at once, and then the other bytes with the number of all bytes.
+    // Adds the bytes, eight at once, and then one number made from the last up to seven bytes and
+    // the number of all bytes.
     pub(crate) fn add_bytes(&mut self, bytes: &[u8]) {
         let (words, rest) = bytes.as_chunks::<8>();
         for word in words {

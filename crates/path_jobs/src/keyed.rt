@@ -1,4 +1,5 @@
-//! Fills a tree of files by their keys, looks them up, and lists them below directories.
+//! Fills a tree of files by the keys of their paths, looks the files up, and lists those below some
+//! directories.
 use crate::digest::Digest;
 use crate::random::Random;
 use crate::tree::{Tree, noise_of, shuffled};
@@ -36,8 +37,8 @@ fn filled(
     Ok(files)
 }
 
-// Looks up each file by another spelling of its path. One look-up in three is for a path in the
-// same directory at which there is no file.
+// Looks up, for each file, another spelling of the file's path or, one time in three, a path in the
+// same directory at which there is no file. Returns the sum of the values found.
 fn look_up(
     alloc: Global,
     tree: Tree<'_>,
@@ -59,8 +60,8 @@ fn look_up(
     Ok(sum)
 }
 
-// Removes every eighth file, in the order in which they were inserted. Returns the sum of their
-// values.
+// Removes every eighth file, in the order in which the files were inserted. Returns the sum of the
+// values of the removed files.
 fn remove(
     alloc: Global,
     tree: Tree<'_>,
@@ -79,8 +80,8 @@ fn remove(
     Ok(sum)
 }
 
-// Lists the files below some directories: below each directory of 8,192 files, and below one in
-// eight of the directories of 16 files.
+// Adds to the digest the values of the files below some directories: below each directory of 8,192
+// files, and below one in eight of the directories of 16 files.
 fn list_below(
     alloc: Global,
     tree: Tree<'_>,
@@ -104,8 +105,8 @@ fn list_below(
     Ok(())
 }
 
-// For each file, looks up the entry with the longest prefix of a path below the file: the file
-// itself, unless it was removed.
+// For each file, finds the entry whose path is the longest prefix of a path below the file: the
+// entry of the file itself, unless it was removed. Returns a sum made from the entries found.
 fn find_nearest(
     alloc: Global,
     tree: Tree<'_>,
@@ -128,7 +129,7 @@ fn find_nearest(
 }
 
 // Fills a tree with `count` files, looks up each, lists some directories, removes some files, and
-// looks up the longest prefix of a path below each file.
+// finds the longest prefix of a path below each file. Returns the digest of all results.
 pub(crate) fn run(alloc: Global, seed: u64, count: u64) -> Result<u64, AllocError> {
     let mut digest = Digest::new();
     let tree = Tree::new("/srv/volumes/store", seed);

@@ -65,8 +65,8 @@ fn run_all(rt: &HostRuntime, seed: u64, count: u64) -> io::Result<bool> {
     Ok(true)
 }
 
-// Runs the job, or all jobs, that the program's arguments name. Returns false if the arguments are
-// wrong.
+// Runs the job that the program's arguments name, or every job for `all`. Returns false if the
+// arguments are wrong.
 fn answer(rt: &HostRuntime) -> io::Result<bool> {
     let mut words = env::args(rt)?;
     let _program = words.next();

@@ -19,8 +19,8 @@ fn noise(word: u64) -> u64 {
 }
 
 // Returns the paths of `count` files in the order of a walk over the tree, and then as many paths
-// in an order that looks random. One in ten of the latter is in another spelling and may be a file
-// of the walk. The others are not files of the walk.
+// in an order that looks random. One in ten of the latter may be a file of the walk, in another
+// spelling. The others are not files of the walk.
 fn listing(alloc: Global, tree: Tree<'_>, seed: u64, count: u64) -> Result<Lines, AllocError> {
     let mut random = Random::new(seed);
     let mut lines = Lines::new(alloc);
@@ -41,7 +41,8 @@ fn listing(alloc: Global, tree: Tree<'_>, seed: u64, count: u64) -> Result<Lines
     Ok(lines)
 }
 
-// Adds the paths in canonical form to the digest, sorted by a set, and each once.
+// Adds the canonical form of each path to the digest, in path order and each form once. A set sorts
+// the forms.
 fn order_set(alloc: Global, paths: &[Path<'_>], digest: &mut Digest) -> Result<(), AllocError> {
     for path in normalise(alloc, paths)?.iter() {
         digest.add_path(path.as_path());
@@ -49,7 +50,8 @@ fn order_set(alloc: Global, paths: &[Path<'_>], digest: &mut Digest) -> Result<(
     Ok(())
 }
 
-// Adds the paths in canonical form to the digest, sorted as a list, and each once.
+// Adds the canonical form of each path to the digest, in path order and each form once. The forms
+// are sorted as a list.
 fn order_list(alloc: Global, paths: &[Path<'_>], digest: &mut Digest) -> Result<(), AllocError> {
     let mut list: Vec<PathBuf> = Vec::with_capacity(alloc, paths.len())?;
     for path in paths {
@@ -66,7 +68,8 @@ fn order_list(alloc: Global, paths: &[Path<'_>], digest: &mut Digest) -> Result<
     Ok(())
 }
 
-// Normalises two manifests of twice `count` paths each, one as a set and one as a list.
+// Normalises two manifests of twice `count` paths each, one as a set and one as a list. Returns the
+// digest of both.
 pub(crate) fn run(alloc: Global, seed: u64, count: u64) -> Result<u64, AllocError> {
     let mut digest = Digest::new();
     let packages = listing(alloc, Tree::new("usr/lib/packages", seed), seed, count)?;

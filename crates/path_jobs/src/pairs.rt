@@ -27,8 +27,9 @@ fn push_respelled(out: &mut Vec<u8>, path: &[u8], noise: u64) -> Result<(), Allo
     Ok(())
 }
 
-// Returns the path or a part of it, which `word` selects: the bytes before or from index `place`
-// on, the path's parent, or its file name.
+// Returns the path or a part of it, which `word` selects: the bytes before index `place`, the bytes
+// from index `place` on, the path's parent, or its file name. Returns the path if it has no such
+// part.
 fn part_of(path: &[u8], place: usize, word: u64) -> &[u8] {
     let part = match word & 7 {
         0 => path.get(..place),
@@ -78,8 +79,8 @@ fn compare(first: Path<'_>, second: Path<'_>, digest: &mut Digest) {
     });
 }
 
-// Adds to the digest whether `path` starts and ends with `other`, and the rest of `path` after
-// `other`.
+// Adds to the digest whether `path` starts with `other`, whether it ends with `other`, and the rest
+// of `path` after `other`, or 2 if `path` doesn't start with `other`.
 fn match_ends(path: Path<'_>, other: Path<'_>, digest: &mut Digest) {
     digest.add_flag(path.starts_with(other));
     digest.add_flag(path.ends_with(other));
@@ -100,8 +101,9 @@ fn add_part(part: Component<'_>, digest: &mut Digest) {
     digest.add_path(part.as_path());
 }
 
-// Walks the path from both ends. Each bit of `turns` selects the end for one step, beginning with
-// the lowest bit. Adds to the digest the component that each step takes, and the rest of the path.
+// Walks the path from both ends, for at most 64 steps. Each bit of `turns` selects the end for one
+// step, beginning with the lowest bit. Adds to the digest, for each step, the component that it
+// takes and the rest of the path.
 fn walk(path: Path<'_>, turns: u64, digest: &mut Digest) {
     let mut walk = path.components();
     let mut turns = turns;

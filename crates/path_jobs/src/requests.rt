@@ -87,8 +87,8 @@ pub(crate) fn push_request(
     tree.push_short(out, number, noise, place)
 }
 
-// Adds the result for a request to the digest: the join within the root, and the rest of the join
-// after the root, or 0 if the request is rejected.
+// Adds the result for a request to the digest: the join within the root and, if the join starts
+// with `root`, the rest of the join after it; or 0 if the request is rejected.
 fn answer(
     alloc: Global,
     root: Path<'_>,
@@ -126,7 +126,7 @@ fn answer_verbatim_join(
 }
 
 // Adds to the digest the results for a request as a link on a page: the resolved request, and the
-// relative path from the page to the request.
+// relative path from the page to the request, or 1 if there is none.
 fn answer_link(
     alloc: Global,
     page: Path<'_>,

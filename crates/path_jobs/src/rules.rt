@@ -62,7 +62,7 @@ fn add_names(source: Path<'_>, digest: &mut Digest) {
     digest.add_text(source.file_prefix());
 }
 
-// Returns the last of the bases that the source starts with.
+// Returns the last base in the list that the source starts with, or `None` if there is none.
 fn base_of<'a>(source: Path<'_>, bases: &[Path<'a>]) -> Option<Path<'a>> {
     let mut found = None;
     for base in bases {
@@ -101,7 +101,8 @@ fn list_of(alloc: Global, source: Path<'_>) -> Result<PathBuf, ExtensionError> {
     Ok(list)
 }
 
-// Adds to the digest the paths that the rules of a source build.
+// Adds to the digest the paths that a build creates for a source: the path of its output, if the
+// source has a base, and the path of the list of its dependencies.
 fn add_outputs(
     alloc: Global,
     source: Path<'_>,

@@ -1,4 +1,4 @@
-//! Fills a table of files in memory, looks them up, and lists them below directories.
+//! Fills a table of files in memory, looks the files up, and lists those below some directories.
 use crate::digest::Digest;
 use crate::random::Random;
 use crate::tree::{Tree, noise_of, shuffled};
@@ -37,8 +37,8 @@ fn filled(
     Ok(table)
 }
 
-// Looks up each file by another spelling of its path. One look-up in three is for a path in the
-// same directory at which there is no file.
+// Looks up, for each file, another spelling of the file's path or, one time in three, a path in the
+// same directory at which there is no file. Returns the sum of the values found.
 fn look_up(
     alloc: Global,
     tree: Tree<'_>,
@@ -60,8 +60,8 @@ fn look_up(
     Ok(sum)
 }
 
-// Removes every eighth file, in the order in which they were inserted. Returns the sum of their
-// values.
+// Removes every eighth file, in the order in which the files were inserted. Returns the sum of the
+// values of the removed files.
 fn remove(
     alloc: Global,
     tree: Tree<'_>,
@@ -80,8 +80,8 @@ fn remove(
     Ok(sum)
 }
 
-// Lists the files below some directories: below each directory of 8,192 files, and below one in
-// eight of the directories of 16 files.
+// Adds to the digest the files below some directories: below each directory of 8,192 files, and
+// below one in eight of the directories of 16 files.
 fn list_below(
     alloc: Global,
     tree: Tree<'_>,
@@ -104,8 +104,9 @@ fn list_below(
     Ok(())
 }
 
-// Looks up the number of each file in a hash map, by another spelling of the file's path. One
-// look-up in three is for a path in the same directory at which there is no file.
+// Looks up, in a hash map, for each file of the table, another spelling of the file's path or, one
+// time in three, a path in the same directory at which there is no file. Returns the sum of the
+// numbers found.
 fn find_by_hash(
     alloc: Global,
     tree: Tree<'_>,
@@ -130,7 +131,7 @@ fn find_by_hash(
 }
 
 // Fills a table with `count` files, looks up each, lists some directories, removes some files, and
-// looks up the other files in a hash map.
+// looks up the other files in a hash map. Returns the digest of all results.
 pub(crate) fn run(alloc: Global, seed: u64, count: u64) -> Result<u64, AllocError> {
     let mut digest = Digest::new();
     let mut random = Random::new(seed ^ 1 << 32);

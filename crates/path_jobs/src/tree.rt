@@ -80,7 +80,8 @@ impl<'a> Tree<'a> {
     }
 
     // Appends a name of one or two words. `place` identifies the file or directory. The first word
-    // is one of the `span` words that begin at index `first`, which wrap around after 64.
+    // is one of the `span` words from index `first` on; after the last of the 64 words comes the
+    // first.
     fn push_name(
         self,
         out: &mut Vec<u8>,

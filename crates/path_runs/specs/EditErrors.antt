@@ -2,6 +2,6 @@
 use Rattle.std.specs.Prelude.{ℕ, List, codes}
 use Rattle.path_runs.specs.declared.edits.ApplyError.{ApplyError}
 
--- the printed error, which doesn't depend on the number of edits made
+-- the text that is printed for the error; it is the same, however many edits came before the error
 abbrev pub apply_error_text : ApplyError → List ℕ
 apply_error_text error = codes "out of memory"

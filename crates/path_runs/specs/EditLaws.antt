@@ -14,13 +14,15 @@ abbrev pub SameEdit : EditValue → EditValue → Type 0
 SameEdit (Push b) (Push c) = SameValues b c
 SameEdit d e = d ≡ e
 
--- applied to equal paths, lists of edits that are pairwise the same return the same answers
+-- if s and t are equal paths, and the lists ds and es have the same edits one by one (`SameEdit`),
+-- applying ds to s returns the same answers as applying es to t
 abbrev pub EqualPathsSameAnswers : Type 0
 EqualPathsSameAnswers =
     (s t : List ℕ) (ds es : List EditValue) → SameValues s t → AllZip SameEdit ds es
     → (edits_of s ds).1 ≡ (edits_of t es).1
 
--- applied to equal paths, lists of edits that are pairwise the same leave equal paths
+-- if s and t are equal paths, and the lists ds and es have the same edits one by one (`SameEdit`),
+-- applying ds to s and applying es to t leaves equal paths
 abbrev pub EqualPathsStayEqual : Type 0
 EqualPathsStayEqual =
     (s t : List ℕ) (ds es : List EditValue) → SameValues s t → AllZip SameEdit ds es
@@ -30,24 +32,26 @@ EqualPathsStayEqual =
 abbrev pub IsOneName : List ℕ → List ℕ → Type 0
 IsOneName n name = values n ≡ Normal name ∷ []
 
--- the answer of a push of one name is `Plain`, and a pop after it returns true
+-- if n is one name, a push of n to s has the answer `Plain`, and a pop after it the answer true
 abbrev pub PopAnswersTrue : Type 0
 PopAnswersTrue =
     (s n name : List ℕ) → IsOneName n name
     → (edits_of s (Push n ∷ Pop ∷ [])).1 ≡ Plain ∷ Flag true ∷ []
 
--- a push of one name and a pop leave the components from before the push
+-- if n is one name, a push of n to s and then a pop leave a path equal to s
 abbrev pub PopUndoesPush : Type 0
 PopUndoesPush =
     (s n name : List ℕ) → IsOneName n name → SameValues (edits_of s (Push n ∷ Pop ∷ [])).0 s
 
--- replacing a file name by one name leaves the parent's bytes unchanged
+-- if s has a file name, and n is one name, setting n as the file name of s leaves the bytes of the
+-- parent of s unchanged
 abbrev pub NewNameKeepsParent : Type 0
 NewNameKeepsParent =
     (s old n name : List ℕ) → file_name_of (values s) ≡ Some old → IsOneName n name
     → parent_of (edit_of s (SetFileName n)).0 ≡ parent_of s
 
--- a name that replaces a file name is the last component
+-- if s has a file name, and n is the one name `name`, then `name` is the last component after n is
+-- set as the file name of s
 abbrev pub NewNameIsLast : Type 0
 NewNameIsLast =
     (s old n name : List ℕ) → file_name_of (values s) ≡ Some old → IsOneName n name
@@ -67,15 +71,18 @@ pub record IsSimpleExtension (x : List ℕ) : Type 0 where
 abbrev pub SetsExtension : List ℕ → List ℕ → List ℕ → Type 0
 SetsExtension s x t = IsSimpleExtension x × (edit_of s (SetExtension x) ≡ (t, Flag true))
 
--- setting a simple extension leaves the stem unchanged
+-- if x is simple, and setting it as the extension of s returns true and leaves t, then t has the
+-- stem of s
 abbrev pub NewExtensionKeepsStem : Type 0
 NewExtensionKeepsStem =
     (s x t : List ℕ) → SetsExtension s x t → stem_of (values t) ≡ stem_of (values s)
 
--- after a simple extension is set, it is the path's extension
+-- if x is simple, and setting it as the extension of s returns true and leaves t, then x is the
+-- extension of t
 abbrev pub NewExtensionIsSet : Type 0
 NewExtensionIsSet = (s x t : List ℕ) → SetsExtension s x t → extension_of (values t) ≡ Some x
 
--- setting a simple extension leaves the parent's bytes unchanged
+-- if x is simple, and setting it as the extension of s returns true and leaves t, then the parents
+-- of s and t have the same bytes
 abbrev pub NewExtensionKeepsParent : Type 0
 NewExtensionKeepsParent = (s x t : List ℕ) → SetsExtension s x t → parent_of t ≡ parent_of s

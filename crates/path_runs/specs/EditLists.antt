@@ -10,7 +10,7 @@ use Rattle.unix_path.specs.Extensions.{has_slash, added_extension_of}
 use Rattle.path_runs.specs.declared.edits.Answer.{Answer}
 use Rattle.path_runs.specs.declared.edits.Answer.TheVariants.{Plain, Flag, Separator}
 
--- an edit, with the bytes that it needs
+-- an edit, with the bytes of the path, name or extension that it pushes, sets or adds
 pub data EditValue : Type 0 where
   Push : List ℕ → EditValue
   Pop : EditValue

@@ -11,7 +11,7 @@ use Rattle.path_runs.specs.declared.edits.Edit.{Edit}
 use Rattle.path_runs.specs.declared.edits.Edit.TheVariants.{Push, Pop, SetFileName}
 use Rattle.path_runs.specs.declared.edits.Edit.TheVariants.{SetExtension, AddExtension, Clear}
 
--- the edit, with its bytes instead of a view of them
+-- an edit of the code as an edit of `EditLists`: it has the bytes instead of a view of them
 abbrev pub edit_value : Edit → EditValue
 edit_value (Push path) = edit_lists.Push path.bytes.now
 edit_value Pop = edit_lists.Pop

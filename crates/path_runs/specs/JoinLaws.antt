@@ -33,7 +33,8 @@ JoinAddsValues =
     (a b : List ℕ) → a ≢ [] → is_rooted b ≡ false
     → values (join_of a b) ≡ values a ++ drop_dot (values b)
 
--- the bytes b after a slash add their components, without a leading root or `.`
+-- the components of a, a slash and b are the components of a and the slash, followed by the
+-- components of b without a leading root or `.`
 abbrev pub SlashAddsValues : Type 0
 SlashAddsValues =
     (a b : List ℕ) → values (a ++ slash ∷ b) ≡ values (a ++ slash ∷ []) ++ drop_leading (values b)
@@ -44,7 +45,8 @@ abbrev pub values_added : List ℕ → List ℕ → List Value
 values_added [] b = values b
 values_added (x ∷ a) b = drop_dot (values b)
 
--- if s starts with base, joining base with the rest of s after it leads to the components of s
+-- if s starts with the components of base, then base joined with the rest of s after these
+-- components is a path equal to s
 abbrev pub StripThenJoin : Type 0
 StripThenJoin =
     (s base : List ℕ) → IsPrefixOf (values base) (values s)

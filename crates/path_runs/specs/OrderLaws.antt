@@ -26,13 +26,14 @@ BeforeIsTransitive = (u v w : List Value) → IsBefore u v → IsBefore v w → 
 abbrev pub PrefixBothWays : Type 0
 PrefixBothWays = (v w : List Value) → IsPrefixOf v w → IsPrefixOf w v → v ≡ w
 
--- if two lists of components start with base, so does every list between them in the order
+-- if the lists of components u and w start with base, so does each list v with u ≤ v ≤ w in the
+-- order
 abbrev pub DescendantsContiguous : Type 0
 DescendantsContiguous =
     (base u v w : List Value) → IsPrefixOf base u → IsPrefixOf base w
     → is_le (values_cmp u v) ≡ true → is_le (values_cmp v w) ≡ true → IsPrefixOf base v
 
--- a list of components is not greater than any list that starts with it
+-- the list of components base is less than or equal to each list that starts with it
 abbrev pub BaseBeforeUnder : Type 0
 BaseBeforeUnder = (base v : List Value) → IsPrefixOf base v → is_le (values_cmp base v) ≡ true
 

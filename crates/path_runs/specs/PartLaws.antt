@@ -11,11 +11,12 @@ NoPartNoByte = (s : List ℕ) → (values s ≡ []) ↔ (s ≡ [])
 abbrev pub without : ℕ → ℕ → List Value → List Value
 without k m vs = take (length vs - (k + m)) (drop k vs)
 
--- the rest of a path, without the first k and the last m components, has the remaining components
+-- the components of the rest of s, which is s without its first k and last m components, are the
+-- components of s without the first k and the last m
 abbrev pub RestHasValues : Type 0
 RestHasValues = (s : List ℕ) (k m : ℕ) → values (rest s k m) ≡ without k m (values s)
 
--- taking k components from the front and m from the back, and then i and j more from the rest,
--- leaves the same bytes as taking k + i and m + j components at once
+-- taking k components from the front and m from the back of s, and then i from the front and j from
+-- the back of the rest, leaves the same bytes as taking k + i and m + j components of s at once
 abbrev pub RestOfRest : Type 0
 RestOfRest = (s : List ℕ) (k m i j : ℕ) → rest (rest s k m) i j ≡ rest s (k + i) (m + j)

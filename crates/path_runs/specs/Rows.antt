@@ -11,8 +11,8 @@ use Rattle.unix_path.specs.Parts.{Value}
 abbrev pub value_at : {V : Type 0} → List Value → List (List Value × V) → Option V
 value_at v rows = lookup (is_at (values_cmp v)) rows
 
--- for all components except w, the new rows have the same value as the old rows, or none if they
--- have none
+-- for each list of components except w, the rows `new` have the same value as the rows `old`, or
+-- both have none
 abbrev pub SameElsewhere : {V : Type 0} → List Value → List (List Value × V)
     → List (List Value × V) → Type 0
 SameElsewhere w old new = (v : List Value) → ¬ (v ≡ w) → value_at v new ≡ value_at v old

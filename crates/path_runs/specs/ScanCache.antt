@@ -8,7 +8,7 @@ use Rattle.path_runs.specs.declared.edits.cache.ScanCache.{ScanCache}
 use Rattle.path_runs.specs.declared.edits.stems.Stems.{Stems}
 
 -- in the first `len` bytes of s, the last component ends at index `end`, exclusive, and only filler
--- follows it
+-- follows it; `end` is 0 if these bytes have no component
 pub record CachesEnd (s : List ℕ) (end len : ℕ) : Type 0 where
   pub in_order : end ≤ len
   pub in_range : len ≤ length s
@@ -20,8 +20,8 @@ pub record CachesStem (s : List ℕ) (stem : ℕ) : Type 0 where
   pub in_range : stem ≤ length s
   pub ends : 0 < stem → stem_end_of (take stem s) ≡ Some stem
 
--- the first of the 32 offsets is 0, and the offsets up to index `last`, inclusive, are in ascending
--- order
+-- there are 32 offsets, the first is 0, and the offsets up to index `last`, which is less than 32,
+-- are in ascending order; this includes the offset at `last`
 pub record IsStack (stems : Stems) : Type 0 where
   pub size : length stems.offsets ≡ 32
   pub in_range : stems.last < 32

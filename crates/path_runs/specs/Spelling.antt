@@ -11,7 +11,8 @@ slashed_bytes vs = join_with_byte slash (map value_bytes vs)
 abbrev pub slash_each : List Value → List ℕ
 slash_each vs = flat_map (λ v. slash ∷ value_bytes v) vs
 
--- a leading root as a slash, followed by the other components' bytes with slashes between them
+-- the canonical form of a list of components: a slash for a leading root, and then the bytes of the
+-- other components, with one slash between neighbours
 unfoldable pub spelling_of : List Value → List ℕ
 spelling_of [] = []
 spelling_of (RootDir ∷ vs) = slash ∷ slashed_bytes vs

@@ -23,7 +23,8 @@ abbrev pub SpellingDeterminesValues : Type 0
 SpellingDeterminesValues =
     (s t : List ℕ) → SameValues s t ↔ (spelling_of (values s) ≡ spelling_of (values t))
 
--- the bytes of a path's components, each joined to those before it, are the canonical form
+-- the empty path, joined with the bytes of each component of s, one after the other, is the
+-- canonical form of s
 abbrev pub JoinsAreSpelling : Type 0
 JoinsAreSpelling =
     (s : List ℕ) → join_all_of [] (map value_bytes (values s)) ≡ spelling_of (values s)

@@ -8,7 +8,7 @@ use Rattle.unix_path.specs.Parts.{Value, values}
 use Rattle.unix_path.specs.Order.{values_cmp}
 use Rattle.unix_path.specs.declared.path.Path.{Path}
 
--- the bytes of a view
+-- the bytes of a borrowed path
 abbrev pub view_bytes : Path → List ℕ
 view_bytes path = path.bytes.now
 
@@ -16,14 +16,16 @@ view_bytes path = path.bytes.now
 abbrev pub rows_of : {K V : Type 0} → (K → List ℕ) → List (K × V) → List (List Value × V)
 rows_of bytes_of entries = map (λ e. (values (bytes_of e.0), e.1)) entries
 
--- a lookup by a path finds the value of the row with the path's components
+-- looking up the entry whose key has the components w finds the same value, or none, as looking up
+-- the row with the components w in the rows of `entries`
 abbrev pub LookupByValues : {K : Type 0} → (K → List ℕ) → Type 0 → Type 0
 LookupByValues {K} bytes_of V =
     (w : List Value) (entries : List (K × V))
     → lookup (is_at (λ k. values_cmp w (values (bytes_of k)))) entries
     ≡ lookup (is_at (values_cmp w)) (rows_of bytes_of entries)
 
--- inserting by a path adds a row with the path's components, or replaces the value of that row
+-- if `key` and `value` are inserted into `entries`, the rows after that are the rows of `entries`
+-- into which the components of `key`, and `value`, are inserted
 abbrev pub InsertByValues : {K : Type 0} → (K → List ℕ) → Type 0 → Type 0
 InsertByValues {K} bytes_of V =
     (entries : List (K × V)) (key : K) (value : V)
@@ -31,7 +33,8 @@ InsertByValues {K} bytes_of V =
     (insert_entry (on (λ k. values (bytes_of k)) values_cmp) entries key value)
     ≡ insert_entry values_cmp (rows_of bytes_of entries) (values (bytes_of key)) value
 
--- removing by a path removes the row with the path's components
+-- if the entry whose key has the components w is removed from `entries`, the rows after that are
+-- the rows of `entries` from which the row with the components w is removed
 abbrev pub RemoveByValues : {K : Type 0} → (K → List ℕ) → Type 0 → Type 0
 RemoveByValues {K} bytes_of V =
     (w : List Value) (entries : List (K × V))

@@ -18,7 +18,7 @@ fn is_gap(bytes: &[u8], at: usize) -> bool
 }
 
 // Searches the 16 bytes from index `at` on for the first byte at which a gap begins. Returns the
-// number of bytes before it, or 16 if a gap begins at none of the 16.
+// number of bytes from `at` up to that byte, exclusive, or 16 if a gap begins at none of the 16.
 #[inline]
 fn gapless_simd16(bytes: &[u8], at: usize) -> usize
     requires { at + 18 ≤ length bytes.now }

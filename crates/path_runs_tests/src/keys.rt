@@ -8,8 +8,8 @@ use std::alloc::{AllocError, Global};
 use std::test::Fail;
 use unix_path::Path;
 
-// A path, the first key and the end (exclusive) of the range of all paths that start with it, the
-// key of its parent, and its name as written in the key.
+// A path, the first key and the exclusive end of the range of keys of all paths that start with
+// this path, the key of the path's parent, and the path's file name as written in its key.
 type Parts = (
     &'static str,
     &'static [u8],

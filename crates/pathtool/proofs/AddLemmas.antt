@@ -26,7 +26,8 @@ pub adds_found : {T E : Type 0} (r : Result T E) (new old : List ℕ) (found : O
     → OnOk r (new ≡ old ++ optional bytes)
 adds_found r new old found bytes e h = adds r new old (ap optional e) h
 
--- if `known` is `Some`, the step that appended `+` and its bytes appended the answer for `known`
+-- if `found` is `bytes`, and `known` is `Some bytes`, the step that appended `+` and `found`
+-- appended the answer for `known`
 pub adds_some : {T E : Type 0} (r : Result T E) (new old found bytes : List ℕ)
     (known : Option (List ℕ)) → found ≡ bytes → Some bytes ≡ known
     → OnOk r (new ≡ old ++ optional (Some found)) → OnOk r (new ≡ old ++ optional known)
@@ -37,8 +38,8 @@ pub adds_none : {T E : Type 0} (r : Result T E) (new old : List ℕ) (known : Op
     → None ≡ known → OnOk r (new ≡ old ++ optional None) → OnOk r (new ≡ old ++ optional known)
 adds_none r new old known k h = adds r new old (ap optional k) h
 
--- if `is_so` says whether the path starts with the components of the base, the step that appended
--- its word appended the answer of `starts`
+-- if `is_so` says whether `path` starts with the components of `base`, the step that appended the
+-- word for `is_so` appended the answer of `starts`
 pub adds_starts : {T E : Type 0} (r : Result T E) (new old : List ℕ) (is_so : Bool)
     (path base : List ℕ) → Decides is_so (IsPrefixOf (values base) (values path))
     → OnOk r (new ≡ old ++ bool_text is_so)
@@ -47,8 +48,8 @@ adds_starts r new old is_so path base d h = adds r new old
     (ap bool_text (same_from_decides is_so (starts_with same_value (values path) (values base)) d
     (starts_with-Decides (values path) (values base)))) h
 
--- if `is_so` says whether the path ends with the components of the child, the step that appended
--- its word appended the answer of `ends`
+-- if `is_so` says whether `path` ends with the components of `child`, the step that appended the
+-- word for `is_so` appended the answer of `ends`
 pub adds_ends : {T E : Type 0} (r : Result T E) (new old : List ℕ) (is_so : Bool)
     (path child : List ℕ) → Decides is_so (IsSuffixOf (values child) (values path))
     → OnOk r (new ≡ old ++ bool_text is_so)
@@ -57,23 +58,24 @@ adds_ends r new old is_so path child d h = adds r new old
     (ap bool_text (same_from_decides is_so (ends_with same_value (values path) (values child)) d
     (ends_with-Decides (values path) (values child)))) h
 
--- if the path starts with the base, the step that appended `+` and the rest after the base appended
--- the answer of `strip`
+-- if `path` starts with the components of `base`, and `found` is the rest of `path` after them, the
+-- step that appended `+` and `found` appended the answer of `strip`
 pub adds_rest : {T E : Type 0} (r : Result T E) (new old path base rest found : List ℕ)
     → IsPrefixOf (values base) (values path) → rest ≡ stripped_of path base → found ≡ rest
     → OnOk r (new ≡ old ++ optional (Some found)) → OnOk r (new ≡ old ++ strip_answer path base)
 adds_rest r new old path base rest found starts e is h =
     adds r new old (strip_answer-ok path base found starts (is ∙ e)) h
 
--- if the path doesn't start with the base, the step that appended the message appended the answer
--- of `strip`
+-- if `path` doesn't start with the components of `base`, the step that appended `prefix not found`
+-- appended the answer of `strip`
 pub adds_error : {T E : Type 0} (r : Result T E) (new old path base : List ℕ)
     → (IsPrefixOf (values base) (values path) → ⊥) → OnOk r (new ≡ old ++ codes "prefix not found")
     → OnOk r (new ≡ old ++ strip_answer path base)
 adds_error r new old path base h said =
     adds r new old (strip_answer-not_found path base h) said
 
--- if the path is valid UTF-8, the step that appended its JSON string appended the answer of `json`
+-- if `path` is valid UTF-8, and `said` is its JSON string, the step that appended `said` appended
+-- the answer of `json`
 pub adds_quoted : {T E : Type 0} (r : Result T E) (new old path said : List ℕ)
     → ((IsText path → ⊥) → ⊥) → said ≡ quoted path → OnOk r (new ≡ old ++ said)
     → OnOk r (new ≡ old ++ json_of path)

@@ -73,8 +73,8 @@ WasInterrupted r = IsErrAnd r (λ e. error_kind e ≡ Interrupted)
 abbrev pub Interrupts : {S A : Type 0} → (S → Result A Error → S → Type 0) → S → S → Type 0
 Interrupts gives s t = (r : Result _ Error) × WasInterrupted r × gives s r t
 
--- calls that the system interrupted, and then a last call, which it didn't interrupt or which is
--- the 2^64th
+-- any number of calls that the system interrupted, and then a last call, with the result r, which
+-- the system didn't interrupt or which is the 2^64th call
 abbrev pub WithRetries : {S A : Type 0} → (S → Result A Error → S → Type 0)
     → S → Result A Error → S → Type 0
 WithRetries gives s r t = (n : ℕ) × ((u : _) × Calls (Interrupts gives) s n u × gives u r t

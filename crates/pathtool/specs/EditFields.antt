@@ -21,8 +21,8 @@ edits_by_name =
     ∷ (codes "add:", AddExtension)
     ∷ (codes "clear", λ _. Clear) ∷ []
 
--- the edit that a field names by its bytes up to and including the first colon, or `None` if it
--- names no edit
+-- the edit that a field names by its bytes up to and including the first colon, or by all its bytes
+-- if there is no colon; `None` if they name no edit
 abbrev pub edit_of_field : List ℕ → Option EditValue
 edit_of_field field =
     let n = position_or_len (λ b. b == byte ":") field + 1 in
@@ -34,7 +34,8 @@ answer_word Plain = codes "ok"
 answer_word (Flag is_so) = bool_text is_so
 answer_word Separator = codes "separator"
 
--- the bytes of the edited path, and then the word for the answer of each edit
+-- the items of the answer to edits: the bytes of the edited path, and then the word for the answer
+-- of each edit
 abbrev pub edit_items : List ℕ → List EditValue → List (List ℕ)
 edit_items path edits = let done = edits_of path edits in done.0 ∷ map answer_word done.1
 

@@ -92,7 +92,8 @@ fn push_words(answers: &[Answer], answer: &mut Vec<u8>) -> Result<(), AllocError
     Ok(())
 }
 
-// Appends the bytes of the edited path, and then the answer of each edit.
+// Applies the edits to the path. Appends the bytes of the edited path, and then, each after a tab,
+// the words for the answers of the edits.
 fn push_edited(path: Path<'_>, edits: &[Edit<'_>], answer: &mut Vec<u8>) -> Result<(), AllocError>
     ensures { OnOk result (answer.new.items ≡ answer.old.items
         ++ edited_answer path.entry.bytes.now (Some (map edit_value edits.now))) }

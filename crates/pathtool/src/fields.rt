@@ -10,8 +10,8 @@ ghost use Rattle.pathtool.specs.ExtraFields.{extra_fields, min_count};
 use unix_bytes::search::find_byte;
 use unix_path::Path;
 
-/// Splits bytes at the first `end`. Returns the bytes before it, and `Some` of the bytes after it,
-/// or all bytes and `None` if there is no `end`.
+/// Splits bytes at the first byte that is `end`. Returns the bytes before that byte, and `Some` of
+/// the bytes after it, or all bytes and `None` if no byte is `end`.
 ///
 /// `split_at_byte(b"a:b:c", b':')` is `a` and `b:c`.
 pub fn split_at_byte(bytes: &[u8], end: u8) -> (&[u8], Option<&[u8]>)
@@ -44,7 +44,7 @@ pub fn first_line(input: &[u8]) -> (&[u8], &[u8])
     }
 }
 
-/// Returns true if and only if the field is this name.
+/// Returns true if and only if `field` has the same bytes as `name`.
 ///
 /// `is_named(b"pop", b"pop")` is true.
 pub fn is_named(field: &[u8], name: &[u8]) -> bool
@@ -59,7 +59,7 @@ pub fn is_named(field: &[u8], name: &[u8]) -> bool
 /// `pop`, the value is `Several`.
 #[derive(Clone, Copy)]
 pub enum ExtraFields<'a> {
-    /// No field follows.
+    /// No field follows the path.
     None,
     /// One field.
     One(&'a [u8]),
@@ -81,7 +81,7 @@ pub struct Line<'a> {
     ghost count: { min_count extra ≤ length (extra_fields extra) },
 }
 
-// Returns the extra fields of a line, from the bytes after the path and its tab.
+// Returns the extra fields of a line, from the bytes after the tab that follows the path.
 fn extra_fields_from(fields: &[u8]) -> ExtraFields<'_>
     ensures value { extra_fields result ≡ fields_of fields.now }
     ensures count { min_count result ≤ length (extra_fields result) }

@@ -8,7 +8,7 @@ use std::alloc::AllocError;
 use unix_bytes::bytes::UnixStr;
 use unix_path::Path;
 
-/// Appends `+` and the bytes to `answer`, or `-` for `None`.
+/// Appends `+` and the bytes of `found` to `answer`, or `-` if `found` is `None`.
 ///
 /// For `Some` of `a` appends `+a`.
 pub fn push_optional(found: Option<UnixStr<'_>>, answer: &mut Vec<u8>) -> Result<(), AllocError>

@@ -89,7 +89,7 @@ fn read_to_end<R: Source>(alloc: Global, reader: &mut Watched<R>) -> Result<Vec<
     }
 }
 
-// Writes all bytes.
+// Writes all of `bytes`. After an error a prefix of `bytes` has been written.
 fn write_all<W: Sink>(writer: &mut Watched<W>, bytes: &[u8]) -> Result<(), RunError>
     requires { has_failed writer.old ≡ false }
     ensures ok { OnOk result (Appends (W.contents (watched_inner writer.old))
@@ -114,7 +114,7 @@ fn write_all<W: Sink>(writer: &mut Watched<W>, bytes: &[u8]) -> Result<(), RunEr
     Ok(())
 }
 
-// Writes the answer to each line of the input.
+// Writes the answer to each line of the input, and a newline after each answer.
 fn write_answers<W: Sink>(
     alloc: Global,
     input: &[u8],

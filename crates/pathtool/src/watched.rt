@@ -25,7 +25,8 @@ pub struct Watched<T> {
 }
 
 impl<T> Watched<T> {
-    /// Watches `inner`. At first it has not failed, has not ended and is not flushed.
+    /// Creates a source or a sink that watches `inner`. It has not failed, has not ended and is not
+    /// flushed.
     ///
     /// `Watched::new(source).has_failed()` is false.
     pub fn new(inner: T) -> Watched<T>

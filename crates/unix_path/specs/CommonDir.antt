@@ -8,11 +8,12 @@ use Rattle.unix_path.specs.Names.{after_last}
 abbrev pub common_prefix : List ℕ → List ℕ → List ℕ
 common_prefix a b = take (common_prefix_len nat_eq a b) a
 
--- the index just after the last slash of the longest common prefix, or 0 if it has no slash
+-- the index just after the last slash of the longest common prefix of a and b, or 0 if this prefix
+-- has no slash
 unfoldable pub common_dir_of : List ℕ → List ℕ → ℕ
 common_dir_of a b = after_last is_slash (common_prefix a b)
 
--- the values of a string that follows a slash, and so has no root and no leading `.`: one value for
--- each piece that is neither empty nor `.`
+-- the values of s, which follows a slash, and so has no root and no leading `.`: one value for each
+-- piece that is neither empty nor `.`
 abbrev pub inner_values : List ℕ → List Value
 inner_values s = map (λ p. p.value) (inner_parts 0 s)

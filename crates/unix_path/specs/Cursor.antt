@@ -12,7 +12,8 @@ use Rattle.unix_path.specs.declared.cursor.component.Component.{Component}
 use Rattle.unix_path.specs.declared.cursor.walk.Components.{Components}
 use Rattle.unix_path.specs.declared.cursor.iter.Iter.{Iter}
 
--- the bytes that a cursor represents: those of its source between the two indices
+-- the bytes that a cursor represents: the bytes of its source from index `start` up to `end`,
+-- exclusive
 unfoldable pub cursor_rest : Components → List ℕ
 cursor_rest c = slice_range c.source.now c.start c.end
 
@@ -44,8 +45,9 @@ iter_start it = cursor_start it.components
 abbrev pub iter_bytes : Iter → List (List ℕ)
 iter_bytes it = map value_bytes (cursor_values it.components)
 
--- a call yields the item that `shows` maps to the first of `pending`, if there is one, and leaves
--- the rest after the first component, in the same memory and with the same end
+-- a call yields the item that `shows` maps to the first value of `pending old`, if there is one,
+-- and leaves the rest of `bytes old` after the first component, in the same memory and with the
+-- same end
 pub record GivesFirst {S A V : Type 0} (shows : A → V) (pending : S → List V) (bytes : S → List ℕ)
     (source : S → Bor (List ℕ)) (start : S → ℕ) (old : S) (item : Option A) (new : S)
     : Type 0 where
@@ -54,8 +56,9 @@ pub record GivesFirst {S A V : Type 0} (shows : A → V) (pending : S → List V
   pub place_is : LiesIn (source new) (source old)
   pub end_is : start new + length (bytes new) ≡ start old + length (bytes old)
 
--- a call yields the item that `shows` maps to the last of `pending`, if there is one, and leaves
--- the rest before the last component, in the same memory and with the same beginning
+-- a call yields the item that `shows` maps to the last value of `pending old`, if there is one, and
+-- leaves the rest of `bytes old` before the last component, in the same memory and with the same
+-- beginning
 pub record GivesLast {S A V : Type 0} (shows : A → V) (pending : S → List V) (bytes : S → List ℕ)
     (source : S → Bor (List ℕ)) (start : S → ℕ) (old : S) (item : Option A) (new : S)
     : Type 0 where

@@ -10,16 +10,15 @@ use Rattle.unix_path.specs.Joins.{join_of}
 use Rattle.unix_path.specs.Parents.{parent_of}
 use Rattle.unix_path.specs.Names.{file_name_of, stem_of}
 
--- the parent, or the whole path if there is none
+-- the parent of s, or all of s if it has no parent
 unfoldable pub popped_of : List ℕ → List ℕ
 popped_of s = unwrap_or (parent_of s) s
 
--- the path without its file name and the filler around it, or the whole path if there is no file
--- name
+-- s without its file name and the filler around the name, or all of s if it has no file name
 unfoldable pub before_name_of : List ℕ → List ℕ
 before_name_of s = if is_some (file_name_of (values s)) then rest s 0 1 else s
 
--- the path without its file name, joined with the new name
+-- s without its file name, joined with the new name
 abbrev pub with_name_of : List ℕ → List ℕ → List ℕ
 with_name_of s name = join_of (before_name_of s) name
 
@@ -27,7 +26,7 @@ with_name_of s name = join_of (before_name_of s) name
 abbrev pub last_start_of : List Part → ℕ
 last_start_of ps = option_map_or (λ p. p.start) (last_or None ps) 0
 
--- the index where the stem of the file name ends, or None if there is no file name
+-- the index where the stem of the file name of s ends, or None if s has no file name
 unfoldable pub stem_end_of : List ℕ → Option ℕ
 stem_end_of s = option_map (λ stem. last_start_of (parts s) + length stem) (stem_of (values s))
 
@@ -35,8 +34,8 @@ stem_end_of s = option_map (λ stem. last_start_of (parts s) + length stem) (ste
 abbrev pub dot_before : List ℕ → List ℕ
 dot_before extension = if length extension == 0 then [] else dot ∷ []
 
--- the path up to the end of its stem, then a dot unless the extension is empty, and then the
--- extension; the whole path if it has no file name
+-- s up to the end of its stem, then a dot unless the extension is empty, and then the extension;
+-- all of s if it has no file name
 unfoldable pub with_extension_of : List ℕ → List ℕ → List ℕ
 with_extension_of s extension =
     option_map_or (λ end. (take end s ++ dot_before extension) ++ extension) (stem_end_of s) s

@@ -10,16 +10,16 @@ use Rattle.unix_path.specs.Edits.{last_start_of}
 use Rattle.unix_path.specs.declared.buf.extensions.ExtensionError.{ExtensionError}
 use Rattle.unix_path.specs.declared.buf.extensions.ExtensionError.TheVariants.{Separator, Memory}
 
--- one of the bytes of s is a slash
+-- at least one of the bytes of s is a slash
 abbrev pub has_slash : List ℕ → Bool
 has_slash s = list_any is_slash s
 
--- the index where the file name ends, or None if there is no file name
+-- the index where the file name of s ends, or None if s has no file name
 unfoldable pub name_end_of : List ℕ → Option ℕ
 name_end_of s = option_map (λ name. last_start_of (parts s) + length name) (file_name_of (values s))
 
--- the path up to the end of its file name, then a dot and the extension; the whole path if it has
--- no file name, or if the extension is empty
+-- s up to the end of its file name, then a dot and the extension; all of s if it has no file name,
+-- or if the extension is empty
 unfoldable pub added_extension_of : List ℕ → List ℕ → List ℕ
 added_extension_of s extension =
     if length extension == 0 then s

@@ -19,6 +19,6 @@ in_eights bytes = first_chunks 8 (length bytes / 8) bytes
 abbrev pub value_input : Value → HashWrites
 value_input v = in_eights (value_bytes v ++ terminator)
 
--- the inputs of these values, one after the other
+-- the writes that these values feed a hasher (`value_input`), one value after the other
 abbrev pub hash_input_of : List Value → HashWrites
 hash_input_of = flat_map value_input

@@ -6,7 +6,7 @@ use Rattle.serde_json.specs.declared.value.Value.{Value}
 use Rattle.unix_path.specs.declared.json.JsonError.{JsonError}
 use Rattle.unix_path.specs.declared.json.JsonError.TheVariants.{NotUtf8, NotString, Memory}
 
--- the value is a string of these bytes
+-- the JSON value `value` is a string with these bytes
 abbrev pub IsString : Value → List ℕ → Type 0
 IsString value bytes = view value ≡ string bytes
 

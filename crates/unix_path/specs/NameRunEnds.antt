@@ -2,7 +2,7 @@
 use Rattle.std.specs.Prelude.{◌≡◌, ◌<◌, ◌≤◌, ℕ, ◌+◌, ◌==◌, Bool, true, false, ◌||◌, ◌&&◌, List}
 use Rattle.std.specs.Prelude.{length, slice_index, slice_index_or, bit_and}
 
--- the byte at i is the separator, and another separator, a dot, or nothing follows it
+-- the byte of s at i is the separator, and another separator, a dot, or the end of s follows it
 abbrev pub is_end_candidate_of : ℕ → ℕ → List ℕ → ℕ → Bool
 is_end_candidate_of separator dot s i =
     let next = slice_index_or s (i + 1) separator in
@@ -16,12 +16,12 @@ LacksBits b = bit_and b 208 ≡ 0
 abbrev pub BothLackBits : ℕ → ℕ → Type 0
 BothLackBits separator dot = LacksBits separator × LacksBits dot
 
--- the byte at i is the separator, and the byte after it, if any, has none of the bits of 208
+-- the byte of s at i is the separator, and the byte after it, if any, has none of the bits of 208
 abbrev pub IsRoughEndCandidate : ℕ → List ℕ → ℕ → Type 0
 IsRoughEndCandidate separator s i = (slice_index s i ≡ separator)
     × LacksBits (slice_index_or s (i + 1) separator)
 
--- no name starts at i: the piece there is empty, a dot, or two dots
+-- no name starts at i in s: the piece that starts there is empty, a dot, or two dots
 abbrev pub no_name_starts_at : ℕ → ℕ → List ℕ → ℕ → Bool
 no_name_starts_at separator dot s i =
     let first = slice_index_or s i separator in
@@ -30,12 +30,13 @@ no_name_starts_at separator dot s i =
     first == separator ||
     (first == dot && (second == separator || (second == dot && third == separator)))
 
--- the byte at i is the separator, and no name starts after it
+-- the byte of s at i is the separator, and no name starts after it
 abbrev pub ends_name_run_of : ℕ → ℕ → List ℕ → ℕ → Bool
 ends_name_run_of separator dot s i = slice_index s i == separator
     && no_name_starts_at separator dot s (i + 1)
 
--- the first byte of s that ends a run of names is at `at`, or no byte does and `at` is the length
+-- the first byte of s that ends a run of names is at `at`, or no byte of s does and `at` is the
+-- length of s
 pub record IsNameRunEnd (separator dot : ℕ) (s : List ℕ) (at : ℕ) : Type 0 where
   pub in_range : at ≤ length s
   pub name_run_ends : at < length s → ends_name_run_of separator dot s at ≡ true

@@ -10,11 +10,11 @@ abbrev pub name_of : Value → Option (List ℕ)
 name_of (Normal name) = Some name
 name_of _ = None
 
--- the bytes of the last value, if it is a name
+-- the bytes of the last of these values, if it is a name; otherwise None
 unfoldable pub file_name_of : List Value → Option (List ℕ)
 file_name_of vs = option_and_then name_of (last_or None vs)
 
--- the index just after the last byte that passes p, or 0 if none does
+-- the index just after the last byte of s that passes p, or 0 if no byte of s does
 abbrev pub after_last : (ℕ → Bool) → List ℕ → ℕ
 after_last p s = length s - suffix_len (λ b. not (p b)) s
 
@@ -25,11 +25,13 @@ split_name name =
     let n = after_last (λ b. b == dot) name in
     if nat_lt 1 n then (take (n - 1) name, Some (drop n name)) else (name, None)
 
--- the file name without its extension
+-- the file name without its extension and the dot before the extension; None if there is no file
+-- name
 abbrev pub stem_of : List Value → Option (List ℕ)
 stem_of vs = option_map (λ name. (split_name name).0) (file_name_of vs)
 
--- the file name's bytes after its last dot
+-- the file name's bytes after its last dot; None if there is no file name, or if it has no dot
+-- after its first byte
 abbrev pub extension_of : List Value → Option (List ℕ)
 extension_of vs = option_and_then (λ name. (split_name name).1) (file_name_of vs)
 
@@ -37,6 +39,7 @@ extension_of vs = option_and_then (λ name. (split_name name).1) (file_name_of v
 abbrev pub name_prefix : List ℕ → List ℕ
 name_prefix name = take (1 + position_or_len (λ b. b == dot) (drop 1 name)) name
 
--- the file name up to its first dot at index 1 or later
+-- the file name up to its first dot at index 1 or later; the whole name if there is no such dot,
+-- and None if there is no file name
 abbrev pub file_prefix_of : List Value → Option (List ℕ)
 file_prefix_of vs = option_map name_prefix (file_name_of vs)

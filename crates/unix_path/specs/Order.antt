@@ -6,7 +6,7 @@ use Rattle.std.specs.Ordering.{is_eq, nat_cmp, then_cmp, on}
 use Rattle.std.specs.Cmp.Lexicographic.{slice_cmp}
 use Rattle.unix_path.specs.Parts.{Value, RootDir, CurDir, ParentDir, Normal, value_bytes}
 
--- the position of a value's kind in the order
+-- the position of a value's kind in the order of kinds: the root, `.`, `..`, names
 abbrev pub rank : Value → ℕ
 rank RootDir = 0
 rank CurDir = 1

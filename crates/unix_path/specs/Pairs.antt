@@ -15,7 +15,7 @@ use Rattle.unix_path.specs.declared.pair.Difference.TheVariants.{CutBefore}
 use Rattle.unix_path.specs.declared.pair.Comparison.{Comparison}
 use Rattle.unix_path.specs.declared.pair.Comparison.TheVariants.{Differs, StartsWith, IsPrefix}
 
--- the position of a kind in the order of paths
+-- the position of a kind in the order of kinds: no component, the root, `.`, `..`, names
 abbrev pub kind_rank : Kind → ℕ
 kind_rank Nothing = 0
 kind_rank RootDir = 1
@@ -23,18 +23,19 @@ kind_rank CurDir = 2
 kind_rank ParentDir = 3
 kind_rank Name = 4
 
--- the position of the first value's kind, or 0 if there is no value
+-- the position of the kind of the first of these values, or 0 if there is none
 abbrev pub first_rank : List Value → ℕ
 first_rank [] = 0
 first_rank (v ∷ vs) = 1 + rank v
 
--- x and y are the rests of a and b after a cut
+-- x and y are the rests of a and b after a cut; x is a suffix of a, in the same memory, and shorter
+-- than a
 pub record Cuts (a : Bor (List ℕ)) (b : List ℕ) (x : Bor (List ℕ)) (y : List ℕ) : Type 0 where
   pub shares : SharesPrefix a.now b x.now y
   pub shorter : length x.now < length a.now
   pub tail : IsTail x a
 
--- what the first difference of a and b, at n, shows
+-- what a `Difference` says of a and b, whose first difference is at n
 abbrev pub DifferenceShows : Bor (List ℕ) → List ℕ → ℕ → Difference → Type 0
 DifferenceShows a b n (Decided order) = AreApart a.now b order
 DifferenceShows a b n FirstComponents = DiffersAtStart a.now b n

@@ -17,7 +17,7 @@ dot = 46
 abbrev pub slash : ℕ
 slash = 47
 
--- the byte is a slash
+-- the byte b is a slash
 abbrev pub is_slash : ℕ → Bool
 is_slash b = b == slash
 
@@ -42,7 +42,7 @@ pub record Part : Type 0 where
   pub end : ℕ
   pub value : Value
 
--- the piece is neither empty nor `.`
+-- `piece` is neither empty nor `.`
 abbrev pub counts : List ℕ → Bool
 counts piece = not (bytes_eq piece [] || bytes_eq piece cur_dir)
 
@@ -63,12 +63,12 @@ parts_of_pieces at (p ∷ ps) =
 unfoldable pub inner_parts : ℕ → List ℕ → List Part
 inner_parts at s = parts_of_pieces at (slice_split is_slash s)
 
--- byte 0 is a slash
+-- byte 0 of s is a slash
 abbrev pub is_rooted : List ℕ → Bool
 is_rooted s = option_map_or is_slash (slice_get s 0) false
 
--- the leading part: the root at 0..1 if byte 0 is a slash, else the `.` at 0..1 if the first piece
--- is `.`, else nothing
+-- the leading component of s: the root at 0..1 if byte 0 of s is a slash; otherwise the `.` at 0..1
+-- if the first piece of s is `.`; otherwise none
 unfoldable pub leading_part : List ℕ → List Part
 leading_part s =
     let dotted = bytes_eq (before_first is_slash s) cur_dir in
@@ -80,7 +80,7 @@ leading_part s =
 unfoldable pub parts : List ℕ → List Part
 parts s = leading_part s ++ inner_parts 0 s
 
--- the components without their positions
+-- the components of s without their positions
 unfoldable pub values : List ℕ → List Value
 values s = map (λ p. p.value) (parts s)
 

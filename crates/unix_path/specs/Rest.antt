@@ -13,7 +13,7 @@ abbrev pub span_of : List ℕ → List Part → List ℕ
 span_of s [] = []
 span_of s (p ∷ ps) = slice_range s p.start (last_end p ps)
 
--- the bytes of s from the start of the first to the end of the last of its components, not counting
--- its first k and its last m components
+-- the rest of s without its first k and last m components: the bytes from the start of the first
+-- remaining component to the end of the last; empty if none remains
 unfoldable pub rest : List ℕ → ℕ → ℕ → List ℕ
 rest s k m = let all = parts s in span_of s (take (length all - (k + m)) (drop k all))

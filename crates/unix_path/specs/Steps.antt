@@ -18,42 +18,42 @@ pub record EndsInPiece (s : List ℕ) : Type 0 where
   pub no_slash : (slice_index s (length s - 1) == slash) ≡ false
   pub part : EndsInPart s
 
--- v is the first value of s, and t is the rest after it
+-- the first value of s is v, and t is the rest of s after it
 pub record TakesFirst (s t : List ℕ) (v : Value) : Type 0 where
   pub value : values s ≡ v ∷ values t
   pub rest : rest s 1 0 ≡ t
   pub ends : EndsInPart t
 
--- the first component of s has the value v, and n is its length with the filler after it
+-- the first component of s has the value v, and with the filler after it this component has n bytes
 pub record StepsFirst (s : List ℕ) (n : ℕ) (v : Value) : Type 0 where
   pub in_range : n ≤ length s
   pub value : values s ≡ v ∷ values (drop n s)
   pub takes : EndsInPart s → TakesFirst s (drop n s) v
   pub not_filler : 0 < length (drop n s) → is_filler (drop n s) 0 ≡ false
 
--- v is the last value of s, and t is the rest before it
+-- the last value of s is v, and t is the rest of s before it
 pub record TakesLast (s t : List ℕ) (v : Value) : Type 0 where
   pub value : values s ≡ values t ++ v ∷ []
   pub rest : rest s 0 1 ≡ t
   pub ends : EndsInPart t
 
--- the last component of s has the value v and ends at `end`, and the rest before it ends at
--- `before`
+-- the last component of s has the value v and ends at `end`, and the rest of s before this
+-- component is the first `before` bytes
 pub record HasLast (s : List ℕ) (before end : ℕ) (v : Value) : Type 0 where
   pub in_range : before ≤ length s
   pub value : values s ≡ values (take before s) ++ v ∷ []
   pub before_is : take before s ≡ rest s 0 1
   pub end_is : end ≡ length (rest s 0 0)
 
--- the byte at i plus 1, or 0 if a piece ends there: at a slash, or at the end
+-- the byte of s at i, plus 1; or 0 if s has a slash or its end at i, so that a piece ends there
 abbrev pub piece_rank : List ℕ → ℕ → ℕ
 piece_rank s i = let b = slice_index_or s i slash in if b == slash then 0 else 1 + b
 
--- a piece begins at i: at 0, or after a slash
+-- a piece of s begins at i: i is 0, or the byte before i is a slash
 abbrev pub is_piece_start : List ℕ → ℕ → Bool
 is_piece_start s i = i == 0 || slice_index s (i - 1) == slash
 
--- t is s without the filler at its beginning, where s follows a slash
+-- t is s without its leading filler, if s follows a slash
 pub record AfterFiller (s t : List ℕ) : Type 0 where
   pub len : ℕ
   pub is : t ≡ drop len s
@@ -65,7 +65,7 @@ abbrev pub IsCommonPrefixLen : List ℕ → List ℕ → ℕ → Type 0
 IsCommonPrefixLen a b n = n ≡ common_prefix_len nat_eq a b
 
 -- the first difference of a and b, at byte n, is at the beginning of their first components: n is
--- 0, or n is 1 and both begin with a dot
+-- 0, or n is 1 and both begin with a dot; and if both have the same `piece_rank` at n, n is 0
 pub record DiffersAtStart (a b : List ℕ) (n : ℕ) : Type 0 where
   pub near : n ≤ 1
   pub dot : 0 < n → slice_index a 0 ≡ dot
@@ -91,7 +91,7 @@ pub record HasMore (a b : List ℕ) : Type 0 where
   pub some : 0 < length more
   pub is : values b ≡ values a ++ more
 
--- a and b end in the same n bytes, and none of these is a slash
+-- a and b end in the same n bytes, and none of these n bytes is a slash
 pub record HasCommonSuffix (a b : List ℕ) (n : ℕ) : Type 0 where
   pub in_first : n ≤ length a
   pub in_second : n ≤ length b

@@ -1,4 +1,5 @@
-//! Walks over the components of a path from both ends, which skip filler, and over its ancestors.
+//! Walks over the components of a path, from both ends and without filler, and walks over a path
+//! and its ancestors.
 mod component;
 mod hash;
 mod iter;

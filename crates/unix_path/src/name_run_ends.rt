@@ -209,7 +209,7 @@ fn end_candidate_block(bytes: &[u8], start: usize, last: usize, separator: u8, d
     at
 }
 
-// Returns an index before which no run of names ends. It is near the end of the first run.
+// Returns an index that is near the end of the first run of names. No run ends before this index.
 #[inline(always)]
 fn name_run_end_min(bytes: &[u8], separator: u8, dot: u8) -> usize
     requires { BothLackBits separator dot }

@@ -24,7 +24,7 @@ pub(crate) enum Comparison<'a> {
     // The first components that differ are in this order.
     Differs(Ordering),
     // The first path starts with the second. The slice is the rest of the first path after the
-    // second, without filler at its start.
+    // components of the second, without leading filler.
     StartsWith(&'a [u8]),
     // The second path starts with the first, and has more components.
     IsPrefix,
@@ -35,10 +35,11 @@ pub(crate) enum Comparison<'a> {
 pub(crate) enum Difference<'a, 'b> {
     // These bytes lie in two components that differ, and determine the order of the paths.
     Decided(Ordering),
-    // The first components differ, or one path has none. The differing bytes determine the order
-    // only if both components are names.
+    // The first components of the two paths differ, or one path has no components. The differing
+    // bytes determine the order only if both components are names.
     FirstComponents,
-    // Both paths can be cut before these bytes. The slices are the rests after the cut.
+    // Both paths can be cut just before these bytes, or before a dot that precedes them. The slices
+    // are the rests of the first and the second path after the cut.
     CutBefore(&'a [u8], &'b [u8]),
 }
 
@@ -62,8 +63,8 @@ enum Kind {
     Name,
 }
 
-// Returns the length of `bytes`, the rest of a path after a cut, without the filler at its
-// beginning. The result is 0 if and only if no component follows the cut. Not inlined, like
+// Returns the number of bytes after the leading filler of `bytes`, which is the rest of a path
+// after a cut. The result is 0 if and only if no component follows the cut. Not inlined, like
 // `order_after_cut` and `rest_after_cut`, so that their callers stay small.
 #[inline(never)]
 pub(crate) fn rest_len(bytes: &[u8]) -> usize
@@ -73,7 +74,8 @@ pub(crate) fn rest_len(bytes: &[u8]) -> usize
     after_filler(bytes).len()
 }
 
-// Returns the byte at `at` plus 1, or 0 if a piece ends there: at a slash, or at the end.
+// Returns the byte at `at`, plus 1. Returns 0 if a slash or the end of `bytes` is at `at`, so that
+// a piece ends there.
 #[inline]
 fn piece_rank(bytes: &[u8], at: usize) -> u16
     ensures { result ≡ piece_rank bytes.now at }
@@ -85,8 +87,8 @@ fn piece_rank(bytes: &[u8], at: usize) -> u16
     }
 }
 
-// Returns true only if the byte at `at` is neither a slash nor a dot. A piece with such a byte is a
-// name.
+// Returns true only if there is a byte at `at` and it is neither a slash nor a dot. A piece with
+// such a byte is a name.
 #[inline(always)]
 fn is_in_name(bytes: &[u8], at: usize) -> bool
     ensures no_end { IsTrue result → piece_rank bytes.now at ≢ 0 }
@@ -95,7 +97,8 @@ fn is_in_name(bytes: &[u8], at: usize) -> bool
     at < bytes.len() && bytes[at] != b'/' && bytes[at] != b'.'
 }
 
-// Returns true if and only if a piece begins at `at`: at 0, or after a slash.
+// Returns true if and only if a piece begins at `at`: if `at` is 0, or the byte before `at` is a
+// slash.
 #[inline]
 pub(crate) fn is_piece_start(bytes: &[u8], at: usize) -> bool
     requires { at ≤ length bytes.now }
@@ -107,7 +110,7 @@ pub(crate) fn is_piece_start(bytes: &[u8], at: usize) -> bool
 impl Kind {
     ghost use Rattle.unix_path.specs.Pairs.{first_rank, kind_rank};
 
-    // Returns the kind of a path's first component, which the first three bytes determine.
+    // Returns the kind of the first component of `path`, which the first three bytes determine.
     #[inline]
     #[tactic(auto, using(crate::proofs::lemmas::order::KindLemmas::first_rank_of))]
     fn of_start(path: &[u8]) -> Kind
@@ -145,7 +148,7 @@ impl Kind {
 impl<'a, 'b> Pair<'a, 'b> {
     ghost use Rattle.unix_path.specs.Pairs.{DifferenceShows};
 
-    // Returns what the first difference shows.
+    // Returns what the first difference of the two paths shows.
     #[inline(always)]
     pub(crate) fn first_difference(self) -> Difference<'a, 'b>
         ensures { DifferenceShows self.entry.first self.entry.second.now self.entry.common result }
@@ -214,7 +217,7 @@ impl<'a, 'b> Pair<'a, 'b> {
 impl<'a> Comparison<'a> {
     ghost use Rattle.unix_path.specs.Pairs.{Compared, IsRest};
 
-    // Returns the relation of two paths whose rests after a cut are `a` and `b`.
+    // Compares two paths, of which `a` and `b` are the rests after a cut.
     #[inline(always)]
     fn compare_after_cut(a: &'a [u8], b: &[u8]) -> Comparison<'a>
         ensures { Compared a.entry b.now result }
@@ -242,7 +245,7 @@ impl<'a> Comparison<'a> {
         }
     }
 
-    // Returns the order of two paths whose rests after a cut are `a` and `b`.
+    // Returns the order of two paths, of which `a` and `b` are the rests after a cut.
     #[inline(never)]
     pub(crate) fn order_after_cut(a: &[u8], b: &[u8]) -> Ordering
         ensures { (s t : List ℕ) → SharesPrefix s t a.now b.now

@@ -7,8 +7,8 @@ ghost use Rattle.unix_path.specs.Steps.{EndsInPiece, HasCommonSuffix, SharesSuff
 use crate::cursor::Components;
 use crate::pair::is_piece_start;
 
-// Returns true only if the last byte belongs to a component and isn't a slash. The last piece is
-// then a component.
+// Returns true only if the last byte of `bytes` belongs to a component and isn't a slash. The last
+// piece is then a component.
 #[inline]
 fn ends_in_part(bytes: &[u8]) -> bool
     ensures { IsTrue result → EndsInPiece bytes.now }
@@ -20,7 +20,7 @@ fn ends_in_part(bytes: &[u8]) -> bool
     bytes[len - 1] != b'.' || len == 1 || bytes[len - 2] != b'/'
 }
 
-// Returns the length of the longest common suffix that contains no slash.
+// Returns the length of the longest common suffix of `a` and `b` that contains no slash.
 #[inline]
 #[tactic(auto, using(crate::proofs::lemmas::order::EndingLemmas::longer_ends))]
 fn common_suffix_len(a: &[u8], b: &[u8]) -> usize
@@ -61,8 +61,9 @@ pub(crate) fn shared_last_len(a: &[u8], b: &[u8]) -> Option<usize>
     }
 }
 
-// Returns true if and only if `path`'s components end with `child`'s, compared one by one. Not
-// inlined, so that callers need no stack space for two walks if the last bytes decide.
+// Returns true if and only if the components of `path` end with the components of `child`. They are
+// compared one by one. Not inlined, so that callers need no stack space for two walks if the last
+// bytes decide.
 #[inline(never)]
 pub(crate) fn ends_with_parts(path: &[u8], child: &[u8]) -> bool
     ensures { IsTrue result ↔ IsSuffixOf (values child.now) (values path.now) }

@@ -44,7 +44,7 @@ pub fn join_starts_with()
         → values (join_of a b) ≡ values a ++ values_added a b }
 {}
 
-/// If a path starts with a base, the base joined with the rest of the path is equal to the path.
+/// If a path starts with a base, the base joined with the rest after it is equal to the path.
 ///
 /// The bytes may change. The components don't.
 ///

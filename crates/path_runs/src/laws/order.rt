@@ -40,7 +40,7 @@ pub fn descendants_contiguous()
     ensures { DescendantsContiguous }
 {}
 
-/// A list of components is not greater than any list that starts with it.
+/// A list of components is less than or equal to each list that starts with it.
 ///
 /// In the order of paths, a base therefore comes before every path that starts with it, except
 /// those that equal it.
@@ -53,8 +53,8 @@ pub fn base_before_under()
 /// Two paths that begin with the same bytes and then a slash are ordered by what follows that
 /// slash, without a root or a leading `.`.
 ///
-/// If `common_dir` returns n for two paths, and n isn't 0, they are therefore ordered by their
-/// bytes after the first n.
+/// If `common_dir` returns n for two paths, and n isn't 0, the paths are therefore ordered by the
+/// components after their first n bytes, without a root or a leading `.`.
 ///
 /// `x/./b` and `x//a` are ordered as `b` and `a` are.
 pub fn order_after_prefix()

@@ -24,7 +24,7 @@ pub fn canonical_is_short()
     ensures { SpellingFits }
 {}
 
-/// A path's components, each joined to those before it, are the canonical form of the path.
+/// The components of a path, joined one after the other, are the canonical form of the path.
 ///
 /// This holds byte for byte. It also holds for the rest of a walk, since that is a path too.
 ///

@@ -29,8 +29,8 @@ fn rest_after<'a>(walk: Components<'a>, turns: &[u8]) -> Components<'a> {
     rest
 }
 
-// Returns true if collecting the rest of the walk returns its canonical form, and `write_canonical`
-// writes the same bytes to a buffer of exactly their length.
+// Returns true if collecting the rest of a walk returns the canonical form of this rest, and
+// `write_canonical` writes the same bytes to a buffer of exactly their length.
 fn is_collected(alloc: Global, rest: Components<'_>) -> Result<bool, AllocError> {
     let spelled = canonical(alloc, rest.as_path())?;
     let bytes = spelled.as_path().bytes;

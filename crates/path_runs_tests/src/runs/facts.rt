@@ -125,8 +125,8 @@ fn order_of_names(a: UnixStr<'_>, b: UnixStr<'_>) -> Ordering
     a.cmp(&b)
 }
 
-// Takes the first component of the rest, and then the last one. The first component, the new rest
-// and the last component are together the old rest.
+// Takes the first component of the rest, and then the last one. The first component, the components
+// of the new rest and the last component, in this order, are the components of the old rest.
 fn take_both<'a>(parts: &mut Components<'a>) -> (Option<Component<'a>>, Option<Component<'a>>)
     ensures { map value_of (option_to_list result.0) ++ cursor_values parts.new
         ++ reverse (map value_of (option_to_list result.1)) ≡ cursor_values parts.old }

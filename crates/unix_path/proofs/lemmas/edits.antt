@@ -1,5 +1,5 @@
 -- Joins, and where edits cut a path.
 pub mod JoinLemmas
 pub mod EditLemmas
--- Only for this crate.
+-- The modules below are only for this crate.
 pub mod SeparatorLemmas

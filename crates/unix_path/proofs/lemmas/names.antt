@@ -4,7 +4,7 @@ pub mod NameLemmas
 pub mod StemLemmas
 pub mod NameCutLemmas
 pub mod NameEndLemmas
--- Only for this crate.
+-- The modules below are only for this crate.
 mod DepthLemmas
 pub mod AncestorLemmas
 pub mod NamedLemmas

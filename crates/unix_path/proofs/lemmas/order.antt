@@ -1,6 +1,6 @@
 -- The comparison of two strings, and what is fed to a hasher.
 pub mod CommonPrefixLemmas
--- Only for this crate.
+-- The modules below are only for this crate.
 pub mod EightLemmas
 pub mod EqualValueLemmas
 pub mod ComparisonLemmas

@@ -3,5 +3,5 @@ pub mod ValueLemmas
 pub mod PieceLemmas
 pub mod PlaceLemmas
 pub mod PartLemmas
--- Only for this crate.
+-- The modules below are only for this crate.
 pub mod CutLemmas

@@ -2,6 +2,6 @@
 pub mod SpanLemmas
 pub mod LeadLemmas
 pub mod LastPieceLemmas
--- Only for this crate.
+-- The modules below are only for this crate.
 pub mod LastLemmas
 pub mod StepLemmas

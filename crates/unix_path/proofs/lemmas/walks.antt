@@ -1,6 +1,6 @@
 -- Walks: their indices, and what their calls return.
 pub mod CursorLemmas
--- Only for this crate.
+-- The modules below are only for this crate.
 pub mod OffsetLemmas
 pub mod ComponentLemmas
 pub mod MixedLemmas

@@ -16,8 +16,8 @@ use crate::path_end::needs_no_separator;
 use std::alloc::{AllocError, Global};
 use unix_bytes::bytes::{UnixStr, UnixString};
 
-// Returns the byte that a join puts between `base` and `path`, which has no root, or `None` if it
-// puts none there.
+// Returns the byte that a join of `path`, which has no root, to `base` puts between them, or `None`
+// if it puts none there.
 #[inline]
 #[tactic(auto, using(crate::proofs::lemmas::edits::JoinLemmas::rootless_joins))]
 fn join_separator(base: &[u8], path: Path<'_>) -> Option<u8>
@@ -58,7 +58,7 @@ pub(super) fn total_len(keep: usize, separator: Option<u8>, more: &[u8]) -> usiz
     }
 }
 
-// Appends the byte `separator`, if there is one, and then `more`.
+// Appends to `text` the byte `separator`, if there is one, and then `more`.
 #[inline]
 fn push_with_separator(
     text: &mut UnixString,
@@ -130,8 +130,8 @@ impl PathBuf {
         self.inner.push(path.as_unix_str())
     }
 
-    // Replaces all bytes by those of `path`. Not inlined, so that `push`, which is always inlined,
-    // stays small.
+    // Replaces all bytes of this path by the bytes of `path`. Not inlined, so that `push`, which is
+    // always inlined, stays small.
     #[inline(never)]
     fn replace(&mut self, path: Path<'_>) -> Result<(), AllocError>
         ensures ok { OnOk result (path_bytes self.new ≡ path.entry.bytes.now) }

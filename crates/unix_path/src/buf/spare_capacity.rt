@@ -53,9 +53,10 @@ impl PathBuf {
         self.inner.shrink_to_fit()
     }
 
-    /// Lowers the capacity to `min_capacity` bytes, or to the path's length if that is greater.
+    /// Lowers the capacity to `min_capacity` bytes, or to the path's length if the length is
+    /// greater.
     ///
-    /// If the capacity is already no greater than that, it is kept and nothing is allocated.
+    /// If the capacity is already that low or lower, it is kept, and nothing is allocated.
     /// Otherwise the call moves the bytes, which can fail. After a failure the bytes are unchanged,
     /// and the capacity is no greater than before.
     ///

@@ -27,7 +27,7 @@ fn padded_tail(rest: &[u8]) -> u64
     }
 }
 
-// Feeds a hasher the bytes, a slash, and zeros up to a multiple of eight bytes, in writes of eight
+// Feeds a hasher `bytes`, a slash, and zeros up to a multiple of eight bytes, in writes of eight
 // bytes.
 #[inline]
 fn feed_bytes<H: Hasher>(bytes: &[u8], state: &mut H)

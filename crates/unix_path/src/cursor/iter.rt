@@ -77,7 +77,7 @@ impl<'a> DoubleEndedIterator for Iter<'a> {
 
 impl FusedIterator for Iter<'_> {}
 
-// Its debug form lists the bytes of each remaining component.
+// A walk whose debug form lists the bytes of each remaining component.
 #[derive(Clone, Copy)]
 struct BytesList<'a>(Iter<'a>);
 

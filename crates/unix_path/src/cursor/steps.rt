@@ -88,8 +88,8 @@ fn is_trailing_simd16(path: &[u8], at: usize) -> bool
     other.to_bitmask() == 0
 }
 
-// Drops blocks of 16 bytes from the end of the first `len` bytes, as long as the block is all
-// filler and more than 16 bytes remain before the drop. Returns how many bytes remain.
+// Drops blocks of 16 bytes from the end of the first `len` bytes, as long as the last block is all
+// filler and more than 16 bytes remain before the block is dropped. Returns how many bytes remain.
 #[inline(never)]
 fn trimmed_blocks_len(path: &[u8], len: usize) -> usize
     requires { len ≤ length path.now }
@@ -123,8 +123,8 @@ pub(crate) fn trimmed_len(path: &[u8], len: usize) -> usize
     end
 }
 
-// Splits off the last component, which must be the root or a name, and the filler before it.
-// Returns how many bytes remain, and the component.
+// Splits off the last component and the filler before it. The component must be the root or a name,
+// and end where `path` ends. Returns how many bytes remain, and the component.
 #[inline(always)]
 pub(crate) fn split_last_root_or_name(path: &[u8]) -> (usize, Component<'_>)
     requires some { 0 < length path.now }
@@ -144,8 +144,8 @@ pub(crate) fn split_last_root_or_name(path: &[u8]) -> (usize, Component<'_>)
     (trimmed_len(path, start), Component::Normal(name))
 }
 
-// Splits off the last component, and the filler before it. Returns how many bytes remain, and the
-// component.
+// Splits off the last component, which must end where `path` ends, and the filler before it.
+// Returns how many bytes remain, and the component.
 #[inline(always)]
 pub(super) fn split_last_component(path: &[u8]) -> (usize, Component<'_>)
     requires some { 0 < length path.now }

@@ -27,7 +27,7 @@ use std::iter::FusedIterator;
 #[derive(Clone, Copy)]
 pub struct Components<'a> {
     source: &'a [u8],
-    // The bytes that remain lie between these indices of the source.
+    // The bytes that remain are the bytes of `source` from index `start` up to `end`, exclusive.
     start: usize,
     end: usize,
     // `has_lead` is true if the source begins with the root or a leading `.`, and `lead_pending` if
@@ -38,8 +38,8 @@ pub struct Components<'a> {
         lead_pending } by { IsWalk-prop _ _ _ _ _ },
 }
 
-// The last component of a path, the index `end` where it ends, and the index `before` where the
-// rest without it ends.
+// The last component of a path, the index `end` where this component ends, and the index `before`
+// where the component before it ends, or 0 if there is none.
 #[derive(Clone, Copy)]
 pub(crate) struct LastPart<'a> {
     pub(crate) before: usize,
@@ -64,7 +64,7 @@ impl<'a> Components<'a> {
         Components::whole(path)
     }
 
-    // Returns the walk that represents the bytes of a path up to the end of its last component.
+    // Returns the walk that represents the bytes of `path` up to the end of its last component.
     #[inline]
     fn whole(path: &'a [u8]) -> Components<'a>
         ensures rest { cursor_rest result ≡ rest path.now 0 0 }
@@ -178,7 +178,7 @@ impl<'a> DoubleEndedIterator for Components<'a> {
 
 impl FusedIterator for Components<'_> {}
 
-// Its debug form lists the remaining components.
+// A walk whose debug form lists the remaining components.
 #[derive(Clone, Copy)]
 struct ComponentList<'a>(Components<'a>);
 

@@ -2,7 +2,8 @@ use Rattle.std.proofs.Common.{◌≡◌, ◌-◌, ◌<◌, ◌≤◌, ◌++◌, 
 use Rattle.path_runs.specs.Gaps.{slashed_parts, IsPartStart}
 use Rattle.path_runs.proofs.canonical.push_parts.Given as goal
 
--- the bytes appended so far, followed by the remaining components, are all the bytes to append
+-- the bytes appended so far, followed by the remaining components, each after a slash, are all the
+-- bytes to append
 abbrev pub invariant-loop-start : goal.invariant-loop-start
 invariant-loop-start l = record {
   in_range : l.start ≤ length l.bytes;

@@ -30,7 +30,7 @@ depths_same s t e = ap₂ (λ n rooted. n - cond rooted 1 0) (ap length e) (root
 pub rests_same : (s t : List ℕ) (k m : ℕ) → SameValues s t → SameValues (rest s k m) (rest t k m)
 rests_same s t k m e = values-rest s k m ∙ ap (middle k m) e ∙ sym (values-rest t k m)
 
--- two edits leave equal paths and return the same answer
+-- two outcomes of edits, each a path and an answer, have equal paths and the same answer
 abbrev SameOutcome : List ℕ × Answer → List ℕ × Answer → Type 0
 SameOutcome p q = SameValues p.0 q.0 × (p.1 ≡ q.1)
 
@@ -72,13 +72,13 @@ added_extension_same s t x e = by_test (eqb (length x) 0)
     (λ some. values-added_extension_of s x some ∙ ap (renamed (λ name. name ++ 46 ∷ x)) e
     ∙ sym (values-added_extension_of t x some))
 
--- the path after x is set or added as the extension of s, and the answer; the path is u, or s if x
--- has a slash
+-- the path and the answer after x is set or added as the extension of s: if x has a slash, s and
+-- `Separator`; otherwise u, and a flag that is true if s has a file name
 abbrev pub unless_slash : List ℕ → List ℕ → List ℕ → List ℕ × Answer
 unless_slash s x u = cond (has_slash x) (s, Separator) (u, Flag (is_some (file_name_of (values s))))
 
--- if s and t are equal, and so are the paths u and v after x is set or added, both calls return the
--- same answer and leave equal paths
+-- if s and t are equal paths, and so are u and v, the outcomes of setting or adding the extension x
+-- of s, which leaves u, and of t, which leaves v, have equal paths and the same answer
 unless_slash_same : (s t x u v : List ℕ) → SameValues s t → SameValues u v
     → SameOutcome (unless_slash s x u) (unless_slash t x v)
 unless_slash_same s t x u v e f = by_test (has_slash x)
@@ -98,14 +98,15 @@ one_same s t (AddExtension x) k =
     (added_extension_same s t x k)
 one_same s t Clear k = (refl, refl)
 
--- the same edit of equal paths, or a push of equal paths to them, leaves equal paths and returns
--- the same answer
+-- if s and t are equal paths, and d and e are the same edit or push equal paths (`SameEdit`), then
+-- d of s and e of t leave equal paths and return the same answer
 edit_same : (s t : List ℕ) (d e : EditValue) → SameValues s t → SameEdit d e
     → SameOutcome (edit_of s d) (edit_of t e)
 edit_same s t (Push b) (Push c) k h = (joins_same s t b c k h, refl)
 edit_same s t d e k h = subst (λ e. SameOutcome (edit_of s d) (edit_of t e)) h (one_same s t d k)
 
--- the same edits of equal paths leave equal paths and return the same answers
+-- if s and t are equal paths, and the lists ds and es have the same edits one by one (`SameEdit`),
+-- applying ds to s and es to t leaves equal paths and returns the same answers
 pub edits_same : (s t : List ℕ) (ds es : List EditValue) → SameValues s t → AllZip SameEdit ds es
     → SameValues (edits_of s ds).0 (edits_of t es).0 × ((edits_of s ds).1 ≡ (edits_of t es).1)
 edits_same s t [] [] k h = (k, refl)

@@ -17,7 +17,8 @@ result_of-append : (s : List ℕ) (es : List EditValue) (e : EditValue)
 result_of-append s [] e = refl
 result_of-append s (d ∷ es) e = result_of-append (edit_of s d).0 es e
 
--- the answer of one more edit follows the answers of the edits before it
+-- the answers of the edits es and e are the answers of es, followed by the answer of e when it is
+-- applied to the path after es
 answers-append : (s : List ℕ) (es : List EditValue) (e : EditValue)
     → (edits_of s (es ++ e ∷ [])).1 ≡ (edits_of s es).1 ++ (edit_of (result_of s es) e).1 ∷ []
 answers-append s [] e = refl
@@ -30,8 +31,9 @@ pub record HasApplied (s : List ℕ) (edits : List Edit) (i : ℕ) (bytes : List
   pub bytes_are : bytes ≡ (edits_of s (map edit_value (take i edits))).0
   pub answers_are : answers ≡ (edits_of s (map edit_value (take i edits))).1
 
--- if t is the result of the first i edits, and u is the result of applying edit i to t, then u is
--- the result of the first i + 1 edits, and the answer of edit i is added
+-- if t is the path after the first i of the edits es, and `answers` are their answers, i is less
+-- than the length of es, and applying edit i to t leaves u and returns a, then u is the path after
+-- the first i + 1 edits, and `answers` followed by a are their answers
 pub HasApplied-more : (s : List ℕ) (es : List Edit) (i : ℕ) (d : Edit) (t u : List ℕ)
     (answers : List Answer) (a : Answer) → HasApplied s es i t answers → i < length es
     → u ≡ (edit_of t (edit_value (get_or es i d))).0

@@ -30,7 +30,8 @@ pub record Keeps (s t : List ℕ) (n : ℕ) : Type 0 where
   pub in_range : n ≤ length t
   pub same : take n s ≡ take n t
 
--- if y is the first n bytes of s and then x, y keeps the first n bytes of s
+-- if s has at least n bytes, and y is the first n bytes of s and then x, y keeps the first n bytes
+-- of s
 pub keeps-front : (s x y : List ℕ) (n : ℕ) → n ≤ length s → y ≡ take n s ++ x → Keeps s y n
 keeps-front s x y n l is =
     let size = length-take-le n s l in record {
@@ -39,7 +40,7 @@ keeps-front s x y n l is =
           ∙ take-take n n s (omega arith));
     }
 
--- a string that keeps n bytes also keeps each smaller number of bytes
+-- if t keeps the first n bytes of s, it keeps the first k bytes of s for each k up to n
 pub keeps-fewer : (s t : List ℕ) (k n : ℕ) → Keeps s t n → k ≤ n → Keeps s t k
 keeps-fewer s t k n h l = record {
   in_range = omega (arith, h.in_range);
@@ -57,7 +58,7 @@ IsCacheOf-keeps s t k h keeps = record {
       (h.stems i l).in_range;
 }
 
--- a join with a rootless path keeps all bytes of the first path
+-- if b has no root, the join of s and b keeps all bytes of s
 keeps-join : (s b : List ℕ) → is_rooted b ≡ false → Keeps s (join_of s b) (length s)
 keeps-join s b r = by_test (needs_no_separator s)
     (λ o. keeps-front s b (join_of s b) (length s) (omega arith)
@@ -66,13 +67,13 @@ keeps-join s b r = by_test (needs_no_separator s)
     (join_of_separator s b r o ∙ append_assoc s (47 ∷ []) b
     ∙ ap (λ s. s ++ (47 ∷ [] ++ b)) (sym (take-length s))))
 
--- a cache that is valid for a path is also valid for the path's join with a rootless path
+-- if a cache is valid for s, and b has no root, the cache is also valid for the join of s and b
 pub IsCacheOf_join : (s b : List ℕ) (k : ScanCache) → IsCacheOf s k → is_rooted b ≡ false
     → IsCacheOf (join_of s b) k
 IsCacheOf_join s b k h r = IsCacheOf-keeps s (join_of s b) k h (keeps-join s b r)
 
--- if a path has at least n bytes, and only the bytes after the first n are replaced, it keeps the
--- first n
+-- if v is s and has at least n bytes, and t is the first n bytes of s, then y and then x, t keeps
+-- the first n bytes of v
 pub keeps-replaced : (s t v y x : List ℕ) (n : ℕ) → v ≡ s → n ≤ length v
     → t ≡ (take n s ++ y) ++ x → Keeps v t n
 keeps-replaced s t v y x n view few made = keeps-front v (y ++ x) t n few
@@ -82,21 +83,22 @@ keeps-replaced s t v y x n view few made = keeps-front v (y ++ x) t n few
 keeps-self : (s : List ℕ) → Keeps s s (length s)
 keeps-self s = record { in_range = omega arith; same = refl }
 
--- a path cut before its last m components keeps all bytes before the cut
+-- the rest of s without its last m components has the same bytes as the beginning of s
 keeps-rest : (s : List ℕ) (m : ℕ) → Keeps s (rest s 0 m) (length (rest s 0 m))
 keeps-rest s m = record {
   in_range = omega arith;
   same = take-rest s m ∙ sym (take-length (rest s 0 m));
 }
 
--- if a pop leaves n bytes, they are the first n bytes of the path
+-- if a pop of s leaves t, which has n bytes, t keeps the first n bytes of s
 pub keeps-pop : (s t : List ℕ) (n : ℕ) → t ≡ popped_of s → n ≡ length t → Keeps s t n
 unfolding popped_of parent_of
 keeps-pop s t n e size = by_test (eqb (depth_of s) 0)
     (λ root. rw (size, e, root) (keeps-self s))
     (λ deep. rw (size, e, deep) (keeps-rest s 1))
 
--- if a path begins with a slash, and its components end at index 0 or 1, it has no parent
+-- if s begins with a slash, and the first `end` bytes of s, at most one, have all components of s,
+-- then s has no parent
 pub parent_of-root_only : (s : List ℕ) (end : ℕ) → 0 < length s → get_or s 0 0 ≡ 47
     → parts (take end s) ≡ parts s → end ≤ 1 → None ≡ parent_of s
 unfolding values
@@ -108,21 +110,22 @@ parent_of-root_only (b ∷ s) (suc zero) some r same few =
     ∙ ap (λ (ps : List Part). RootDir ∷ map (λ p. p.value) ps) (inner_parts-nil 1))
 parent_of-root_only (b ∷ s) (suc (suc n)) some r same few = absurd (omega arith)
 
--- if a path has no file name, a new name is joined to the whole path
+-- if s has no file name, s with the new file name `name` is s joined with `name`
 pub with_name_of-nameless : (s name : List ℕ) → None ≡ name_end_of s
     → with_name_of s name ≡ join_of s name
 unfolding before_name_of
 with_name_of-nameless s name e = rw (file_name_of-no_name_end s e) refl
 
--- a path cut before its file name keeps all bytes before the cut
+-- s without its file name and the filler around it, or all of s if it has no file name, has the
+-- same bytes as the beginning of s
 keeps-before : (s : List ℕ) → Keeps s (before_name_of s) (length (before_name_of s))
 unfolding before_name_of
 keeps-before s = by_test (is_some (file_name_of (values s)))
     (λ named. rw named (keeps-rest s 1))
     (λ nameless. rw nameless (keeps-self s))
 
--- if t is s with a new file name, t keeps the bytes of s, except for the new name at its end and
--- one byte before the name
+-- if t is s with the new file name `name`, and n is the length of t less the length of `name` and
+-- one more byte (0 if t is shorter), t keeps the first n bytes of s
 pub keeps-name : (s t name : List ℕ) (n : ℕ) → t ≡ with_name_of s name
     → n ≡ length t - (length name + 1) → Keeps s t n
 keeps-name s t name n made size =

@@ -26,7 +26,7 @@ use Rattle.std.proofs.lemmas.List.Elements.{All-append, All-cons, All-take}
 use Rattle.unix_path.proofs.lemmas.names.NameLemmas.{split_name-stem}
 use Rattle.path_runs.proofs.lemmas.joins.SiblingLemmas.{parent_of-name, file_name_of-name}
 
--- the stem of a name has at least one byte
+-- if `name` has at least one byte, its stem does too
 some_stem : (name : List ℕ) → 0 < length name → 0 < length (split_name name).0
 some_stem name l = by (split_case name)
   where
@@ -54,8 +54,8 @@ new_name name b x h k =
     (All-append (λ c. c ≢ 47) stem (46 ∷ b ∷ x) stem_bytes
     (All-cons (λ c. c ≢ 47) 46 (b ∷ x) (λ e. absurd (omega arith)) k))
 
--- if u is empty or ends in a slash, the parent of u followed by one name is u without trailing
--- filler
+-- if s is u and then b, u is empty or ends in a slash, and s has the components of u and then the
+-- name `name`, then the parent of s is u without trailing filler
 parent_of-open : (s u b name : List ℕ) → s ≡ u ++ b → needs_no_separator u ≡ true
     → values s ≡ values u ++ Normal name ∷ [] → parent_of s ≡ Some (rest u 0 0)
 parent_of-open s u b name is o e =
@@ -63,8 +63,9 @@ parent_of-open s u b name is o e =
     ∙ ap Some (ap (λ s. rest s 0 1) is
     ∙ rest-appended u b (Normal name) o (ap values (sym is) ∙ e))
 
--- if s has the file name `name`, and b ∷ x has neither a dot nor a slash, setting b ∷ x as the
--- extension of s keeps the stem and the parent, and the path then has this extension
+-- if s has the file name `name` and is cut at that name (`NameCut`), and b ∷ x has neither a dot
+-- nor a slash, then s with b ∷ x set as its extension has the same stem and parent as s, and the
+-- extension b ∷ x
 new_extension-cut : (s name : List ℕ) (b : ℕ) (x : List ℕ) → file_name_of (values s) ≡ Some name
     → NameCut s name → HasNoByte 46 (b ∷ x) → HasNoByte 47 (b ∷ x)
     → NewExtension s (with_extension_of s (b ∷ x)) (split_name name).0 (b ∷ x)
@@ -87,8 +88,8 @@ new_extension-cut s name b x e c dot slash =
           (c.whole ∙ append_assoc c.prefix name c.back) c.ends c.before);
     }
 
--- if s has the file name `name`, setting the simple extension x keeps the stem and the parent, and
--- the path then has the extension x
+-- if s has the file name `name`, and the extension x is simple, then s with x set as its extension
+-- has the same stem and parent as s, and the extension x
 set_extension : (s name x : List ℕ) → file_name_of (values s) ≡ Some name
     → IsSimpleExtension x
     → NewExtension s (with_extension_of s x) (split_name name).0 x
@@ -96,8 +97,8 @@ set_extension s name [] e h = absurd (h.some refl)
 set_extension s name (b ∷ x) e h =
     new_extension-cut s name b x e (name_cut s name e) h.no_dot h.no_slash
 
--- if setting the simple extension x of s returns true and leaves t, s has a file name, and t has
--- its stem, the extension x and the parent of s
+-- if x is simple, and setting it as the extension of s returns true and leaves t, then s has a file
+-- name, and t has the stem and the parent of s, and the extension x
 new_extension : (s x t : List ℕ) → SetsExtension s x t
     → (name : List ℕ) × (file_name_of (values s) ≡ Some name)
     × NewExtension s t (split_name name).0 x
@@ -117,7 +118,8 @@ new_extension s x t h = by_test (has_slash x)
       subst (λ t. NewExtension s t (split_name name).0 x) e (set_extension s name x is h.0),
     )
 
--- if setting a simple extension of s returns true and leaves t, t has the stem of s
+-- if x is simple, and setting it as the extension of s returns true and leaves t, then t has the
+-- stem of s
 pub stem_of-new_extension : (s x t : List ℕ) → SetsExtension s x t
     → stem_of (values t) ≡ stem_of (values s)
 stem_of-new_extension s x t h =
@@ -125,13 +127,15 @@ stem_of-new_extension s x t h =
     ap (option_map (λ name. (split_name name).0)) new.2.file_name ∙ ap (λ c. Some c.0) new.2.split
     ∙ sym (ap (option_map (λ name. (split_name name).0)) new.1)
 
--- if setting the simple extension x of s returns true and leaves t, t has the extension x
+-- if x is simple, and setting it as the extension of s returns true and leaves t, then t has the
+-- extension x
 pub extension_of-new_extension : (s x t : List ℕ) → SetsExtension s x t
     → extension_of (values t) ≡ Some x
 extension_of-new_extension s x t h =
     let new = new_extension s x t h in
     ap (option_and_then (λ name. (split_name name).1)) new.2.file_name ∙ ap (λ c. c.1) new.2.split
 
--- if setting a simple extension of s returns true and leaves t, t has the parent of s
+-- if x is simple, and setting it as the extension of s returns true and leaves t, then t has the
+-- parent of s
 pub parent_of-new_extension : (s x t : List ℕ) → SetsExtension s x t → parent_of t ≡ parent_of s
 parent_of-new_extension s x t h = (new_extension s x t h).2.parent

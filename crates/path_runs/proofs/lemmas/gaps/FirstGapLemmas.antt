@@ -1,5 +1,6 @@
 -- The first gap of a string. The bytes before it are the first piece and then components, each
--- after a slash. An inner component is a `..` or a name.
+-- after a slash. `slashed_parts s` are the components of s without a leading root or `.`, each
+-- after a slash.
 use Rattle.std.proofs.Common.{◌≡◌, ℕ, zero, suc, ◌+◌, ◌-◌, ◌<◌, ◌≤◌, true, false, eqb, ◌&&◌, ◌||◌}
 use Rattle.std.proofs.Common.{List, [], ◌∷◌, ◌++◌, length, take, drop, map, get_or, refl, sym, ap}
 use Rattle.std.proofs.Common.{ap₂, ◌∙◌, eqb-true, arith, append-nil, drop-cons, length-drop}
@@ -20,8 +21,8 @@ use Rattle.unix_path.proofs.lemmas.parts.PlaceLemmas.{values-inner_parts}
 use Rattle.unix_path.proofs.lemmas.parts.ValueLemmas.{value_bytes-piece}
 use Rattle.path_runs.specs.Gaps.{is_gap, slashed_parts, FirstGap, IsPartStart}
 
--- if byte i of s is filler, removing it from the bytes from i on changes none of their inner
--- components
+-- if byte i of s is filler, the bytes of s from i on and those from i + 1 on have the same
+-- components, apart from a leading root or `.`
 pub slashed_parts-filler : (s : List ℕ) (i : ℕ) → i < length s → is_filler s i ≡ true
     → slashed_parts (drop i s) ≡ slashed_parts (drop (i + 1) s)
 unfolding slashed_parts
@@ -30,8 +31,9 @@ slashed_parts-filler s i l e = ap (flat_map (λ v. slash ∷ value_bytes v))
     ∙ ap (map (λ (p : Part). p.value)) (inner_parts_filler_at 0 s i l e)
     ∙ values-inner_parts (0 + (i + 1)) (drop (i + 1) s))
 
--- if s begins with a component, this component is the first piece of s, and the other components
--- come after that piece
+-- if s isn't empty and begins with a component that is neither the root nor `.`, the components of
+-- s, each after a slash, are a slash, the first piece of s, and then the components after that
+-- piece, each after a slash
 slashed_parts-not_filler : (s : List ℕ) → 0 < length s → is_filler s 0 ≡ false
     → slashed_parts s ≡ slash ∷ (first_piece s ++ slashed_parts
     (drop (position_or_len is_slash s) s))
@@ -43,7 +45,7 @@ slashed_parts-not_filler s l e =
     ∙ ap₂ (λ p vs. slash ∷ (p ++ flat_map (λ v. slash ∷ value_bytes v) vs))
     (value_bytes-piece (first_piece s)) (values-inner_parts (0 + n) (drop n s))
 
--- if the first byte x is removed, the index of each later gap becomes one less
+-- a gap of x ∷ s begins at index i + 1 if and only if a gap of s begins at index i
 pub is_gap-after_start : (x : ℕ) (s : List ℕ) (i : ℕ) → is_gap (x ∷ s) (suc i) ≡ is_gap s i
 is_gap-after_start x s i =
     let next : get_or (x ∷ s) (suc i + 1) 47 ≡ get_or s (i + 1) 47 =
@@ -52,8 +54,8 @@ is_gap-after_start x s i =
     ap (λ k. get_or (x ∷ s) k 47) {x = suc i + 2} {y = suc (i + 2)} (omega arith) in
     ap₂ (λ b c. eqb (get_or s i 0) 47 && (eqb b 47 || (eqb b 46 && eqb c 47))) next after
 
--- if no gap begins at the first byte x, and x is removed, the index of the first gap becomes one
--- less
+-- if the first gap of x ∷ s is at index n + 1, the first gap of s is at index n; in a string
+-- without a gap, the end counts as one
 FirstGap-after_start : (x : ℕ) (s : List ℕ) (n : ℕ) → FirstGap (x ∷ s) (suc n) → FirstGap s n
 FirstGap-after_start x s n h = record {
   in_range = omega (arith, h.in_range);
@@ -61,27 +63,29 @@ FirstGap-after_start x s n h = record {
   none_before = λ i l. sym (is_gap-after_start x s i) ∙ h.none_before (suc i) (omega arith);
 }
 
--- a slash at which no gap begins is followed by a component
+-- if x is a slash, and no gap of x ∷ s begins at index 0, then s isn't empty and begins with a
+-- component
 component_after_slash : (x : ℕ) (s : List ℕ) → eqb x 47 ≡ true → is_gap (x ∷ s) 0 ≡ false
     → (0 < length s) × (is_filler s 0 ≡ false)
 component_after_slash x [] e g = absurd (let d : true ≡ false = rw e at g in cc)
 component_after_slash x (y ∷ s) e g = (omega arith, rw e at g)
 
--- if a string begins with a slash, its first piece is empty, and its components come after that
--- piece
+-- if x is a slash, the first piece of x ∷ s, which is empty, and the components after that piece,
+-- each after a slash, are the components of x ∷ s without the root, each after a slash
 pub first_slash : (x : ℕ) (s : List ℕ) → eqb x 47 ≡ true
     → first_piece (x ∷ s) ++ slashed_parts (drop (position_or_len is_slash (x ∷ s)) (x ∷ s))
     ≡ slashed_parts (x ∷ s)
 first_slash x s e = ap₂ (λ p k. p ++ slashed_parts (drop k (x ∷ s))) (first_piece-slash x s e)
     (position_or_len-slash x s e)
 
--- removing a leading slash changes no inner component
+-- if x is a slash, x ∷ s and s have the same components, apart from a leading root or `.`
 pub slashed_parts-slash : (x : ℕ) (s : List ℕ) → eqb x 47 ≡ true
     → slashed_parts (x ∷ s) ≡ slashed_parts s
 slashed_parts-slash x s e = slashed_parts-filler (x ∷ s) 0 (omega arith) (rw e refl)
 
--- if n is the index of the first gap of s, the first n bytes of s and the components after them are
--- the first piece of s and the components after it, with a slash before each component
+-- if n is the index of the first gap of s, or the length of s if there is none, then the first
+-- piece of s and the components after that piece, each after a slash, are the same bytes as the
+-- first n bytes of s and the components after them, each after a slash
 pub before_first_gap : (s : List ℕ) (n : ℕ) → FirstGap s n
     → first_piece s ++ slashed_parts (drop (position_or_len is_slash s) s)
     ≡ take n s ++ slashed_parts (drop n s)
@@ -103,9 +107,9 @@ before_first_gap (x ∷ s) (suc n) h = by_test (eqb x 47)
     ∙ ap (λ u. x ∷ (first_piece s ++ slashed_parts u)) (drop-suc_cons m x s)
     ∙ ap (λ u. x ∷ u) (before_first_gap s n (FirstGap-after_start x s n h)))
 
--- if s begins with a component, and n is the index of its first gap, the components of s, each
--- after a slash, are a slash, the first n bytes of s, and the components after them, each after a
--- slash
+-- if s isn't empty and begins with a component that is neither the root nor `.`, and n is the index
+-- of its first gap, or its length if it has none, then the components of s, each after a slash, are
+-- a slash, the first n bytes of s, and the components after them, each after a slash
 pub component_before_gap : (s : List ℕ) (n : ℕ) → 0 < length s → is_filler s 0 ≡ false
     → FirstGap s n
     → slashed_parts s ≡ (slash ∷ take n s) ++ slashed_parts (drop n s)

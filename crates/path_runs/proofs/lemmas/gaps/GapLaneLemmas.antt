@@ -19,7 +19,8 @@ abbrev gap_lanes : List ℕ → List ℕ → List ℕ → List ℕ
 gap_lanes here next after =
     both (hits 16 here 47) (either (hits 16 next 47) (both (hits 16 next 46) (hits 16 after 47)))
 
--- lane i shows whether a gap begins at byte i of `here`
+-- if `here`, `next` and `after` have 16 bytes each, and i is less than 16, lane i shows whether
+-- byte i of `here`, followed by byte i of `next` and byte i of `after`, begins a gap
 Tells-gap : (here next after : List ℕ) (i : ℕ) → length here ≡ 16 → length next ≡ 16
     → length after ≡ 16 → i < 16
     → Tells 16 (gap_lanes here next after) i
@@ -29,7 +30,7 @@ Tells-gap here next after i l m n few =
     (Tells-either few (Tells-hits 16 next 47 i m few)
     (Tells-both few (Tells-hits 16 next 46 i m few) (Tells-hits 16 after 47 i n few)))
 
--- the lanes of the 16 bytes at index `at`
+-- the lanes that show at which of the 16 bytes of s from index `at` on a gap begins
 abbrev lanes : List ℕ → ℕ → List ℕ
 lanes s at = gap_lanes (chunk at 16 s) (chunk (at + 1) 16 s) (chunk (at + 2) 16 s)
 
@@ -50,7 +51,8 @@ lanes_show_gaps s at l = record {
       (length-chunk (at + 2) 16 s (omega arith)) few);
 }
 
--- if no gap begins before `at`, and none from `at` up to `end`, exclusive, none begins before `end`
+-- if no gap of s begins before `at`, and none from `at` up to `end`, exclusive, none begins before
+-- `end`
 pub none_to : (s : List ℕ) (at end : ℕ) → ((i : ℕ) → i < at → is_gap s i ≡ false)
     → ((i : ℕ) → at ≤ i → i < end → is_gap s i ≡ false) → (i : ℕ) → i < end
     → is_gap s i ≡ false

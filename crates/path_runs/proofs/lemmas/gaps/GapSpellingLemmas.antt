@@ -62,8 +62,9 @@ spelling_of-after_root x s e l ends =
     by [] end = absurd (omega (arith, l))
     by (p ∷ ps) end = ap (λ u. slash ∷ u) (slashed_bytes-cons p.value (map (λ q. q.value) ps))
 
--- if a path has at least two bytes and ends in a component, its canonical form is its bytes before
--- the first gap, followed by the components after that gap, each after a slash
+-- if s has at least two bytes and ends in a component, its canonical form is the bytes of s before
+-- its first gap, or all if there is none, followed by the components after that gap, each after a
+-- slash
 pub spelling_of-run : (s : List ℕ) (n : ℕ) → 1 < length s → EndsInPart s → FirstGap s n
     → spelling_of (values s) ≡ take n s ++ slashed_parts (drop n s)
 spelling_of-run [] n l ends h = absurd (omega arith)

@@ -18,7 +18,8 @@ use Rattle.path_runs.proofs.lemmas.gaps.FirstGapLemmas.{slashed_parts-filler, sl
 use Rattle.path_runs.proofs.lemmas.spelling.LeanLemmas.{slashed_parts-length, spelling_of-shortest}
 use Rattle.path_runs.proofs.lemmas.gaps.GapSpellingLemmas.{spelling_of-run, spelling_of-whole}
 
--- if s begins with a gap, its components, each after a slash, have fewer bytes than s
+-- if s begins with a gap, the components of s without the root, each with a slash before it, have
+-- fewer bytes in total than s
 first_gap-longer : (s : List ℕ) → 0 < length s → is_gap s 0 ≡ true
     → length (slashed_parts s) < length s
 first_gap-longer [] l g = absurd (omega arith)
@@ -38,8 +39,8 @@ first_gap-longer (x ∷ y ∷ s) l g =
       slashed_parts-length s,
     )
 
--- if a gap begins at index n of s, the components after it, each after a slash, have fewer bytes
--- than s has from n on
+-- if a gap begins at index n of s, the components after it, each with a slash before it, have fewer
+-- bytes in total than s has from n on
 gap-longer : (s : List ℕ) (n : ℕ) → n < length s → is_gap s n ≡ true
     → length (slashed_parts (drop n s)) + n < length s
 gap-longer [] n l g = absurd (omega arith)
@@ -47,8 +48,8 @@ gap-longer (x ∷ s) zero l g = omega (arith, first_gap-longer (x ∷ s) l g)
 gap-longer (x ∷ s) (suc n) l g =
     omega (arith, gap-longer s n (omega arith) (sym (is_gap-after_start x s n) ∙ g))
 
--- if n is the index of a gap of s, or the length of s, the components after it, each after a slash,
--- have at most as many bytes as s has from n on
+-- if n is the index of a gap of s, or the length of s, the components after n, each with a slash
+-- before it, have at most as many bytes in total as s has from n on
 pub gap_or_end-length : (s : List ℕ) (n : ℕ) → n ≤ length s → (n < length s → is_gap s n ≡ true)
     → n + length (slashed_parts (drop n s)) ≤ length s
 gap_or_end-length s n l g = by_test (ltb n (length s))
@@ -59,7 +60,8 @@ gap_or_end-length s n l g = by_test (ltb n (length s))
     let all : length s ≤ n = ltb-false n (length s) e in
     omega (arith, ap length (no_parts_after_end [] s n all)))
 
--- if a path has a gap and ends in a component, it isn't its own canonical form
+-- if a path has at least two bytes, ends in a component and has a gap, it isn't its own canonical
+-- form
 gap_respelled : (s : List ℕ) (n : ℕ) → 1 < length s → EndsInPart s → FirstGap s n
     → n < length s → s ≡ spelling_of (values s) → ⊥
 gap_respelled s n l ends h some own =
@@ -72,7 +74,8 @@ gap_respelled s n l ends h some own =
       gap-longer s n some (h.gap some),
     )
 
--- if a path has trailing filler, it isn't its own canonical form
+-- if t is s without its trailing filler, has the components of s and is shorter than s, then s
+-- isn't its own canonical form
 pub tail_respelled : (s t : List ℕ) → t ≡ rest s 0 0 → values t ≡ values s → length t < length s
     → s ≡ spelling_of (values s) → ⊥
 tail_respelled s t e same l own = by (spelling_of-shortest s t same)

@@ -23,7 +23,8 @@ spelling_of-single s n l e =
     let all : length s ≤ n = omega arith in
     spelling_of-short s l ∙ sym (no_parts_after_end (take n s) s n all ∙ take_all n s all)
 
--- a string that begins with a component doesn't begin with a gap
+-- if s isn't empty and begins with a component, the index n of its first gap, or of its end if it
+-- has no gap, is greater than 0
 first_gap_positive : (s : List ℕ) (n : ℕ) → 0 < length s → is_filler s 0 ≡ false → FirstGap s n → 0
     < n
 first_gap_positive s zero l e h =
@@ -31,8 +32,9 @@ first_gap_positive s zero l e h =
     absurd (let d : true ≡ false = rw slash at e in cc)
 first_gap_positive s (suc n) l e h = omega arith
 
--- if a component begins at `start`, and the first gap from there on is n bytes later, the bytes
--- from the slash before `start` up to that gap are a gapless run
+-- if a component of s begins at `start`, after a slash, and the first gap from `start` on, or the
+-- end if there is none, is n bytes later, then the bytes from that slash up to that gap or end are
+-- a gapless run
 pub is_gapless_run : (s : List ℕ) (start n : ℕ) → start < length s → IsPartStart s start
     → FirstGap (drop start s) n → IsGaplessRun s start (slice_range s (start - 1) (start + n))
 is_gapless_run s start n l part h =

@@ -33,7 +33,7 @@ parts-open (x ∷ u) b o =
           (parts-past_slash cut.0 b),
     )
 
--- if a list of parts has only one component, it has only one part
+-- if the parts ps, without their positions, are the one component v, then ps is one part
 single_part : (ps : List Part) (v : Value) → map value_of_part ps ≡ v ∷ []
     → (p : Part) × (ps ≡ p ∷ [])
 single_part [] v e = absurd (let no : [] ≡ v ∷ [] = e in cc)
@@ -41,7 +41,8 @@ single_part (p ∷ []) v e = (p, refl)
 single_part (p ∷ q ∷ ps) v e =
     absurd (let no : p.value ∷ q.value ∷ map value_of_part ps ≡ v ∷ [] = e in cc)
 
--- if u is empty or ends in a slash, and b after it adds one component, b adds one part
+-- if u is empty or ends in a slash, and u followed by b has the components of u and then v, then u
+-- followed by b has the parts of u and then one part
 last_appended : (u b : List ℕ) (v : Value) → needs_no_separator u ≡ true
     → values (u ++ b) ≡ values u ++ v ∷ []
     → (p : Part) × (parts (u ++ b) ≡ parts u ++ p ∷ [])
@@ -63,15 +64,15 @@ take-parts_end : (u b : List ℕ) → take (parts_end (parts u)) (u ++ b) ≡ re
 take-parts_end u b =
     take-append-le (parts_end (parts u)) u b (parts_end-le u) ∙ sym (rest-whole u)
 
--- if u is empty or ends in a slash, and b after it adds one component, removing this component
--- leaves u without trailing filler
+-- if u is empty or ends in a slash, and u followed by b has the components of u and then v, then u
+-- followed by b, without its last component, is u without trailing filler
 pub rest-appended : (u b : List ℕ) (v : Value) → needs_no_separator u ≡ true
     → values (u ++ b) ≡ values u ++ v ∷ [] → rest (u ++ b) 0 1 ≡ rest u 0 0
 rest-appended u b v o e =
     let last = last_appended u b v o e in
     rest-last (u ++ b) (parts u) last.0 last.1 ∙ span-parts (u ++ b) u ∙ take-parts_end u b
 
--- the slash that a join appends to the first path adds no part
+-- r followed by the slash, if any, that a join inserts after r has the parts of r
 parts-separator : (r : List ℕ) → parts (r ++ separator r) ≡ parts r
 parts-separator r = by_test (needs_no_separator r) (λ o. rw o (ap parts (append-nil r)))
     (λ o. rw o (parts-slash r (not_open r o)))

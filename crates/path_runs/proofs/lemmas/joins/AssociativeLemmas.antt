@@ -17,7 +17,7 @@ join_of-separator a b r = by_test (needs_no_separator a)
     (λ o. join_of_no_separator a b r o ∙ rw o (ap (λ x. x ++ b) (sym (append-nil a))))
     (λ o. join_of_separator a b r o ∙ rw o refl)
 
--- if a path ends in a slash, it is open
+-- a path that ends in a slash needs no separator in a join
 needs_no_separator-slash : (a : List ℕ) → needs_no_separator (a ++ 47 ∷ []) ≡ true
 needs_no_separator-slash [] = refl
 needs_no_separator-slash (x ∷ []) = refl
@@ -28,7 +28,8 @@ needs_no_separator-separator a = by_test (needs_no_separator a)
     (λ o. rw o (ap needs_no_separator (append-nil a) ∙ o))
     (λ o. rw o (needs_no_separator-slash a))
 
--- if u is open, then u followed by b is open if and only if b is open
+-- if u is empty or ends in a slash, u followed by b needs a separator in a join if and only if b
+-- needs one
 pub needs_no_separator-append : (u b : List ℕ) → needs_no_separator u ≡ true
     → needs_no_separator (u ++ b) ≡ needs_no_separator b
 needs_no_separator-append [] b o = refl
@@ -51,7 +52,7 @@ is_rooted-join_of (x ∷ b) c r = ap is_rooted (join_of-separator (x ∷ b) c r)
 regroup : (a p b q c : List ℕ) → (((a ++ p) ++ b) ++ q) ++ c ≡ (a ++ p) ++ ((b ++ q) ++ c)
 regroup a p b q c = simp append_assoc
 
--- if b and c have no root, joining a, b and c is associative
+-- if b and c have no root, the join of a and b, joined with c, is a joined with the join of b and c
 join_of-rootless : (a b c : List ℕ) → is_rooted b ≡ false → is_rooted c ≡ false
     → join_of (join_of a b) c ≡ join_of a (join_of b c)
 join_of-rootless a b c m n =
@@ -62,7 +63,8 @@ join_of-rootless a b c m n =
     ∙ sym (join_of-separator a (join_of b c) (is_rooted-join_of b c n ∙ m)
     ∙ ap (λ x. (a ++ separator a) ++ x) (join_of-separator b c n))
 
--- joins are associative, whichever paths are rooted
+-- the join of a and b, joined with c, is a joined with the join of b and c, whichever of these
+-- paths have a root
 pub join_of-join_of : (a b c : List ℕ) → join_of (join_of a b) c ≡ join_of a (join_of b c)
 join_of-join_of a b c = by_test (is_rooted c)
     (λ r. join_of_rooted (join_of a b) c r

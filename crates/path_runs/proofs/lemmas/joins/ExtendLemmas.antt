@@ -22,13 +22,13 @@ use Rattle.path_runs.proofs.lemmas.lists.AllLemmas.{AllByRecursion-end}
 abbrev pub AllRootless : List (List ℕ) → Type 0
 AllRootless bs = AllByRecursion (λ b. is_rooted b ≡ false) bs
 
--- a join with a rootless path is no shorter than the first path
+-- if b has no root, the join of a and b has at least as many bytes as a
 length-join_of : (a b : List ℕ) → is_rooted b ≡ false → length a ≤ length (join_of a b)
 length-join_of a b r = by_test (needs_no_separator a)
     (λ o. omega (arith, length-join_of_no_separator a b r o))
     (λ o. omega (arith, length-join_of_separator a b r o))
 
--- a join with rootless paths is no shorter than the first path
+-- if none of the paths bs has a root, a joined with all of them has at least as many bytes as a
 length-join_all_of : (a : List ℕ) (bs : List (List ℕ)) → AllRootless bs
     → length a ≤ length (join_all_of a bs)
 length-join_all_of a [] h = omega arith
@@ -42,14 +42,14 @@ pub join_all_of-append : (a : List ℕ) (bs cs : List (List ℕ))
 join_all_of-append a [] cs = refl
 join_all_of-append a (b ∷ bs) cs = join_all_of-append (join_of a b) bs cs
 
--- a list is the items before index n, the item at n, and the items after it
+-- if y is the item of xs at index n, xs is its items before n, then y, and then its items after n
 slice_get-split : {X : Type 0} (xs : List X) (n : ℕ) (y : X) → slice_get xs n ≡ Some y
     → xs ≡ take n xs ++ y ∷ drop (suc n) xs
 slice_get-split xs n y e = split_at xs n y (slice_get_within xs n y e)
     ∙ ap (λ z. take n xs ++ z ∷ drop (suc n) xs) (get_or_from_slice_get xs n y y e)
 
--- if no path in `all` has a root, and x is the path after the prefix xs, joining xs and x is no
--- longer than joining all paths
+-- if no path in `all` has a root, and `all` begins with the paths xs and then x, joining xs and x
+-- to `old` yields at most as many bytes as joining all of `all` to `old`
 length-join_of_next : (old : List ℕ) (all xs : List Path) (x : Path)
     → map (λ x. x) xs ≡ take (length xs) all → Some x ≡ slice_get all (length xs)
     → AllRootless (bytes_of_each all)
@@ -70,8 +70,9 @@ length-join_of_next old all xs x prefix at h =
     ap (join_all_of old) parts ∙ join_all_of-append old before onward in
     omega (arith, ap length all_is, length-join_all_of made (bytes_of_each rest) rootless.1)
 
--- if no path has a root, and joining a prefix of the paths exceeds `max_len` bytes, so does joining
--- all of them
+-- if the iterator `items` yields the paths `all`, none of which has a root, and its first paths up
+-- to some path, joined to `old`, exceed `max_len` bytes (`JoinsBeginning`), so does `old` joined
+-- with all of `all`
 pub JoinsBeginning-exceeds : {S : Type 0} {steps : S → Option Path → S → Type 0} {items : S}
     {all : List Path} (old new : List ℕ) (max_len : ℕ) → YieldsList steps (λ x. x) items all
     → AllRootless (bytes_of_each all) → JoinsBeginning steps items old new max_len
@@ -88,12 +89,13 @@ JoinsBeginning-exceeds {all = all} old new max_len yields h e =
       ap (λ s. length (join_of s e.next.bytes.now)) e.bytes,
     )
 
--- if an iterator has no items, it has returned none
+-- if the items xs, mapped by v, are the first `length xs` items of the empty list, xs is empty
 no_items : {A B : Type 0} (v : A → B) (xs : List A) → map v xs ≡ take (length xs) [] → xs ≡ []
 no_items v [] e = refl
 no_items v (x ∷ xs) e = absurd (omega (arith, ap length e))
 
--- if an iterator has no items, joining its items to the empty path has at most 0 bytes
+-- if the list ys of items that the iterator `items` yields is empty, the empty path joined with any
+-- number of its first items has at most 0 bytes
 pub JoinsFit-none : {S B : Type 0} {steps : S → Option Path → S → Type 0} {items : S}
     (v : Path → B) (ys : List B) → ys ≡ [] → YieldsList steps v items ys
     → JoinsFit steps items [] 0

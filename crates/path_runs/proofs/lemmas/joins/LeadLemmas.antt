@@ -26,7 +26,7 @@ IsInner CurDir = ⊥
 IsInner ParentDir = Unit {0}
 IsInner (Normal name) = Unit {0}
 
--- the parts of pieces, without their positions, are inner components
+-- each component of the pieces ps, the first of which begins at index `at`, is a `..` or a name
 inner_pieces : (at : ℕ) (ps : List (List ℕ))
     → AllByRecursion IsInner (map (λ p. p.value) (parts_of_pieces at ps))
 inner_pieces at [] = tt
@@ -42,12 +42,12 @@ inner_values-inner : (s : List ℕ) → AllByRecursion IsInner (inner_values s)
 unfolding inner_parts
 inner_values-inner s = inner_pieces 0 (slice_split is_slash s)
 
--- the first component is neither the root nor a `.`
+-- the list of components vs doesn't begin with the root or a `.`
 pub record HasNoLead (vs : List Value) : Type 0 where
   pub no_lead : drop_leading vs ≡ vs
   pub no_root : root_first vs ≡ false
 
--- a list of inner components does not begin with the root or a `.`
+-- if each of the components vs is a `..` or a name, vs doesn't begin with the root or a `.`
 pub inner-no_lead : (vs : List Value) → AllByRecursion IsInner vs → HasNoLead vs
 inner-no_lead [] h = record { no_lead = refl; no_root = refl }
 inner-no_lead (RootDir ∷ vs) h = absurd h.0
@@ -68,8 +68,8 @@ dot_first (p ∷ ps) = bytes_eq p cur_dir
 abbrev pub lead_by : Bool → Bool → List Value
 lead_by rooted dotted = cond rooted (RootDir ∷ []) (cond dotted (CurDir ∷ []) [])
 
--- the leading part, without its position, is the root if there is one, or else a leading `.` if
--- there is one
+-- the leading part of s, without its position, is the root if s is rooted, or else a `.` if the
+-- first piece of s is `.`, or else nothing
 leading_values : (s : List ℕ)
     → map (λ (p : Part). p.value) (leading_part s) ≡ lead_by (is_rooted s)
     (dot_first (slice_split is_slash s))
@@ -78,19 +78,22 @@ leading_values s = by_test (is_rooted s) (λ e. rw e refl)
     (λ e. rw (e, slice_split-first s) (by_test (bytes_eq (first_piece s) cur_dir)
     (λ d. rw d refl) (λ d. rw d refl)))
 
--- a path's components are its leading root or `.`, if it has one, followed by its inner components
+-- the components of s are its leading root or `.`, if it has one, and then one component for each
+-- piece that is neither empty nor `.`
 pub values-lead : (s : List ℕ)
     → values s ≡ lead_by (is_rooted s) (dot_first (slice_split is_slash s)) ++ inner_values s
 values-lead s = values-leading s ∙ ap (λ vs. vs ++ inner_values s) (leading_values s)
 
--- if vs doesn't begin with the root or a `.`, removing the leading component before vs leaves vs
+-- if vs doesn't begin with the root or a `.`, then `lead_by c d` followed by vs, without a leading
+-- root or `.`, is vs
 drop_leading-lead_by : (c d : Bool) (vs : List Value) → HasNoLead vs
     → drop_leading (lead_by c d ++ vs) ≡ vs
 drop_leading-lead_by true d vs h = refl
 drop_leading-lead_by false true vs h = refl
 drop_leading-lead_by false false vs h = h.no_lead
 
--- without a leading root or `.`, a path's components are its inner components
+-- without a leading root or `.`, the components of s are one component for each piece that is
+-- neither empty nor `.`
 pub drop_leading-values : (s : List ℕ) → drop_leading (values s) ≡ inner_values s
 drop_leading-values s =
     ap drop_leading (values-lead s)
@@ -99,8 +102,8 @@ drop_leading-values s =
 same_tail : {x y : Value} {xs ys : List Value} → x ∷ xs ≡ y ∷ ys → xs ≡ ys
 same_tail e = cc
 
--- if a list consists of an optional root or `.` and then inner components, all its components after
--- the first are inner components
+-- if `lead_by c d`, which is a root, a `.` or nothing, followed by vs is x and then xs, and each of
+-- vs is a `..` or a name, then so is each of xs
 inner_lead : (c d : Bool) (vs : List Value) (x : Value) (xs : List Value)
     → AllByRecursion IsInner vs → lead_by c d ++ vs ≡ x ∷ xs → AllByRecursion IsInner xs
 inner_lead true d vs x xs h e = subst (AllByRecursion IsInner) (same_tail e) h
@@ -108,20 +111,22 @@ inner_lead false true vs x xs h e = subst (AllByRecursion IsInner) (same_tail e)
 inner_lead false false [] x xs h e = absurd (cc)
 inner_lead false false (v ∷ vs) x xs h e = subst (AllByRecursion IsInner) (same_tail e) h.1
 
--- all components of a path after the first are inner components
+-- if the components of s are x and then xs, each of xs is a `..` or a name
 pub inner-behind : (s : List ℕ) (x : Value) (xs : List Value) → values s ≡ x ∷ xs
     → AllByRecursion IsInner xs
 inner-behind s x xs e =
     inner_lead (is_rooted s) _ (inner_values s) x xs (inner_values-inner s)
     (sym (values-lead s) ∙ e)
 
--- if the first component isn't the root, dropping a leading root or `.` drops only a leading `.`
+-- if the first of the components vs isn't the root, dropping a leading `.` of vs is the same as
+-- dropping a leading root or `.`
 drop_dot-rootless : (vs : List Value) → root_first vs ≡ false → drop_dot vs ≡ drop_leading vs
 drop_dot-rootless [] h = refl
 drop_dot-rootless (RootDir ∷ vs) h = absurd (let d : true ≡ false = h in cc)
 drop_dot-rootless (v ∷ vs) h = refl
 
--- without a leading `.`, a rootless path's components are its inner components
+-- if s has no root, the components of s without a leading `.` are one component for each piece that
+-- is neither empty nor `.`
 pub drop_dot-values : (s : List ℕ) → is_rooted s ≡ false → drop_dot (values s) ≡ inner_values s
 drop_dot-values s r =
     drop_dot-rootless (values s) (root_first-values s ∙ r) ∙ drop_leading-values s
@@ -131,37 +136,37 @@ abbrev pub append_values : List Value → List Value → List Value
 append_values [] ws = ws
 append_values (v ∷ vs) ws = (v ∷ vs) ++ drop_leading ws
 
--- if ws are inner components, all of them are appended to vs
+-- if each of the components ws is a `..` or a name, `append_values` appends all of ws to vs
 pub append_values-inner : (vs ws : List Value) → AllByRecursion IsInner ws
     → append_values vs ws ≡ vs ++ ws
 append_values-inner [] ws h = refl
 append_values-inner (v ∷ vs) ws h = ap (λ us. v ∷ vs ++ us) (inner-no_lead ws h).no_lead
 
--- if s isn't empty, appending the components of b to the components of s adds only the inner
--- components of b
+-- if s isn't empty, `append_values` appends to the components of s those of b without a leading
+-- root or `.`
 append_values-some : (s b : List ℕ) → 0 < length s
     → values s ++ inner_values b ≡ append_values (values s) (values b)
 append_values-some s b l =
     let some = some_values s l in
     rw (some.2, drop_leading-values b) refl
 
--- if u is empty or ends in a slash, the bytes b after it add their components, without a leading
--- root or `.` unless u is empty
+-- if u is empty or ends in a slash, u followed by b has the components of u and then those of b,
+-- without a leading root or `.` unless u is empty
 pub values-append_open : (u b : List ℕ) → needs_no_separator u ≡ true
     → values (u ++ b) ≡ append_values (values u) (values b)
 values-append_open [] b o = rw values-nil refl
 values-append_open (x ∷ u) b o =
     values-open (x ∷ u) b o (omega arith) ∙ append_values-some (x ∷ u) b (omega arith)
 
--- a join with a rootless path b has the components of a, and then those of b, without a leading `.`
--- unless a is empty
+-- if b has no root, the join of a and b has the components of a and then those of b, without a
+-- leading `.` unless a is empty
 pub values-join_of_rootless : (a b : List ℕ) → is_rooted b ≡ false
     → values (join_of a b) ≡ append_values (values a) (values b)
 values-join_of_rootless [] b r = rw (join_of-nil b, values-nil) refl
 values-join_of_rootless (x ∷ a) b r =
     values-join_of (x ∷ a) b (omega arith) r ∙ append_values-some (x ∷ a) b (omega arith)
 
--- a join with a rootless path b has the components of a, followed by `values_added a b`
+-- if b has no root, the join of a and b has the components of a, followed by `values_added a b`
 pub values-join_of_values_added : (a b : List ℕ) → is_rooted b ≡ false
     → values (join_of a b) ≡ values a ++ values_added a b
 values-join_of_values_added [] b r =
@@ -169,11 +174,11 @@ values-join_of_values_added [] b r =
 values-join_of_values_added (x ∷ a) b r = values-join_of (x ∷ a) b (omega arith) r
     ∙ ap (λ vs. values (x ∷ a) ++ vs) (sym (drop_dot-values b r))
 
--- two equal paths are both rooted or both rootless
+-- two equal paths both have a root, or both have none
 pub roots_same : (s t : List ℕ) → values s ≡ values t → is_rooted s ≡ is_rooted t
 roots_same s t e = sym (root_first-values s) ∙ ap root_first e ∙ root_first-values t
 
--- equal paths, joined to equal paths, are equal
+-- if a and b are equal paths, and so are c and d, the join of a and c equals the join of b and d
 pub joins_same : (a b c d : List ℕ) → values a ≡ values b → values c ≡ values d
     → values (join_of a c) ≡ values (join_of b d)
 joins_same a b c d e f = by_test (is_rooted c)
@@ -185,7 +190,7 @@ joins_same a b c d e f = by_test (is_rooted c)
     root : is_rooted c ≡ is_rooted d
     root = roots_same c d f
 
--- a join with the empty path adds no component
+-- a joined with the empty path has the components of a
 pub values-join_of_nil : (a : List ℕ) → values (join_of a []) ≡ values a
 values-join_of_nil a = values-join_of_rootless a [] refl
     ∙ ap (append_values (values a)) values-nil

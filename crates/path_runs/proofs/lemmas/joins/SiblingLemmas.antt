@@ -40,7 +40,7 @@ values-rest_push s vs v e = values-rest s 0 1 ∙ ap (middle 0 1) e ∙ middle-p
 one_rootless : (n name : List ℕ) → IsOneName n name → is_rooted n ≡ false
 one_rootless n name e = sym (root_first-values n) ∙ ap root_first e
 
--- a join with a path of one name adds that name
+-- if n is the one name `name`, the join of s and n has the components of s and then `name`
 pub values-join_of_one : (s n name : List ℕ) → IsOneName n name
     → values (join_of s n) ≡ values s ++ Normal name ∷ []
 values-join_of_one s n name e =
@@ -49,13 +49,13 @@ values-join_of_one s n name e =
 
 -- ---- a push of one name, and a pop
 
--- a pop after a push of one name returns true
+-- if n is one name, the join of s and n has a parent, so that a pop after a push of n returns true
 pub pop-answer : (s n name : List ℕ) → IsOneName n name
     → is_some (parent_of (join_of s n)) ≡ true
 pop-answer s n name e =
     ap is_some (parent_of-name (join_of s n) name (values s) (values-join_of_one s n name e))
 
--- a pop after a push of one name leaves the components from before the push
+-- if n is one name, a pop of the join of s and n leaves a path equal to s
 pub values-popped_of : (s n name : List ℕ) → IsOneName n name
     → SameValues (popped_of (join_of s n)) s
 unfolding popped_of
@@ -67,8 +67,7 @@ values-popped_of s n name e =
 
 -- ---- one name instead of the file name
 
--- if one name is joined to r and the last component is removed again, the result is r without
--- trailing filler
+-- if n is one name, the join of r and n without its last component is r without trailing filler
 pub rest-join_of_one : (r n name : List ℕ) → IsOneName n name
     → rest (join_of r n) 0 1 ≡ rest r 0 0
 rest-join_of_one r n name e =
@@ -80,20 +79,21 @@ rest-join_of_one r n name e =
     ap (λ t. rest t 0 1) is ∙ rest-appended u n (Normal name) (needs_no_separator-separator r) all
     ∙ rest-separator r
 
--- if a path has a file name, a new one is joined to the path without its last component
+-- if s has a file name, s with n as its new file name is the rest of s before its last component,
+-- joined with n
 with_name_of-join : (s old n : List ℕ) → file_name_of (values s) ≡ Some old
     → with_name_of s n ≡ join_of (rest s 0 1) n
 with_name_of-join s old n f = ap (λ r. join_of r n) (sym (before_name_of-some s old (sym f)))
 
--- if a file name is replaced by one name, the components are those before the old file name, and
--- then the new name
+-- if s has a file name, and n is the one name `name`, s with n as its new file name has the
+-- components of s before the old file name, and then `name`
 pub values-with_name_of : (s old n name : List ℕ) → file_name_of (values s) ≡ Some old
     → IsOneName n name → values (with_name_of s n) ≡ values (rest s 0 1) ++ Normal name ∷ []
 values-with_name_of s old n name f e =
     ap values (with_name_of-join s old n f) ∙ values-join_of_one (rest s 0 1) n name e
 
--- if a file name is replaced by one name, the path without its last component has the same bytes as
--- before
+-- if s has a file name, and n is one name, then s, and s with n as its new file name, have the same
+-- bytes once their last components are removed
 pub rest-with_name_of : (s old n name : List ℕ) → file_name_of (values s) ≡ Some old
     → IsOneName n name → rest (with_name_of s n) 0 1 ≡ rest s 0 1
 rest-with_name_of s old n name f e =

@@ -42,8 +42,8 @@ join_remaining s base r v vs more is rest_is all =
     values-join_of_rootless base r rootless ∙ ap₂ append_values is rest_is
     ∙ append_values-inner (v ∷ vs) more inner ∙ all
 
--- if the components of s are those of base and then `more`, base joined with the rest of s after it
--- has the components of s
+-- if the components of s are those of base and then `more`, base joined with the rest of s after
+-- the components of base has the components of s
 strip_join : (s base : List ℕ) (more : List Value) → values base ++ more ≡ values s
     → values (join_of base (stripped_of s base)) ≡ values s
 strip_join s [] more e =
@@ -54,13 +54,14 @@ strip_join s (b ∷ base) more e =
     join_remaining s (b ∷ base) (stripped_of s (b ∷ base)) some.0 some.1 more some.2
     (values-stripped_of s (b ∷ base) more e) (ap (λ vs. vs ++ more) (sym some.2) ∙ e)
 
--- if s starts with base, joining base with the rest of s after it leads to the components of s
+-- if s starts with the components of base, base joined with the rest of s after these components
+-- has the components of s
 pub values-join_of_stripped : (s base : List ℕ) → IsPrefixOf (values base) (values s)
     → values (join_of base (stripped_of s base)) ≡ values s
 values-join_of_stripped s base h = strip_join s base h.0 h.1
 
--- if s starts with base, and `joined` is base joined with the rest of s after it, `joined` is equal
--- to s
+-- if s starts with the components of base, and `joined` is base joined with the rest of s after
+-- these components, then `joined` is equal to s
 pub strip_then_join : (s base joined : List ℕ) → IsPrefixOf (values base) (values s)
     → joined ≡ join_of base (stripped_of s base) → values joined ≡ values s
 strip_then_join s base joined h e = ap values e ∙ values-join_of_stripped s base h

@@ -1,6 +1,6 @@
--- The components that bytes add after an open string, and the components of a join whose first path
--- isn't empty. A string is open if it is empty or ends in a slash, and an inner component is a `..`
--- or a name.
+-- The components that bytes add after a string that ends in a slash, and the components of a join
+-- whose first path isn't empty. `inner_values b` are the components of b without a leading root or
+-- `.`.
 use Rattle.std.proofs.Common.{◌≡◌, ℕ, ◌<◌, true, false, List, [], ◌∷◌, ◌++◌, length, sym, ap, ◌∙◌}
 use Rattle.std.proofs.Common.{arith, append_assoc, eqb-true}
 use Rattle.unix_path.specs.Parts.{slash, is_rooted, values}
@@ -10,7 +10,7 @@ use Rattle.unix_path.proofs.lemmas.order.CommonPrefixLemmas.{values-past_slash, 
 use Rattle.unix_path.specs.CommonDir.{inner_values}
 use Rattle.unix_path.proofs.lemmas.edits.JoinLemmas.{join_of_no_separator, join_of_separator}
 
--- if an open path isn't empty, it ends in a slash
+-- if u needs no separator in a join, and isn't empty, u ends in a slash
 pub ends_open : (u : List ℕ) → needs_no_separator u ≡ true → 0 < length u
     → (f : List ℕ) × (f ++ slash ∷ [] ≡ u)
 ends_open [] o l = absurd (omega arith)
@@ -19,7 +19,8 @@ ends_open (x ∷ y ∷ u) o l =
     let more = ends_open (y ∷ u) o (omega arith) in
     (x ∷ more.0, ap (λ z. x ∷ z) more.1)
 
--- if u ends in a slash, the bytes b after it add their inner components
+-- if u ends in a slash, u followed by b has the components of u and then those of b without a
+-- leading root or `.`
 pub values-open : (u b : List ℕ) → needs_no_separator u ≡ true → 0 < length u
     → values (u ++ b) ≡ values u ++ inner_values b
 values-open u b o l =
@@ -27,12 +28,13 @@ values-open u b o l =
     ap (λ u. values (u ++ b)) (sym cut.1) ∙ values-past_slash cut.0 b
     ∙ ap (λ u. values u ++ inner_values b) cut.1
 
--- if a path isn't open, it isn't empty
+-- if a needs a separator in a join, a isn't empty
 pub not_open : (a : List ℕ) → needs_no_separator a ≡ false → 0 < length a
 not_open [] o = absurd (let d : true ≡ false = o in cc)
 not_open (x ∷ a) o = omega arith
 
--- if a isn't empty and b has no root, joining b to a adds the inner components of b
+-- if a isn't empty and b has no root, the join of a and b has the components of a and then those of
+-- b without a leading `.`
 pub values-join_of : (a b : List ℕ) → 0 < length a → is_rooted b ≡ false
     → values (join_of a b) ≡ values a ++ inner_values b
 values-join_of a b l r = by_test (needs_no_separator a)

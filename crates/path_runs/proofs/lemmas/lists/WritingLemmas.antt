@@ -14,13 +14,14 @@ pub record WritesOn (whole old : List ℕ) (at : ℕ) (out left : List ℕ) : Ty
   pub out_is : out ≡ bytes_over start old
   pub whole_is : start ++ left ≡ whole
 
--- before anything is written, the rest `left` is all of `whole`
+-- if `left` is all of `whole`, then no byte is written yet: the buffer still has the contents `old`
 pub writes_first : {left : List ℕ} (whole old : List ℕ) → left ≡ whole
     → WritesOn whole old 0 old left
 writes_first whole old e = record { start = []; at_is = refl; out_is = refl; whole_is = e }
 
--- if the rest `left` begins with `stretch`, writing `stretch` at index `at` writes `length stretch`
--- more bytes of `whole`
+-- if `out` has the first `at` bytes of `whole`, the rest `left` is `stretch` and then `more`, and
+-- `new` is `out` with `stretch` written at index `at`, then `new` has the first `end` bytes of
+-- `whole`, where `end` is `at + length stretch`, and the rest is `more`
 pub writes_stretch : {whole old out left new : List ℕ} {at end : ℕ} (stretch more : List ℕ)
     → WritesOn whole old at out left → left ≡ stretch ++ more → new ≡ overlay at stretch out
     → end ≡ at + length stretch → WritesOn whole old end new more
@@ -34,8 +35,8 @@ writes_stretch {whole} {old} {out} {left} {new} {at} {end} stretch more h e plac
           ∙ h.whole_is;
     }
 
--- if `whole` fits into the buffer, and the rest begins with `stretch`, then `stretch` fits at index
--- `at`
+-- if `whole` isn't longer than the buffer's contents `old`, and the rest `left` of `whole` begins
+-- with `stretch`, then `stretch` fits into the buffer at index `at`
 pub writes_room : {whole old out left : List ℕ} {at : ℕ} (stretch more : List ℕ)
     → WritesOn whole old at out left → left ≡ stretch ++ more → length whole ≤ length old
     → at + length stretch ≤ length old
@@ -50,7 +51,8 @@ writes_room {whole} {old} {out} {left} {at} stretch more h e fits =
       fits,
     )
 
--- if the rest is empty and `whole` fits into the buffer, all of `whole` is written
+-- if the rest `left` of `whole` is empty, and `whole` isn't longer than the buffer's contents
+-- `old`, then `out` is the buffer after all of `whole` is written
 pub writes_last : {whole old out left : List ℕ} {at : ℕ} → WritesOn whole old at out left
     → left ≡ [] → length whole ≤ length old → out ≡ buffer_after whole old
 writes_last {whole} {old} {out} {left} {at} h e fits =
@@ -58,7 +60,7 @@ writes_last {whole} {old} {out} {left} {at} h e fits =
     sym (append-nil h.start) ∙ ap (λ left. h.start ++ left) (sym e) ∙ h.whole_is in
     h.out_is ∙ ap (λ start. bytes_over start old) all ∙ sym (buffer_after-fits whole old fits)
 
--- if the rest is empty, the number of bytes written is the length of `whole`
+-- if the rest `left` of `whole` is empty, the number `at` of bytes written is the length of `whole`
 pub writes_end : {whole old out left : List ℕ} {at : ℕ} → WritesOn whole old at out left
     → left ≡ [] → at ≡ length whole
 writes_end {whole} {old} {out} {left} {at} h e =

@@ -14,12 +14,12 @@ use Rattle.unix_path.proofs.lemmas.names.NameLemmas.{is_dot, after_last-byte, sp
 use Rattle.unix_path.proofs.lemmas.names.NameLemmas.{split_name-cut, split_name-stem}
 use Rattle.path_runs.specs.EditLaws.{HasNoByte}
 
--- if no byte of a string is b, its byte at index k isn't b
+-- if no byte of s is b, and k is less than the length of s, byte k of s isn't b
 none_at : (s : List ℕ) (b k : ℕ) → HasNoByte b s → k < length s → eqb (get_or s k 0) b ≡ false
 none_at s b k h l =
     by_test (eqb (get_or s k 0) b) (λ e. absurd (h k 0 l (eqb-true _ _ e))) (λ e. e)
 
--- if no byte of s is b, the index of the first b is the length of s
+-- if no byte of s is b, searching s for b yields the length of s
 pub none_found : (s : List ℕ) (b : ℕ) → HasNoByte b s → position_or_len (λ c. eqb c b) s ≡ length s
 none_found s b h = position_or_len_is (λ c. eqb c b) s (length s) 0 (omega arith)
     (λ k l. none_at s b k h l) (λ l. absurd (omega arith))
@@ -32,7 +32,8 @@ drop-past_dot : (f x : List ℕ) → drop (length f + 1) (f ++ 46 ∷ x) ≡ x
 drop-past_dot f x = ap (drop (length f + 1)) (sym (append_assoc f (46 ∷ []) x))
     ∙ drop_at (f ++ 46 ∷ []) x (length f + 1) (length-append f (46 ∷ []))
 
--- if x has no dot, the dot between f and x is the last dot
+-- if x has no dot, the last dot in f, a dot and x is the dot after f: the index just after this dot
+-- is `length f + 1`
 after_last-dot : (f x : List ℕ) → HasNoByte 46 x → length f + 1 ≡ after_last is_dot (f ++ 46 ∷ x)
 after_last-dot f x h =
     let s = f ++ 46 ∷ x in
@@ -41,7 +42,7 @@ after_last-dot f x h =
     ∙ get_or-append_seam f 46 x 0)
     (rw (drop-past_dot f x) (none_found x 46 h))
 
--- s has no dot, or it is f, its last dot and x
+-- s has no dot, or s is f, then the last dot of s, and then x
 data LastDot (s : List ℕ) : Type 0 where
   NoDot : HasNoByte 46 s → LastDot s
   AtDot : (f x : List ℕ) → s ≡ f ++ 46 ∷ x → HasNoByte 46 x → LastDot s
@@ -64,7 +65,8 @@ split_name-dot f x l h =
     split_name-cut (f ++ 46 ∷ x) n (after_last-dot f x h) (omega arith)
     ∙ ap₂ (λ a b. (a, Some b)) (take_at f (46 ∷ x) (n - 1) (omega arith)) (drop-past_dot f x)
 
--- a name has no extension and is its own stem, or it is its stem, a dot and its extension
+-- either `name` has no extension and is its own stem, or it is its stem, which isn't empty, a dot
+-- and its extension
 pub data SplitCase (name : List ℕ) : Type 0 where
   Whole : split_name name ≡ (name, None) → SplitCase name
   Cut : (b : ℕ) (f x : List ℕ) → name ≡ b ∷ f ++ 46 ∷ x

@@ -21,8 +21,8 @@ use Rattle.path_runs.proofs.lemmas.joins.LeadLemmas.{append_values, values-appen
 regroup : (f a b c : List ℕ) → ((f ++ a) ++ b) ++ c ≡ f ++ (a ++ (b ++ c))
 regroup f a b c = simp append_assoc
 
--- if a is a prefix of the file name, the bytes of the path up to the end of a are the bytes before
--- the file name and then a
+-- if s is cut at its file name `name` (`NameCut`), and `name` is a and then r, the bytes of s up to
+-- the end of a are the bytes before `name` and then a
 take-name : (s name a r : List ℕ) (c : NameCut s name) → name ≡ a ++ r
     → take (last_start_of (parts s) + length a) s ≡ c.prefix ++ a
 take-name s name a r c e =
@@ -34,8 +34,8 @@ take-name s name a r c e =
     ∙ append_assoc (c.prefix ++ a) r c.back)
     ∙ take_at (c.prefix ++ a) (r ++ c.back) n size
 
--- if s has a file name, setting x as its extension leaves the bytes before the name, the stem, a
--- dot unless x is empty, and x
+-- if s has the file name `name`, s with the extension x set is the bytes before `name`, the stem of
+-- `name`, a dot unless x is empty, and x
 pub with_extension_of-cut : (s name x : List ℕ) → file_name_of (values s) ≡ Some name
     → (c : NameCut s name)
     → with_extension_of s x ≡ c.prefix ++ ((split_name name).0 ++ (dot_before x ++ x))
@@ -46,14 +46,14 @@ with_extension_of-cut s name x e c =
     ∙ ap (λ z. (z ++ dot_before x) ++ x) (take-name s name (split_name name).0 stem.0 c stem.1)
     ∙ regroup c.prefix (split_name name).0 (dot_before x) x
 
--- if a path has no file name, setting an extension leaves it unchanged
+-- if s has no file name, s with the extension x set is s
 with_extension_of-none : (s x : List ℕ) → file_name_of (values s) ≡ None
     → with_extension_of s x ≡ s
 unfolding with_extension_of stem_end_of
 with_extension_of-none s x e = ap (λ o. with_extension_at s x (stem_end_by s o)) e
 
--- if s has a file name, adding the extension x, which isn't empty, leaves the bytes before the
--- name, the name, a dot and x
+-- if s has the file name `name`, and x isn't empty, s with the extension x added is the bytes
+-- before `name`, then `name`, a dot and x
 added_extension_of-cut : (s name x : List ℕ) → eqb (length x) 0 ≡ false
     → file_name_of (values s) ≡ Some name → (c : NameCut s name)
     → added_extension_of s x ≡ c.prefix ++ (name ++ 46 ∷ x)
@@ -64,14 +64,15 @@ added_extension_of-cut s name x some e c =
     ∙ ap (λ z. (z ++ 46 ∷ []) ++ x) (take-name s name name [] c (sym (append-nil name)))
     ∙ regroup c.prefix name (46 ∷ []) x
 
--- the components vs, with the file name `name` replaced by the components that the string `n name`
--- adds; if there is no file name, vs
+-- vs if these components have no file name; otherwise vs without the file name `name`, followed by
+-- the components of the string `n name` (`append_values`)
 abbrev pub renamed : (List ℕ → List ℕ) → List Value → List Value
 renamed n vs =
     option_map_or (λ name. append_values (middle 0 1 vs) (values (n name))) (file_name_of vs) vs
 
--- if f only replaces the file name `name` by `n name`, the components of `f s` depend only on the
--- components of s
+-- if `f s` is s when s has no file name, and otherwise the bytes before the file name `name` and
+-- then `n name`, then the components of `f s` are those of s with the file name replaced
+-- (`renamed`)
 values-renamed : (f n : List ℕ → List ℕ) (s : List ℕ)
     → (file_name_of (values s) ≡ None → f s ≡ s)
     → ((name : List ℕ) → file_name_of (values s) ≡ Some name → (c : NameCut s name)
@@ -90,17 +91,19 @@ values-renamed f n s none some = by (file_name_of (values s)) refl
         ∙ ap (λ vs. append_values vs (values (n name)))
         (sym (ap (middle 0 1) c.before ∙ middle-push (values c.prefix) (Normal name)))
 
--- the name after x is set as its extension
+-- `name` after x is set as its extension: its stem, then a dot unless x is empty, and then x
 abbrev pub name_with : List ℕ → List ℕ → List ℕ
 name_with x name = (split_name name).0 ++ (dot_before x ++ x)
 
--- after an extension is set, the components depend only on the components from before
+-- s with the extension x set has the components of s, except that the file name `name`, if s has
+-- one, is replaced by the components of `name_with x name`
 pub values-with_extension_of : (s x : List ℕ)
     → values (with_extension_of s x) ≡ renamed (name_with x) (values s)
 values-with_extension_of s x = values-renamed (λ s. with_extension_of s x) (name_with x) s
     (with_extension_of-none s x) (λ name e c. with_extension_of-cut s name x e c)
 
--- after an extension is added, the components depend only on the components from before
+-- if x isn't empty, s with the extension x added has the components of s, except that the file name
+-- `name`, if s has one, is replaced by the components of `name`, a dot and x
 pub values-added_extension_of : (s x : List ℕ) → eqb (length x) 0 ≡ false
     → values (added_extension_of s x) ≡ renamed (λ name. name ++ 46 ∷ x) (values s)
 values-added_extension_of s x some =

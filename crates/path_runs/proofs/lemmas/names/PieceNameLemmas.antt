@@ -11,7 +11,7 @@ use Rattle.path_runs.specs.EditLaws.{HasNoByte}
 use Rattle.path_runs.proofs.lemmas.names.DotLemmas.{none_found}
 use Rattle.unix_path.proofs.lemmas.names.NameCutLemmas.{IsName}
 
--- if the index of the first slash of s is the length of s, no byte of s is a slash
+-- if searching s for a slash yields the length of s, no byte of s is a slash
 pub no_slash_byte : (s : List ℕ) → position_or_len is_slash s ≡ length s → HasNoByte 47 s
 no_slash_byte s h = λ k d l is. both_ways _
     (fails_before_first is_slash s k d (omega (arith, h))) (eq-eqb (get_or s k d) 47 is)

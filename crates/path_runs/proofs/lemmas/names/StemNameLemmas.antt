@@ -15,8 +15,8 @@ name_from_stem-split_name name = by (split_case name)
     by (Whole d) = ap (λ cut. name_from_stem cut.0 cut.1) d
     by (Cut b f x w d) = ap (λ cut. name_from_stem cut.0 cut.1) d ∙ sym w
 
--- if the file name o has the stem `stem`, it is this stem, followed by a dot and its extension if
--- it has one
+-- if the optional file name o has the stem `stem`, then o is `stem`, followed by a dot and the
+-- extension of o if it has one
 pub file_name-from_stem : (o : Option (List ℕ)) (stem : List ℕ)
     → option_map (λ name. (split_name name).0) o ≡ Some stem
     → o ≡ Some (name_from_stem stem (option_and_then (λ name. (split_name name).1) o))

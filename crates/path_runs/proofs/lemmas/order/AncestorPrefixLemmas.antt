@@ -12,14 +12,14 @@ use Rattle.unix_path.proofs.lemmas.rests.RestLemmas.{take-rest}
 abbrev HasPrefix : List ℕ → List ℕ → Type 0
 HasPrefix s prefix = IsPrefixOf prefix s
 
--- a path begins with the bytes of the path without its last m components
+-- the bytes of s begin with the bytes of the rest of s without its last m components
 rest-prefix : (s : List ℕ) (m : ℕ) → HasPrefix s (rest s 0 m)
 rest-prefix s m =
     let n = length (rest s 0 m) in
     (drop n s, ap (λ u. u ++ drop n s) (sym (take-rest s m)) ∙ take-append-drop n s)
 
--- for each m from a to a + n, exclusive, a path begins with the bytes of the path without its last
--- m components
+-- for each m from a to a + n, exclusive, the bytes of s begin with the bytes of the rest of s
+-- without its last m components
 rests-prefixes : (s : List ℕ) (a n : ℕ)
     → AllByRecursion (HasPrefix s) (map (λ m. rest s 0 m) (range_with_len a n))
 rests-prefixes s a zero = tt
@@ -29,7 +29,7 @@ ancestors-recursion : (s : List ℕ) → AllByRecursion (HasPrefix s) (ancestors
 unfolding ancestors_of
 ancestors-recursion s = (([], append-nil s), rests-prefixes s 1 (depth_of s))
 
--- a path begins with each of its ancestors
+-- the bytes of s begin with the bytes of each ancestor of s
 pub ancestors_of-prefixes : (s : List ℕ) → All (λ prefix. IsPrefixOf prefix s) (ancestors_of s)
 ancestors_of-prefixes s =
     All-from_recursion (HasPrefix s) (ancestors_of s) (ancestors-recursion s)

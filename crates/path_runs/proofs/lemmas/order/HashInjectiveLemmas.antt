@@ -61,7 +61,8 @@ piece_determined p h d e = record {
 values-determined : (s : List ℕ) → AllByRecursion IsDetermined (values s)
 values-determined s = values-hold IsDetermined root_determined dot_determined piece_determined s
 
--- if the pieces p and q, each followed by a slash and more bytes, make the same string, p is q
+-- if p and q have no slash, and p, a slash and x are the same bytes as q, a slash and y, then p is
+-- q
 same_piece : (p q x y : List ℕ) → NoSlash p → NoSlash q → p ++ slash ∷ x ≡ q ++ slash ∷ y → p ≡ q
 same_piece p q x y h k e =
     let split : (r z : List ℕ) → NoSlash r
@@ -71,8 +72,8 @@ same_piece p q x y h k e =
     let both = sym (split p x h) ∙ ap (slice_split is_slash) e ∙ split q y k in
     cc
 
--- if the bytes of the components v and w, each followed by a slash and more bytes, make the same
--- string, v is w
+-- if v and w are determined by the bytes that they feed (`IsDetermined`), and the bytes of v, a
+-- slash and x are the same as the bytes of w, a slash and y, then v is w
 same_value : (v w : Value) (x y : List ℕ) → IsDetermined v → IsDetermined w
     → value_bytes v ++ slash ∷ x ≡ value_bytes w ++ slash ∷ y → v ≡ w
 same_value v w x y m n e =
@@ -81,8 +82,8 @@ same_value v w x y m n e =
     (sym (m.fed x) ∙ e ∙ n.fed y) in
     sym m.determines ∙ ap value_fed_by pieces ∙ n.determines
 
--- if the bytes that v feeds, followed by x, are the bytes that w feeds, followed by y, then v is w
--- and x is y
+-- if v and w are determined by the bytes that they feed (`IsDetermined`), and the bytes that v
+-- feeds, followed by x, are the bytes that w feeds, followed by y, then v is w and x is y
 same_first : (v w : Value) (x y : List ℕ) → IsDetermined v → IsDetermined w
     → value_bytes v ++ slash ∷ with_zeros v x ≡ value_bytes w ++ slash ∷ with_zeros w y
     → (v ≡ w) × (x ≡ y)
@@ -92,7 +93,8 @@ same_first v w x y m n e =
     let after = append_cancel_left (value_bytes v) _ _ whole in
     (same, with_zeros-cancel v x y (append_cancel_left (slash ∷ []) _ _ after))
 
--- if the bytes that vs feeds are a prefix of the bytes that ws feeds, vs is a prefix of ws
+-- if each component of vs and ws is determined by the bytes that it feeds (`IsDetermined`), and the
+-- bytes that vs feeds, followed by x, are the bytes that ws feeds, then vs is a prefix of ws
 begins-determined : (vs ws : List Value) → AllByRecursion IsDetermined vs
     → AllByRecursion IsDetermined ws
     → (x : List ℕ) → concat (hash_input_of vs) ++ x ≡ concat (hash_input_of ws) ++ []
@@ -111,8 +113,8 @@ begins-determined (v ∷ vs) (w ∷ ws) m n x e =
     let others = begins-determined vs ws m.1 n.1 x first.1 in
     (others.0, ap₂ (λ u us. u ∷ us) first.0 others.1)
 
--- if the bytes that s feeds are a prefix of the bytes that t feeds, the components of s are a
--- prefix of the components of t
+-- if the bytes that s feeds, followed by x, are the bytes that t feeds, then the components of s
+-- are a prefix of the components of t
 pub bytes_fed-IsPrefixOf : (s t x : List ℕ)
     → concat (hash_input_of (values s)) ++ x ≡ concat (hash_input_of (values t))
     → IsPrefixOf (values s) (values t)

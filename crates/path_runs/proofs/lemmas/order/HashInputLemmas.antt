@@ -9,7 +9,7 @@ use Rattle.std.specs.Simd.{first_chunks}
 use Rattle.unix_path.specs.Hashed.{terminator, in_eights, value_input, hash_input_of}
 use Rattle.unix_path.specs.Parts.{slash, Value, value_bytes}
 
--- the first k chunks of 8 bytes are the first 8 * k bytes
+-- the first k chunks of 8 bytes of xs, one after the other, are the first 8 * k bytes of xs
 concat-first_chunks : (k : ℕ) (xs : List ℕ) → concat (first_chunks 8 k xs) ≡ take (8 * k) xs
 concat-first_chunks zero xs = refl
 concat-first_chunks (suc k) xs =
@@ -20,8 +20,8 @@ concat-first_chunks (suc k) xs =
 zeros_after : ℕ → List ℕ
 zeros_after n = take (8 * ((n + 8) / 8) - (n + 1)) (repeat 7 (0 ∷ []))
 
--- if the terminator is appended to b, and the result is split into chunks of 8 bytes, the chunks
--- together are b, a slash and zeros
+-- if b and the terminator are split into chunks of 8 bytes, without the bytes left over at the end,
+-- the chunks, one after the other, are b, a slash, and zeros up to a multiple of 8 bytes
 concat-in_eights : (b : List ℕ)
     → concat (in_eights (b ++ terminator)) ≡ b ++ slash ∷ zeros_after (length b)
 unfolding in_eights zeros_after
@@ -41,7 +41,8 @@ pub with_zeros-cancel : (v : Value) (x y : List ℕ) → with_zeros v x ≡ with
 unfolding with_zeros
 with_zeros-cancel v x y e = append_cancel_left (zeros_after (length (value_bytes v))) x y e
 
--- the components v and vs feed the bytes of v, a slash, zeros, and then the bytes that vs feed
+-- the bytes that the components v and then vs feed, followed by x, are the bytes of v, a slash,
+-- zeros, the bytes that vs feed, and x
 pub concat-hash_input_of : (v : Value) (vs : List Value) (x : List ℕ)
     → concat (hash_input_of (v ∷ vs)) ++ x
     ≡ value_bytes v ++ slash ∷ with_zeros v (concat (hash_input_of vs) ++ x)

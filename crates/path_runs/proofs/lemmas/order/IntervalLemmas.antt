@@ -9,8 +9,9 @@ use Rattle.unix_path.specs.Parts.{Value}
 use Rattle.unix_path.specs.Order.{value_cmp, values_cmp}
 use Rattle.unix_path.specs.OrderLaws.{value_cmp-total, value_cmp-equal}
 
--- if b followed by v is between two lists that start with a, then b is a; if v also starts with
--- base, the list starts with a followed by base
+-- if b ∷ v is between two lists that begin with a, and v starts with base whenever v is between the
+-- rests of these lists after a, then b ∷ v starts with a ∷ base; o is the order of a and b, p that
+-- of b and a, q that of the first rest and v, and r that of v and the second rest
 begins_between-cons : (a b : Value) (base v : List Value) (o p q r : Ordering)
     → value_cmp a b ≡ o → p ≡ ordering_reverse o
     → is_le (ordering_then o q) ≡ true → is_le (ordering_then p r) ≡ true
@@ -23,7 +24,7 @@ begins_between-cons a b base v Equal p q r is back after before behind =
 begins_between-cons a b base v Greater p q r is back after before behind =
     absurd (true≢false (sym after))
 
--- if v is between base followed by x and base followed by y, v starts with base
+-- if v is between base followed by x and base followed by y, or is one of them, v starts with base
 begins_between-append : (base v x y : List Value)
     → is_le (values_cmp (base ++ x) v) ≡ true → is_le (values_cmp v (base ++ y)) ≡ true
     → IsPrefixOf base v
@@ -34,7 +35,7 @@ begins_between-append (a ∷ base) (b ∷ v) x y after before =
     (values_cmp (base ++ x) v) (values_cmp v (base ++ y))
     refl (value_cmp-total.antisymm b a) after before (begins_between-append base v x y)
 
--- if v is between two lists that start with base, v starts with base too
+-- if u and w start with base, and u ≤ v ≤ w in the order, v starts with base too
 pub begins_between : (base u v w : List Value) → IsPrefixOf base u → IsPrefixOf base w
     → is_le (values_cmp u v) ≡ true → is_le (values_cmp v w) ≡ true → IsPrefixOf base v
 begins_between base u v w first last after before =
@@ -42,7 +43,7 @@ begins_between base u v w first last after before =
     (ap (λ t. is_le (values_cmp t v)) first.1 ∙ after)
     (ap (λ t. is_le (values_cmp v t)) last.1 ∙ before)
 
--- a list isn't greater than the same list with more components after it
+-- the list base is less than or equal to base followed by `more`
 is_le-append : (base more : List Value) → is_le (values_cmp base (base ++ more)) ≡ true
 is_le-append [] [] = refl
 is_le-append [] (v ∷ more) = refl
@@ -51,7 +52,7 @@ is_le-append (v ∷ base) more =
     (tied_itself value_cmp-total v)
     ∙ is_le-append base more
 
--- a list isn't greater than a list that starts with it
+-- if v starts with base, base is less than or equal to v
 pub base_not_greater : (base v : List Value) → IsPrefixOf base v → is_le (values_cmp base v) ≡ true
 base_not_greater base v begins =
     sym (ap (λ t. is_le (values_cmp base t)) begins.1) ∙ is_le-append base begins.0

@@ -17,7 +17,7 @@ pub values_cmp-ties : (v w : List Value) → (values_cmp v w ≡ Equal) ↔ (v �
 values_cmp-ties v w =
     (values_cmp-equal v w, λ e. ap (values_cmp v) (sym e) ∙ tied_itself values_cmp-total v)
 
--- lists of components that are prefixes of each other are equal, since neither is longer
+-- if v followed by x is w, and w followed by y is v, then v is w, since neither is longer
 pub begins_both_ways : (v w x y : List Value) → v ++ x ≡ w → w ++ y ≡ v → v ≡ w
 begins_both_ways v w x y d e =
     let none = nil_from_length x

@@ -9,14 +9,16 @@ use Rattle.unix_path.specs.Order.{values_cmp}
 use Rattle.unix_path.specs.Parts.{Value, values}
 use Rattle.path_runs.specs.TableLaws.{rows_of, LookupByValues, InsertByValues, RemoveByValues}
 
--- a lookup by a path finds the value of the row with the path's components
+-- looking up the entry whose key has the components w finds the same value, or none, as looking up
+-- the row with the components w in the rows of the entries
 pub lookup-rows_of : {K V : Type 0} (bytes_of : K → List ℕ) → LookupByValues bytes_of V
 lookup-rows_of bytes_of w [] = refl
 lookup-rows_of bytes_of w (e ∷ entries) =
     ap (λ r. cond (is_at (values_cmp w) (values (bytes_of e.0))) (Some e.1) r)
     (lookup-rows_of bytes_of w entries)
 
--- removing by a path removes the row with the path's components
+-- if the entry whose key has the components w is removed, the rows of the entries lose the row with
+-- the components w, and no other
 pub remove-rows_of : {K V : Type 0} (bytes_of : K → List ℕ) → RemoveByValues bytes_of V
 remove-rows_of bytes_of w [] = refl
 remove-rows_of {K} {V} bytes_of w (e ∷ entries) =
@@ -30,7 +32,8 @@ remove-rows_of {K} {V} bytes_of w (e ∷ entries) =
       | false ↦ ap (λ rows. row ∷ rows) (remove-rows_of bytes_of w entries)
     ]
 
--- inserting by a path adds a row with the path's components, or replaces the value of that row
+-- inserting `key` and `value` into the entries, and then taking their rows, yields the same as
+-- inserting the components of `key`, and `value`, into the rows of the entries
 pub insert-rows_of : {K V : Type 0} (bytes_of : K → List ℕ) → InsertByValues bytes_of V
 insert-rows_of bytes_of [] key value = refl
 insert-rows_of {K} {V} bytes_of (e ∷ entries) key value =

@@ -12,7 +12,7 @@ use Rattle.path_runs.proofs.lemmas.spelling.LeanLemmas.{spelling_of-shortest}
 abbrev pub byte_count : List Value → ℕ
 byte_count vs = sum_by (λ v. length (value_bytes v)) vs
 
--- components have at most as many bytes without slashes between them as with slashes
+-- the components vs have at most as many bytes in total as vs with slashes between them
 byte_count-slashed_bytes : (vs : List Value) → byte_count vs ≤ length (slashed_bytes vs)
 byte_count-slashed_bytes [] = omega arith
 byte_count-slashed_bytes (v ∷ []) = omega (arith, sum_by-cons (λ v. length (value_bytes v)) v [])
@@ -23,7 +23,7 @@ byte_count-slashed_bytes (v ∷ w ∷ vs) = omega (
   byte_count-slashed_bytes (w ∷ vs),
 )
 
--- components have at most as many bytes as their canonical form
+-- the components vs have at most as many bytes in total as their canonical form
 byte_count-spelling_of : (vs : List Value) → byte_count vs ≤ length (spelling_of vs)
 unfolding spelling_of
 byte_count-spelling_of [] = omega arith
@@ -34,14 +34,14 @@ byte_count-spelling_of (RootDir ∷ vs) = omega (
 )
 byte_count-spelling_of (v ∷ vs) = byte_count-slashed_bytes (v ∷ vs)
 
--- a path's components have at most as many bytes as the path
+-- the components of s have at most as many bytes in total as s
 pub byte_count-values : (s : List ℕ) → byte_count (values s) ≤ length s
 byte_count-values s =
     let spelled = byte_count-spelling_of (values s) in
     ⊎_elim (λ same. omega (arith, spelled, ap length same)) (λ longer. omega (arith, spelled))
     (spelling_of-shortest s s refl)
 
--- the components of a path, as a list of strings, have at most as many bytes as the path
+-- the bytes of the components of s, as a list of strings, have at most the length of s in total
 pub sum_by-items : (s : List ℕ) → sum_by length (map value_bytes (values s)) ≤ length s
 sum_by-items s =
     let vs = values s in

@@ -13,8 +13,8 @@ use Rattle.path_runs.proofs.lemmas.spelling.SpellLemmas.{spelling_of-root}
 use Rattle.path_runs.proofs.lemmas.spelling.UnslashedLemmas.{IsUnslashed, IsUnslashedValue, Shape}
 use Rattle.path_runs.proofs.lemmas.spelling.UnslashedLemmas.{Rooted, Rootless, values-shape}
 
--- if x is put before the first of some strings, and they are joined by slashes, x comes before the
--- result
+-- the strings x ++ b and then bs, with slashes between them, are x, followed by b and bs with
+-- slashes between them
 join_with_byte-onto : (x b : List ℕ) (bs : List (List ℕ))
     → join_with_byte slash ((x ++ b) ∷ bs) ≡ x ++ join_with_byte slash (b ∷ bs)
 join_with_byte-onto x b [] = refl
@@ -32,8 +32,8 @@ needs_no_separator-append_closed (x ∷ y ∷ a) b e = needs_no_separator-append
 abbrev pub AllUnslashed : List (List ℕ) → Type 0
 AllUnslashed bs = AllByRecursion IsUnslashed bs
 
--- if a isn't empty and doesn't end in a slash, joining unslashed paths to it puts a slash before
--- each of them
+-- if a isn't empty and doesn't end in a slash, and all paths bs are unslashed, a joined with each
+-- of bs, one after the other, is a and bs with slashes between them
 join_all_of-closed : (a : List ℕ) (bs : List (List ℕ)) → needs_no_separator a ≡ false
     → AllUnslashed bs
     → join_all_of a bs ≡ join_with_byte slash (a ∷ bs)
@@ -45,8 +45,8 @@ join_all_of-closed a (b ∷ bs) o h =
     ∙ join_with_byte-onto (a ++ slash ∷ []) b bs
     ∙ append_assoc a (slash ∷ []) (join_with_byte slash (b ∷ bs))
 
--- joining one or more unslashed paths to any path a puts slashes between them, and one after a if a
--- needs it
+-- if b and all paths bs are unslashed, a joined with each of them, one after the other, is a, a
+-- slash unless a is empty or ends in one, and then b and bs with slashes between them
 pub join_all_of-some : (a b : List ℕ) (bs : List (List ℕ)) → AllUnslashed (b ∷ bs)
     → join_all_of a (b ∷ bs) ≡ (a ++ separator a) ++ join_with_byte slash (b ∷ bs)
 join_all_of-some a b bs h =
@@ -60,7 +60,8 @@ join_all_of-unslashed : (bs : List (List ℕ)) → AllUnslashed bs
 join_all_of-unslashed [] h = refl
 join_all_of-unslashed (b ∷ bs) h = join_all_of-some [] b bs h
 
--- joining unslashed paths to the root puts them after it, with slashes between them
+-- if all paths bs are unslashed, the root joined with each of bs, one after the other, is a slash,
+-- followed by bs with slashes between them
 join_all_of-root : (bs : List (List ℕ)) → AllUnslashed bs
     → join_all_of [] ((slash ∷ []) ∷ bs) ≡ slash ∷ join_with_byte slash bs
 join_all_of-root [] h = join_of_rooted [] (slash ∷ []) refl
@@ -73,7 +74,8 @@ pub unslashed_bytes : (vs : List Value) → AllByRecursion IsUnslashedValue vs
 unslashed_bytes [] h = tt
 unslashed_bytes (v ∷ vs) h = (h.0.unslashed, unslashed_bytes vs h.1)
 
--- if no component is the root, their canonical form is their bytes with slashes between them
+-- if each of the components vs is unslashed and not the root, their canonical form is their bytes
+-- with slashes between them
 pub spelling_of-unslashed : (vs : List Value) → AllByRecursion IsUnslashedValue vs
     → spelling_of vs ≡ slashed_bytes vs
 unfolding spelling_of
@@ -81,7 +83,8 @@ spelling_of-unslashed [] h = refl
 spelling_of-unslashed (RootDir ∷ vs) h = absurd (h.0.no_root refl)
 spelling_of-unslashed (v ∷ vs) h = refl
 
--- the components' bytes, each joined to those before it, are the canonical form
+-- the empty path, joined with the bytes of each component of s, one after the other, is the
+-- canonical form of s
 pub join_all_of-values : (s : List ℕ)
     → join_all_of [] (map value_bytes (values s)) ≡ spelling_of (values s)
 join_all_of-values s = by (values-shape s)

@@ -1,5 +1,4 @@
--- No path is shorter than its canonical form. A piece counts if it is neither empty nor `.`, and an
--- inner component is a `..` or a name.
+-- No path is shorter than its canonical form.
 use Rattle.std.proofs.Common.{◌≡◌, ℕ, ◌+◌, ◌<◌, ◌≤◌, eqb, List, [], ◌∷◌, ◌++◌, length, drop, sym}
 use Rattle.std.proofs.Common.{refl, ap, subst, ◌∙◌, ◌⊎◌, inl, inr, arith, append-nil, length-append}
 use Rattle.std.proofs.Common.{eqb-true}
@@ -38,7 +37,8 @@ SameOrShorter-longer u s t (inr h) l = inr (omega arith)
 abbrev each_piece : List (List ℕ) → List ℕ
 each_piece ps = flat_map (λ p. slash ∷ p) ps
 
--- with a slash before each, the pieces that count are the same bytes as all pieces, or fewer
+-- the components of the pieces ps, each after a slash, are the same bytes as all pieces of ps, each
+-- after a slash, or fewer
 SameOrShorter-names : (ps : List (List ℕ))
     → SameOrShorter (slash_each (names_of ps)) (each_piece ps)
 SameOrShorter-names [] = inl refl
@@ -67,7 +67,8 @@ each_piece-whole s =
     ∙ ap (λ ps. slash ∷ join_with_byte slash ps) (sym first)
     ∙ ap (λ u. slash ∷ u) (join_with_byte-pieces s)
 
--- the inner components of s, each after a slash, are a slash and s, or shorter
+-- the components of s without a leading root or `.`, each after a slash, are the same bytes as a
+-- slash and s, or fewer
 slashed_parts-lean : (s : List ℕ) → SameOrShorter (slashed_parts s) (slash ∷ s)
 unfolding slashed_parts
 slashed_parts-lean s =
@@ -79,12 +80,14 @@ SameOrShorter-length : (u s : List ℕ) → SameOrShorter u s → length u ≤ l
 SameOrShorter-length u s (inl e) = omega (arith, ap length e)
 SameOrShorter-length u s (inr h) = omega arith
 
--- the inner components of s, each after a slash, have at most one byte more than s
+-- the components of s without a leading root or `.`, each after a slash, have at most one byte more
+-- than s
 pub slashed_parts-length : (s : List ℕ) → length (slashed_parts s) ≤ length s + 1
 slashed_parts-length s =
     omega (arith, SameOrShorter-length (slashed_parts s) (slash ∷ s) (slashed_parts-lean s))
 
--- the inner components of s, with slashes between them, have at most as many bytes as s
+-- the components of s without a leading root or `.`, with slashes between them, have at most as
+-- many bytes as s
 pub slashed_bytes-lean : (s : List ℕ) → length (slashed_bytes (inner_values s)) ≤ length s
 unfolding slashed_parts
 slashed_bytes-lean s = by (inner_values s) (slashed_parts-length s)
@@ -94,15 +97,16 @@ slashed_bytes-lean s = by (inner_values s) (slashed_parts-length s)
     by [] l = omega arith
     by (v ∷ vs) l = omega (arith, ap length (slashed_bytes-cons v vs))
 
--- if vs, each after a slash, are a slash and s, or shorter, then a slash and vs with slashes
--- between them are the same bytes as a slash and s, or shorter
+-- if the components vs, each after a slash, are the same bytes as a slash and s, or fewer, then so
+-- are a slash and vs with slashes between them
 SameOrShorter-root : (vs : List Value) (s : List ℕ) → SameOrShorter (slash_each vs) (slash ∷ s)
     → SameOrShorter (slash ∷ slashed_bytes vs) (slash ∷ s)
 SameOrShorter-root [] [] h = inl refl
 SameOrShorter-root [] (x ∷ s) h = inr (omega arith)
 SameOrShorter-root (v ∷ vs) s h = rw (slashed_bytes-cons v vs) h
 
--- the first piece of s, followed by the components after it, each after a slash, is s, or shorter
+-- the first piece of s and the components after it, each after a slash, are the same bytes as s, or
+-- fewer
 SameOrShorter-first : (s : List ℕ)
     → SameOrShorter (first_piece s ++ slashed_parts (drop (position_or_len is_slash s) s)) s
 SameOrShorter-first [] = inl (no_parts_after_end [] [] 0 (omega arith))

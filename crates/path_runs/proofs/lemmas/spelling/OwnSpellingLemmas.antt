@@ -10,7 +10,8 @@ use Rattle.path_runs.proofs.lemmas.spelling.PieceValueLemmas.{slice_split-no_sla
 use Rattle.path_runs.proofs.lemmas.spelling.ReadBackLemmas.{values-join_with_byte}
 use Rattle.path_runs.proofs.lemmas.spelling.SpellLemmas.{spelling_of-pieces, spelling_of-rooted}
 
--- if `list_all counts` returns true for some pieces, all of them count
+-- if `list_all counts` returns true for the pieces ps, each of them counts: it is neither empty nor
+-- `.`
 AllCount-list_all : (ps : List (List ℕ)) → list_all counts ps ≡ true → AllCount ps
 AllCount-list_all [] h = tt
 AllCount-list_all (p ∷ ps) h = (
@@ -18,8 +19,8 @@ AllCount-list_all (p ∷ ps) h = (
   AllCount-list_all ps (second_so (counts p) (list_all counts ps) h),
 )
 
--- if a rooted path is a slash and then t, and all pieces of t count, the path is its own canonical
--- form
+-- if s has a root, t is s without its first byte, and each piece of t is neither empty nor `.`,
+-- then s is its own canonical form
 pub spelling_of-own_rooted : (s t : List ℕ) → list_all counts (slice_split is_slash t) ≡ true
     → is_rooted s ≡ true → t ≡ drop 1 s → spelling_of (values s) ≡ s
 spelling_of-own_rooted s t h r e =
@@ -31,7 +32,8 @@ spelling_of-own_rooted s t h r e =
     ∙ ap (λ ps. slash ∷ join_with_byte slash ps) (filter-all ps (AllCount-list_all ps h))
     ∙ ap (λ u. slash ∷ u) (join_with_byte-pieces t ∙ same) ∙ sym u.1
 
--- if a path has no root, and all its pieces count, it is its own canonical form
+-- if s has no root, t is s, and each piece of t is neither empty nor `.`, then s is its own
+-- canonical form
 pub spelling_of-own_rootless : (s t : List ℕ) → list_all counts (slice_split is_slash t) ≡ true
     → is_rooted s ≡ false → t ≡ s → spelling_of (values s) ≡ s
 spelling_of-own_rootless s t h r e =

@@ -12,20 +12,21 @@ use Rattle.unix_bytes.proofs.lemmas.lists.ListLemmas.{by_test}
 use Rattle.path_runs.proofs.lemmas.joins.LeadLemmas.{dot_first, lead_by, values-lead}
 use Rattle.unix_path.specs.CommonDir.{inner_values}
 
--- the components of the pieces that count
+-- the components of these pieces, leaving out empty pieces and `.`
 abbrev pub names_of : List (List ℕ) → List Value
 names_of ps = map value_of_piece (filter counts ps)
 
--- all these pieces count
+-- each of these pieces counts: it is neither empty nor `.`
 abbrev pub AllCount : List (List ℕ) → Type 0
 AllCount ps = AllByRecursion (λ p. counts p ≡ true) ps
 
--- if all pieces count, none is left out
+-- if each piece of ps counts, dropping the pieces that don't count leaves ps
 pub filter-all : (ps : List (List ℕ)) → AllCount ps → filter counts ps ≡ ps
 filter-all [] h = refl
 filter-all (p ∷ ps) h = rw h.0 (ap (λ qs. p ∷ qs) (filter-all ps h.1))
 
--- the parts of pieces, without their positions, are the components of the pieces that count
+-- the parts of the pieces ps, without their positions, are the components of the pieces of ps that
+-- are neither empty nor `.`
 names_of-parts : (at : ℕ) (ps : List (List ℕ))
     → map (λ (p : Part). p.value) (parts_of_pieces at ps) ≡ names_of ps
 names_of-parts at [] = refl
@@ -37,8 +38,8 @@ pub inner_values-pieces : (s : List ℕ) → inner_values s ≡ names_of (slice_
 unfolding inner_parts
 inner_values-pieces s = names_of-parts 0 (slice_split is_slash s)
 
--- a path's components are its leading root or `.`, if it has one, followed by the components of its
--- pieces that count
+-- the components of s are its leading root or `.`, if it has one, followed by the components of the
+-- pieces of s that are neither empty nor `.`
 values-pieces : (s : List ℕ)
     → values s ≡ lead_by (is_rooted s) (dot_first (slice_split is_slash s)) ++ names_of
     (slice_split is_slash s)
@@ -47,12 +48,12 @@ values-pieces s = values-lead s
     (inner_values-pieces s)
 
 -- the components of a slash and then t are the root, followed by the components of the pieces of t
--- that count
+-- that are neither empty nor `.`
 pub values-rooted : (t : List ℕ) → values (slash ∷ t) ≡ RootDir ∷ names_of (slice_split is_slash t)
 values-rooted t = values-pieces (slash ∷ t)
 
--- a rootless path's components are a leading `.`, if it has one, followed by the components of its
--- pieces that count
+-- if s has no root, and ps are its pieces, the components of s are a `.` if the first piece is `.`,
+-- followed by the components of the pieces that are neither empty nor `.`
 pub values-rootless : (s : List ℕ) (ps : List (List ℕ)) → is_rooted s ≡ false
     → slice_split is_slash s ≡ ps
     → values s ≡ cond (dot_first ps) (CurDir ∷ []) [] ++ names_of ps
@@ -85,13 +86,14 @@ slice_split-no_slash (x ∷ s) = by_test (eqb x 47)
     (λ e. subst (AllByRecursion NoSlash) (sym (slice_split-cons_no is_slash x s e))
     (onto_first-no_slash x (slice_split is_slash s) e (slice_split-no_slash s)))
 
--- P holds of the component of each piece that counts and has no slash
+-- P holds of the component of each piece that has no slash and is neither empty nor `.`
 abbrev pub HoldsOfPieces : (Value → Type 0) → Type 0
 HoldsOfPieces P =
     (p : List ℕ) → NoSlash p → bytes_eq p [] ≡ false → bytes_eq p cur_dir ≡ false
     → P (value_of_piece p)
 
--- if P holds of the component of each piece that counts, it holds of all components of such pieces
+-- if P holds of the component of each piece that has no slash and is neither empty nor `.`, and no
+-- piece of ps has a slash, then P holds of all components of ps
 names_of-hold : (P : Value → Type 0) → HoldsOfPieces P → (ps : List (List ℕ))
     → AllByRecursion NoSlash ps → AllByRecursion P (names_of ps)
 names_of-hold P of_piece [] h = tt
@@ -106,8 +108,8 @@ lead-hold : (P : Value → Type 0) → P CurDir → (c : Bool) (vs : List Value)
 lead-hold P of_dot true vs h = (of_dot, h)
 lead-hold P of_dot false vs h = h
 
--- if P holds of `.` and of the component of each piece that counts, it holds of each component of a
--- rootless path
+-- if P holds of `.` and of the component of each piece (`HoldsOfPieces`), and s has no root, P
+-- holds of each component of s
 pub values-hold_rootless : (P : Value → Type 0) → P CurDir → HoldsOfPieces P → (s : List ℕ)
     → is_rooted s ≡ false → AllByRecursion P (values s)
 values-hold_rootless P of_dot of_piece s r =
@@ -116,8 +118,8 @@ values-hold_rootless P of_dot of_piece s r =
     (lead-hold P of_dot (dot_first ps) (names_of ps)
     (names_of-hold P of_piece ps (slice_split-no_slash s)))
 
--- if P holds of the component of each piece that counts, it holds of each component after the root
--- of a rooted path
+-- if P holds of the component of each piece (`HoldsOfPieces`), and s has a root, the components of
+-- s are the root and then components of each of which P holds
 pub values-hold_rooted : (P : Value → Type 0) → HoldsOfPieces P → (s : List ℕ)
     → is_rooted s ≡ true
     → (vs : List Value) × (values s ≡ RootDir ∷ vs) × AllByRecursion P vs
@@ -129,8 +131,8 @@ values-hold_rooted P of_piece s r =
       names_of-hold P of_piece ps (slice_split-no_slash t.0),
     )
 
--- if P holds of the root, of `.`, and of the component of each piece that counts, it holds of each
--- component of a path
+-- if P holds of the root, of `.`, and of the component of each piece (`HoldsOfPieces`), it holds of
+-- each component of s
 pub values-hold : (P : Value → Type 0) → P RootDir → P CurDir → HoldsOfPieces P → (s : List ℕ)
     → AllByRecursion P (values s)
 values-hold P of_root of_dot of_piece s = by_test (is_rooted s)

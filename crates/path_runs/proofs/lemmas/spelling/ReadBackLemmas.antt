@@ -18,7 +18,8 @@ use Rattle.path_runs.proofs.lemmas.spelling.PieceValueLemmas.{slice_split-no_sla
 use Rattle.path_runs.proofs.lemmas.spelling.SpellLemmas.{bytes_of_pieces, spelling_of-dot}
 use Rattle.path_runs.proofs.lemmas.spelling.SpellLemmas.{spelling_of-pieces, spelling_of-rooted}
 
--- if no piece has a slash, the joined pieces are split into the same pieces again
+-- if none of the pieces p and ps has a slash, joining them by slashes and splitting the result at
+-- its slashes yields p and ps again
 slice_split-join_with_byte : (p : List ℕ) (ps : List (List ℕ)) → AllByRecursion NoSlash (p ∷ ps)
     → slice_split is_slash (join_with_byte slash (p ∷ ps)) ≡ p ∷ ps
 slice_split-join_with_byte p [] h =
@@ -28,7 +29,7 @@ slice_split-join_with_byte p (q ∷ ps) h =
     (All-from_recursion (λ b. is_slash b ≡ false) p h.0) refl
     ∙ ap (λ qs. p ∷ qs) (slice_split-join_with_byte q ps h.1)
 
--- if no piece has a slash, none of the pieces that count has one
+-- if no piece of ps has a slash, none of the pieces of ps that are neither empty nor `.` has one
 filter-no_slash : (ps : List (List ℕ)) → AllByRecursion NoSlash ps
     → AllByRecursion NoSlash (filter counts ps)
 filter-no_slash [] h = tt
@@ -44,14 +45,16 @@ filter-counts (p ∷ ps) =
 names_of-counts : (ps : List (List ℕ)) → AllCount ps → names_of ps ≡ map value_of_piece ps
 names_of-counts ps h = ap (map value_of_piece) (filter-all ps h)
 
--- if all pieces count, the joined pieces are split into pieces with the same components
+-- if each piece of ps has no slash and is neither empty nor `.`, joining ps by slashes and
+-- splitting the result at its slashes yields pieces with the components of ps
 pub names_of-join_with_byte : (ps : List (List ℕ)) → AllByRecursion NoSlash ps → AllCount ps
     → names_of (slice_split is_slash (join_with_byte slash ps)) ≡ map value_of_piece ps
 names_of-join_with_byte [] h k = refl
 names_of-join_with_byte (p ∷ ps) h k =
     ap names_of (slice_split-join_with_byte p ps h) ∙ names_of-counts (p ∷ ps) k
 
--- if the first byte of joined pieces isn't a slash, they have no root
+-- if the first piece begins with a byte x that isn't a slash, the pieces joined by slashes are a
+-- path without a root
 is_rooted-join_with_byte : (x : ℕ) (p : List ℕ) (ps : List (List ℕ)) → is_slash x ≡ false
     → is_rooted (join_with_byte slash ((x ∷ p) ∷ ps)) ≡ false
 is_rooted-join_with_byte x p [] h = h
@@ -61,7 +64,7 @@ counts-no_dot : (x : ℕ) (p : List ℕ) → counts (x ∷ p) ≡ true → bytes
 counts-no_dot x p e = by_test (bytes_eq (x ∷ p) cur_dir)
     (λ d. absurd (let k : false ≡ true = rw d at e in cc)) (λ d. d)
 
--- the canonical form of a rooted path has the path's components
+-- the canonical form of a path with a root has the path's components
 values-spelling_rooted : (t : List ℕ)
     → values (spelling_of (values (slash ∷ t))) ≡ values (slash ∷ t)
 values-spelling_rooted t =
@@ -72,7 +75,8 @@ values-spelling_rooted t =
     (names_of-join_with_byte kept (filter-no_slash ps (slice_split-no_slash t)) (filter-counts ps))
     ∙ sym (values-rooted t)
 
--- if all pieces count, the joined pieces have the components of these pieces
+-- if each piece of ps has no slash and is neither empty nor `.`, the pieces joined by slashes are a
+-- path with the components of ps
 pub values-join_with_byte : (ps : List (List ℕ)) → AllByRecursion NoSlash ps → AllCount ps
     → values (join_with_byte slash ps) ≡ map value_of_piece ps
 values-join_with_byte [] h k = values-rootless [] ([] ∷ []) refl refl
@@ -84,7 +88,8 @@ values-join_with_byte ((x ∷ p) ∷ ps) h k =
     ∙ ap (λ c. cond c (CurDir ∷ []) [] ++ names_of all) (counts-no_dot x p k.0)
     ∙ names_of-counts all k
 
--- if all pieces count, a `.` joined with them has a leading `.` and the components of these pieces
+-- if each piece of ps has no slash and is neither empty nor `.`, then `.` and ps, joined by
+-- slashes, are a path with a leading `.` and then the components of ps
 pub values-join_with_byte_dot : (ps : List (List ℕ)) → AllByRecursion NoSlash ps → AllCount ps
     → values (join_with_byte slash (cur_dir ∷ ps)) ≡ CurDir ∷ map value_of_piece ps
 values-join_with_byte_dot ps h k =
@@ -93,7 +98,7 @@ values-join_with_byte_dot ps h k =
     (slice_split-join_with_byte cur_dir ps ((refl, (tt)), h))
     ∙ ap (λ vs. CurDir ∷ vs) (names_of-counts ps k)
 
--- the canonical form of a rootless path has the path's components
+-- if s has no root, the canonical form of s has the components of s
 values-spelling_rootless : (s : List ℕ) → is_rooted s ≡ false
     → values (spelling_of (values s)) ≡ values s
 values-spelling_rootless s r =

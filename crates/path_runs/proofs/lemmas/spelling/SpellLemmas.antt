@@ -1,5 +1,4 @@
--- The canonical form of components, with and without a root as the first of them. A piece counts if
--- it is neither empty nor `.`.
+-- The canonical form of components, with and without a root as the first of them.
 use Rattle.std.proofs.Common.{◌≡◌, ℕ, List, [], ◌∷◌, map, filter, refl, ap, ap₂, ◌∙◌}
 use Rattle.std.specs.List.{slice_split, join_with_byte}
 use Rattle.unix_path.specs.Parts.{is_slash, slash, Value, RootDir, CurDir, value_of_piece}
@@ -8,13 +7,13 @@ use Rattle.unix_path.proofs.lemmas.parts.ValueLemmas.{value_bytes-piece, no_root
 use Rattle.path_runs.specs.Spelling.{slashed_bytes, spelling_of}
 use Rattle.path_runs.proofs.lemmas.spelling.PieceValueLemmas.{names_of, values-rooted}
 
--- the bytes of the components of pieces are these pieces
+-- the bytes of the component of each piece of ps are that piece
 pub bytes_of_pieces : (ps : List (List ℕ)) → map value_bytes (map value_of_piece ps) ≡ ps
 bytes_of_pieces [] = refl
 bytes_of_pieces (p ∷ ps) = ap₂ (λ q qs. q ∷ qs) (value_bytes-piece p) (bytes_of_pieces ps)
 
--- the components of the pieces that count, with slashes between them, are these pieces with slashes
--- between them
+-- the components of the pieces ps, with slashes between them, are the pieces of ps that are neither
+-- empty nor `.`, with slashes between them
 pub slashed_bytes-names : (ps : List (List ℕ))
     → slashed_bytes (names_of ps) ≡ join_with_byte slash (filter counts ps)
 slashed_bytes-names ps = ap (join_with_byte slash) (bytes_of_pieces (filter counts ps))
@@ -27,8 +26,7 @@ pub spelling_of-dot : (vs : List Value) → spelling_of (CurDir ∷ vs) ≡ slas
 unfolding spelling_of
 spelling_of-dot vs = refl
 
--- if the first component isn't the root, the canonical form is the bytes of the components with
--- slashes between them
+-- if v isn't the root, the canonical form of v and then vs is their bytes with slashes between them
 pub spelling_of-cons : (v : Value) (vs : List Value) → (v ≡ RootDir → ⊥)
     → spelling_of (v ∷ vs) ≡ slashed_bytes (v ∷ vs)
 unfolding spelling_of
@@ -39,7 +37,7 @@ pub spelling_of-nil : spelling_of [] ≡ []
 unfolding spelling_of
 spelling_of-nil = refl
 
--- the canonical form of the components of pieces is the pieces with slashes between them
+-- the canonical form of the components of the pieces ps is ps with slashes between them
 pub spelling_of-pieces : (ps : List (List ℕ))
     → spelling_of (map value_of_piece ps) ≡ join_with_byte slash ps
 spelling_of-pieces [] = spelling_of-nil
@@ -47,8 +45,8 @@ spelling_of-pieces (p ∷ ps) =
     spelling_of-cons (value_of_piece p) (map value_of_piece ps) (no_root_piece p)
     ∙ ap (join_with_byte slash) (bytes_of_pieces (p ∷ ps))
 
--- the canonical form of a rooted path is a slash, followed by the pieces that count, with slashes
--- between them
+-- the canonical form of a slash and then t is a slash, followed by the pieces of t that are neither
+-- empty nor `.`, with slashes between them
 pub spelling_of-rooted : (t : List ℕ)
     → spelling_of (values (slash ∷ t)) ≡ slash ∷ join_with_byte slash
     (filter counts (slice_split is_slash t))

@@ -20,7 +20,7 @@ needs_no_separator-no_slash : (x : ℕ) (p : List ℕ) → NoSlash (x ∷ p) →
 needs_no_separator-no_slash x [] h = h.0
 needs_no_separator-no_slash x (y ∷ p) h = needs_no_separator-no_slash y p h.1
 
--- if a piece isn't empty, it neither begins nor ends with a slash
+-- if p has no slash and isn't empty, it neither begins nor ends with a slash
 unslashed_piece : (p : List ℕ) → NoSlash p → bytes_eq p [] ≡ false → IsUnslashed p
 unslashed_piece [] h e = absurd (let d : true ≡ false = e in cc)
 unslashed_piece (x ∷ p) h e = record { rootless = h.0; closed = needs_no_separator-no_slash x p h }
@@ -39,13 +39,14 @@ unslashed_value p h = by_test (bytes_eq p parent_dir)
 unslashed_names : HoldsOfPieces IsUnslashedValue
 unslashed_names p h e f = unslashed_value p (unslashed_piece p h e)
 
--- vs is the root followed by components that are not the root, or only such components
+-- the components vs are the root and then components that are unslashed and not the root, or they
+-- are only such components
 pub data Shape (vs : List Value) : Type 0 where
   Rooted : (ws : List Value) → vs ≡ RootDir ∷ ws → AllByRecursion IsUnslashedValue ws → Shape vs
   Rootless : AllByRecursion IsUnslashedValue vs → Shape vs
 
--- a path's components are the root followed by components that are not the root, or only such
--- components
+-- the components of s are the root and then components that are unslashed and not the root, or they
+-- are only such components
 pub values-shape : (s : List ℕ) → Shape (values s)
 values-shape s = by_test (is_rooted s)
     (λ r. let behind = values-hold_rooted IsUnslashedValue unslashed_names s r in

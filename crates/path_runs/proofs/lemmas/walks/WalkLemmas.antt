@@ -29,8 +29,7 @@ one_turn : (t : Turn) → cond (is_front t) 1 0 + cond (is_back t) 1 0 ≡ 1
 one_turn Front = refl
 one_turn Back = refl
 
--- each turn of a list is at the front or at the back, so both counts add up to the length of the
--- list
+-- the number of turns of ts at the front and the number at the back add up to the length of ts
 turns_total : (ts : List Turn) → count_by is_front ts + count_by is_back ts ≡ length ts
 turns_total [] = refl
 turns_total (t ∷ ts) =
@@ -38,8 +37,8 @@ turns_total (t ∷ ts) =
     let backs = sum_by-cons (λ t. cond (is_back t) 1 0) t ts in
     omega (arith, one_turn t, turns_total ts, fronts, backs)
 
--- the numbers of remaining components and of components taken add up to the number of components of
--- the path; the first i turns take a component each until none remains
+-- if s has n components, the number of components that remain after the first i turns, plus the
+-- number of these turns, or n if there are more than n, is n
 pub length-remaining : {s : List ℕ} {ts : List Turn} {i : ℕ} {front behind : List Value}
     {remaining : List ℕ}
     → HasWalked s ts i front remaining behind

@@ -21,8 +21,8 @@ use Rattle.path_runs.proofs.lemmas.walks.WalkLemmas.{is_back, HasWalked, length-
 take-take_early : (n i : ℕ) (ts : List Turn) → i ≤ n → take n (take i ts) ≡ take i ts
 take-take_early n i ts l = take_all n (take i ts) (omega (arith, length-take i ts))
 
--- if i is less than n, the number of the first n turns that pass the test grows by one with turn i
--- if this turn passes it, and stays the same otherwise
+-- if there is a turn i, and i is less than n, then among the first i + 1 turns, but at most n, as
+-- many pass `test` as among the first i turns, but at most n, plus one if turn i passes
 count_by-more : (test : Turn → Bool) (n i : ℕ) (ts : List Turn) (passes : Bool) → i < n
     → i < length ts → test (get_or ts i Front) ≡ passes
     → count_by test (take n (take (i + 1) ts))
@@ -36,7 +36,8 @@ count_by-more test n i ts passes early l e =
     by true e = count_by_more_yes test ts i Front l e
     by false e = count_by_more_no test ts i Front l e ∙ sym (add-zero (count_by test (take i ts)))
 
--- if no component remains, one more turn at either end takes nothing
+-- if no component remains after the first i turns, and `after`, the rest after one more turn, has
+-- none either, then the first i + 1 turns have taken the same components as the first i
 HasWalked-none : {s : List ℕ} {ts : List Turn} {i : ℕ} {front behind : List Value}
     {remaining : List ℕ}
     (after : List ℕ) → HasWalked s ts i front remaining behind → values remaining ≡ []
@@ -55,7 +56,8 @@ HasWalked-none {s} {ts} {i} {front} {behind} {remaining} after h none more =
       backs = h.backs ∙ ap (count_by is_back) same;
     }
 
--- if a component remains after i turns, i is less than the number of components of the path
+-- if a component remains after the first i of more than i turns, i is less than the number of
+-- components of s
 in_time : {s : List ℕ} {ts : List Turn} {i : ℕ} {front behind : List Value} {remaining : List ℕ}
     → HasWalked s ts i front remaining behind → i < length ts → 0 < length (values remaining)
     → i < length (values s)
@@ -66,8 +68,9 @@ in_time {s} {ts} {i} h l some = omega (
   length-take i ts,
 )
 
--- one more turn at the front takes the component that `next` returned, or nothing if `next`
--- returned `None`
+-- if the first i turns have taken `front` and `behind` (`HasWalked`), turn i is at the front, and
+-- its call of `next` returned `item` and left `after`, then the first i + 1 turns have taken
+-- `front` followed by the component of `item`, if any, and `behind`, and have left `after`
 pub HasWalked-front : {A : Type 0} (shows : A → Value) (s : List ℕ) (ts : List Turn) (i : ℕ)
     (front : List Value) (remaining : List ℕ) (behind : List Value) (item : Option A)
     (after : List ℕ)
@@ -93,8 +96,9 @@ HasWalked-front shows s ts i front remaining behind (Some x) after h l turn give
       backs = omega (arith, h.backs, count_by-more is_back n i ts false early l (ap is_back turn));
     }
 
--- one more turn at the back takes the component that `next_back` returned, or nothing if
--- `next_back` returned `None`
+-- if the first i turns have taken `front` and `behind` (`HasWalked`), turn i is at the back, and
+-- its call of `next_back` returned `item` and left `after`, then the first i + 1 turns have taken
+-- `front`, and `behind` followed by the component of `item`, if any, and have left `after`
 pub HasWalked-back : {A : Type 0} (shows : A → Value) (s : List ℕ) (ts : List Turn) (i : ℕ)
     (front : List Value) (remaining : List ℕ) (behind : List Value) (item : Option A)
     (after : List ℕ)
@@ -125,14 +129,14 @@ HasWalked-back shows s ts i front remaining behind (Some x) after h l turn gives
           (arith, size, h.backs, count_by-more is_back n i ts true early l (ap is_back turn));
     }
 
--- if nothing remains, `next` returns `None`
+-- if nothing remains of the walk s, a call of `next` returns no item
 pub none_before : {S A V : Type 0} (shows : A → V) (remaining : S → List V) (s t : S)
     (item : Option A) → YieldsFirstBy shows remaining s item t → remaining s ≡ [] → item ≡ None
 none_before shows remaining s t None h none = refl
 none_before shows remaining s t (Some x) h none =
     absurd (omega (arith, ap length (sym h ∙ none)))
 
--- if nothing remains, `next_back` returns `None`
+-- if nothing remains of the walk s, a call of `next_back` returns no item
 pub none_after : {S A V : Type 0} (shows : A → V) (remaining : S → List V) (s t : S)
     (item : Option A) → YieldsLastBy shows remaining s item t → remaining s ≡ [] → item ≡ None
 none_after shows remaining s t None h none = refl

@@ -2,12 +2,13 @@
 use Rattle.std.proofs.Common.{◌≡◌, ℕ, List, ◌++◌, Result, Ok, Err, OnOk, ap, subst, append_assoc}
 use Rattle.std.proofs.Common.{◌∙◌}
 
--- if some bytes were appended, so were bytes that are equal to them
+-- if `said` equals `bytes`, a step that appended `said` to `old` appended `bytes` to `old`
 pub adds : {T E : Type 0} (r : Result T E) (new old : List ℕ) {said bytes : List ℕ} → said ≡ bytes
     → OnOk r (new ≡ old ++ said) → OnOk r (new ≡ old ++ bytes)
 adds r new old e h = subst (λ bs. OnOk r (new ≡ old ++ bs)) e h
 
--- if `front` was appended, and then `said`, both were appended
+-- if `mid` is `old` followed by `front`, and a step appended `said` to `mid`, then `bytes`, which
+-- are `front` followed by `said`, were appended to `old`
 pub adds_after : {T E : Type 0} (r : Result T E) (new mid old front said : List ℕ)
     {bytes : List ℕ} → mid ≡ old ++ front → front ++ said ≡ bytes → OnOk r (new ≡ mid ++ said)
     → OnOk r (new ≡ old ++ bytes)

@@ -14,7 +14,7 @@ use Rattle.pathtool.proofs.lemmas.lines.LoopLemmas.{IsStep}
 use Rattle.pathtool.specs.EditFields.{edit_of_field, edit_answer}
 use Rattle.pathtool.specs.Steps.{prepend_edit, edits_of_fields, edited_answer}
 
--- the given edits, followed by the edits that the fields name, or `None` if a field names no edit
+-- the edits `done`, followed by the edits that `fields` name, or `None` if a field names no edit
 abbrev pub edits_then : List EditValue → List (List ℕ) → Option (List EditValue)
 edits_then done fields = option_map (λ edits. done ++ edits) (edits_of_fields fields)
 
@@ -24,8 +24,9 @@ map_before : (done : List EditValue) (edit : EditValue) (o : Option (List EditVa
 map_before done edit None = refl
 map_before done edit (Some edits) = ap Some (sym (append_assoc done (edit ∷ []) edits))
 
--- if field n names an edit, this edit comes before the edits that the fields after it name;
--- otherwise the fields name no edits
+-- the edits `done`, followed by the edits that the fields from n on name, are `done`, then `said`,
+-- the edit that field n names, and then the edits that the fields after n name; both are `None` if
+-- field n or a field after it names no edit
 edits_then-next : (done : List EditValue) (fields : List (List ℕ)) (n : ℕ) (field : List ℕ)
     (said : Option EditValue) → (n < length fields) × (field ≡ get_or fields n field)
     → said ≡ edit_of_field field → edits_then done (drop n fields)
@@ -42,7 +43,8 @@ edits_then-next done fields n field said h e =
 module _ {A : Type 0} (shown : A → List ℕ) (fields : List (List ℕ)) (taken : List A)
     (edits : List Edit) (so_far : edits_then (map edit_value edits) (drop (length taken) fields)
     ≡ edits_of_fields fields) where
-  -- if the next field names an edit, `so_far` holds with this edit added, for the fields after it
+  -- if the next field names `edit`, the fact `so_far` still holds after `edit` is added to the
+  -- edits so far and the field is taken from the remaining fields
   pub edits_then-more : (field : A) (edit : Edit) (found : Option Edit) (more : List Edit)
       → IsStep shown fields taken (Some field) → found ≡ Some edit
       → option_map edit_value found ≡ edit_of_field (shown field) → more ≡ edits ++ edit ∷ []
@@ -59,7 +61,7 @@ module _ {A : Type 0} (shown : A → List ℕ) (fields : List (List ℕ)) (taken
       ∙ map_before done (edit_value edit) (edits_of_fields left))
       ∙ so_far
 
-  -- if the next field names no edit, the fields as a whole name no edits
+  -- if the next field names no edit, `edits_of_fields` is `None` for the list of all fields
   pub edits_then-bad : (field : A) (found : Option Edit) → IsStep shown fields taken (Some field)
       → found ≡ None → option_map edit_value found ≡ edit_of_field (shown field)
       → None ≡ edits_of_fields fields
@@ -79,8 +81,8 @@ module _ {A : Type 0} (shown : A → List ℕ) (fields : List (List ℕ)) (taken
 abbrev are_edits : List (List ℕ) → Bool
 are_edits fields = list_all (λ field. is_some (edit_of_field field)) fields
 
--- if there is an edit and `known` is true, the result is this edit and then `edits`; otherwise it
--- is `None`
+-- if `edit` is `Some` and `known` is true, `prepend_edit` returns this edit and then `edits`;
+-- otherwise it returns `None`
 prepend_edit-known : (edit : Option EditValue) (known : Bool) (edits : List EditValue)
     → prepend_edit edit (if known then Some edits else None)
     ≡ (if is_some edit && known then Some (cons_option edit edits) else None)

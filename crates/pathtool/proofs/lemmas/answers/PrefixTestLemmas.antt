@@ -24,14 +24,16 @@ ends_with-Decides w v = let (to, from) = ends_is same_value-Decides w v _ refl i
   λ (before, e). from before (sym e),
 )
 
--- if the path starts with the base, the answer of `strip` is the rest after the base
+-- if `path` starts with the components of `base`, the answer of `strip` is `+` and the rest of
+-- `path` after these components
 pub strip_answer-ok : (path base rest : List ℕ) → IsPrefixOf (values base) (values path)
     → rest ≡ stripped_of path base → optional (Some rest) ≡ strip_answer path base
 strip_answer-ok path base rest h e =
     let test = (starts_with-Decides (values path) (values base)).1 h in
     rw test (ap (λ bytes. optional (Some bytes)) e)
 
--- if the path doesn't start with the base, the answer of `strip` is the message
+-- if `path` doesn't start with the components of `base`, the answer of `strip` is
+-- `prefix not found`
 pub strip_answer-not_found : (path base : List ℕ) → (IsPrefixOf (values base) (values path) → ⊥)
     → codes "prefix not found" ≡ strip_answer path base
 strip_answer-not_found path base h = by_test (starts_with same_value (values path) (values base))

@@ -18,8 +18,8 @@ abbrev pub has_none : List (List ℕ) → Bool
 has_none [] = true
 has_none (item ∷ items) = false
 
--- if an item is added at the end of a list, its bytes are added at the end of the joined list,
--- after a tab unless the item is the first
+-- `items` and then `item`, joined by tabs, are `items` joined by tabs and then `item`, after a tab
+-- unless `items` is empty
 tabs-push : (items : List (List ℕ)) (item : List ℕ)
     → tabs (items ++ item ∷ []) ≡ tabs items ++ (if has_none items then item else tab ∷ item)
 tabs-push [] item = refl
@@ -27,13 +27,14 @@ tabs-push (x ∷ []) item = refl
 tabs-push (x ∷ y ∷ items) item = ap (λ more. x ++ tab ∷ more) (tabs-push (y ∷ items) item)
     ∙ sym (append_assoc x (tab ∷ tabs (y ∷ items)) (tab ∷ item))
 
--- if an item is added at the end of a list, the list isn't empty
+-- a list with an item added at its end isn't empty
 is_not_first : (items : List (List ℕ)) (item : List ℕ) → false ≡ has_none (items ++ item ∷ [])
 is_not_first [] item = refl
 is_not_first (x ∷ items) item = refl
 
--- if a list was appended, and then an item, after a tab unless it is the first, then the list with
--- this item was appended, and this list isn't empty
+-- if `items`, joined by tabs, were appended to `old`, and then `item`, after a tab unless `items`
+-- is empty, then `more`, which is `items` and then `item`, isn't empty, and `more`, joined by tabs,
+-- was appended to `old`
 pub adds_item : (items : List (List ℕ)) (item : List ℕ) {more : List (List ℕ)} (is_first : Bool)
     (old said new : List ℕ) → more ≡ items ++ item ∷ [] → is_first ≡ has_none items
     → said ≡ old ++ tabs items → new ≡ said ++ (if is_first then item else tab ∷ item)
@@ -45,8 +46,8 @@ adds_item items item is_first old said new all first so_far is = (
       ∙ ap (λ said. old ++ said) (sym (tabs-push items item) ∙ ap tabs (sym all)),
 )
 
--- if all names that an iterator returned were appended as a list, the list that the iterator yields
--- was appended
+-- if the iterator s yields the list `all`, and a step took all names from s and appended them to
+-- `old`, joined by tabs, then the step appended `all`, joined by tabs, to `old`
 pub adds_list : {T E S : Type 0} (r : Result T E) (new old : List ℕ) {all : List (List ℕ)} {s : S}
     {steps : S → Option UnixStr → S → Type 0} → YieldsList steps (λ name. name.bytes.now) s all
     → OnOk r ((names : List UnixStr) × Drains steps s names
@@ -57,7 +58,8 @@ adds_list (Ok x) new old {all} {s} {steps} road (names, ran, e) =
     (gives_Drains steps (λ name. name.bytes.now) names all s road.runs ran)
 adds_list (Err x) new old road h = tt
 
--- `once` yields the list of its one name
+-- if the `Once` iterator s has the item `name`, and `bytes` are the bytes of `name`, s yields the
+-- list with the one item `bytes`
 pub once_yields : {s : Once UnixStr} (name : UnixStr) {bytes : List ℕ} → once_item s ≡ Some name
     → name.bytes.now ≡ bytes → YieldsList once_steps (λ name. name.bytes.now) s (bytes ∷ [])
 once_yields {s} name e same =

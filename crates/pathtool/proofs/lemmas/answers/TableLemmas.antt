@@ -19,7 +19,8 @@ use Rattle.pathtool.proofs.lemmas.lines.LoopLemmas.{IsStep}
 module _ {A : Type 0} (shown : A → List ℕ) (paths : List (List ℕ)) (yielded : List A)
     (entries all : List (List Value × Unit {0}))
     (so_far : entries_with entries (drop (length yielded) paths) ≡ all) where
-  -- if the next path is inserted, `so_far` holds for the new entries and the paths after it
+  -- if `more` is `entries` with the next path inserted, the fact `so_far` still holds for `more`
+  -- and the paths after this path
   pub entries_with-more : (path : A) (more : List (List Value × Unit {0}))
       → IsStep shown paths yielded (Some path)
       → more ≡ insert_entry values_cmp entries (values (shown path)) tt
@@ -37,8 +38,8 @@ module _ {A : Type 0} (shown : A → List ℕ) (paths : List (List ℕ)) (yielde
   entries_with-all h =
       sym (at_drop_all (entries_with entries) paths (length yielded) (omega (arith, h))) ∙ so_far
 
--- if `found` is what a table of the paths has under the base, the canonical forms of `found` are
--- the answer of the command `under`
+-- if `table` has the entries for `paths`, and `found` are the items that it has under `base`, the
+-- canonical forms of `found`, joined by tabs, are the answer of the command `under`
 pub under_answer-found : (base : List ℕ) (paths : List (List ℕ))
     (found : List (Path × Bor (Unit {0}))) (key : List ℕ) (table : List (List Value × Unit {0}))
     → key ≡ base → table ≡ entries_with [] paths

@@ -68,8 +68,8 @@ length-taken : (parts : List Component) (k : ℕ) (vs : List Value) → k ≤ le
 length-taken parts k vs l e =
     sym (length-map parts value_of) ∙ ap length e ∙ length-take-le k vs l
 
--- if a walk took the components that its turns take, and left the rest that they leave, its results
--- are the answer to the turns
+-- if a walk over `path` took the components that `turns` take from each end, and left the rest that
+-- they leave, the items of its results are the items of the answer to `turns`
 pub walked_items-walk_items : (path : List ℕ) (turns : List Turn) (walked : Walked)
     → let n = length (values path) in
     map value_of walked.front.items ≡ take (front_turns n turns) (values path)

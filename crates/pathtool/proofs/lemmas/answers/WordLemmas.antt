@@ -7,8 +7,8 @@ use Rattle.pathtool.specs.Fields.{tabs}
 use Rattle.pathtool.specs.EditFields.{answer_word}
 use Rattle.pathtool.specs.Steps.{tab, words_of}
 
--- a list of `bytes` and the words for answers, joined by tabs, is `bytes` and then each word after
--- a tab
+-- `bytes` and then the word for each of `answers`, joined by tabs, are `bytes` and then each word
+-- after a tab
 pub tabs-words : (bytes : List ℕ) (answers : List Answer)
     → tabs (bytes ∷ map answer_word answers) ≡ bytes ++ words_of answers
 tabs-words bytes [] = sym (append-nil bytes)

@@ -23,8 +23,8 @@ pub Many-then : {S : Type 0} {call : S → S → Type 0} {s u t : S} → Many ca
     → Many call s t
 Many-then before (n, calls) = Calls-then before calls
 
--- any number of writes that wrote at least one byte each, followed by writes that are
--- `WritesUntilNone`, are `WritesUntilNone` together
+-- any number of writes that wrote at least one byte each, followed by writes in the relation
+-- `WritesUntilNone`, are all together in the relation `WritesUntilNone`
 pub WritesUntilNone-then : {S : Type 0} (gives : S → List ℕ → Result ℕ Error → S → Type 0)
     {s u t : S}
     → Many (WritesSome gives) s u → WritesUntilNone gives u t → WritesUntilNone gives s t

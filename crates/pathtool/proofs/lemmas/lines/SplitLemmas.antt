@@ -13,7 +13,8 @@ is_tab b = b == tab
 abbrev pub is_newline : ℕ → Bool
 is_newline b = b == newline
 
--- if no byte of s passes the test, s is split into one piece, which is s
+-- if searching s for a byte that passes p yields the length of s, splitting s at the bytes that
+-- pass p yields the one piece s
 pub slice_split-whole : (p : ℕ → Bool) (s : List ℕ) → position_or_len p s ≡ length s
     → slice_split p s ≡ s ∷ []
 slice_split-whole p s e =
@@ -24,11 +25,11 @@ has_first : (parts : List (List ℕ)) → 0 < length parts
 has_first [] l = absurd (omega arith)
 has_first (x ∷ xs) l = (x, xs, refl)
 
--- a string is split into at least one piece
+-- splitting s at the bytes that pass p yields at least one piece
 pub slice_split-cons : (p : ℕ → Bool) (s : List ℕ)
     → (x : List ℕ) × (xs : List (List ℕ)) × (slice_split p s ≡ x ∷ xs)
 slice_split-cons p s = has_first (slice_split p s) (omega (arith, length-slice_split p s))
 
--- if a string is split into one piece, it is that piece
+-- if splitting s at each byte c yields the one piece t, s is t
 pub slice_split-one : (c : ℕ) (s t : List ℕ) → slice_split (λ b. b == c) s ≡ t ∷ [] → s ≡ t
 slice_split-one c s t e = sym (join_with_byte-slice_split c s) ∙ ap (join_with_byte c) e

@@ -7,7 +7,7 @@ use Rattle.std.proofs.KnownBytes.{Appends-trans}
 use Rattle.std.specs.Io.KnownBytes.{Appends}
 use Rattle.pathtool.specs.Watched.{AppendsPrefix}
 
--- if `done` was appended and `all` starts with it, a prefix of `all` was appended
+-- if `done` was appended, and `all` starts with `done`, a prefix of `all` was appended
 pub AppendsPrefix-of : (a b : Option (List ℕ)) (done rest all : List ℕ) → Appends a b done
     → done ++ rest ≡ all → AppendsPrefix a b all
 AppendsPrefix-of a b done rest all h e = (

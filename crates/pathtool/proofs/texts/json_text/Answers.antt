@@ -2,7 +2,8 @@ use Rattle.std.proofs.Common.{◌≡◌, Result, Ok, Err, IfOk, MatchResult, is_
 use Rattle.serde_json.specs.Written.{compact_text, has_float}
 use Rattle.pathtool.proofs.texts.json_text.Goals as goal
 
--- if only the error of a result is replaced, what holds of its value still holds
+-- if `mapped` is r with at most its error replaced, and P holds of the value of r, if it has one,
+-- then Q, which follows from P, holds of the value of `mapped`
 ok_of-map_err : {T D E : Type 0} (r : Result T D) (mapped : Result T E) (P Q : T → Type 0)
     (R : D → Type 0) → is_ok mapped ≡ is_ok r → MatchResult r (λ x. mapped ≡ Ok x) R
     → ((x : T) → P x → Q x) → IfOk r P → IfOk mapped Q

@@ -15,20 +15,19 @@ needs_no_separator-at (b ∷ c ∷ s) =
     ∙ ap (λ k. eqb (get_or (b ∷ c ∷ s) k 47) 47) {x = suc (length (c ∷ s) - 1)}
     {y = length (b ∷ c ∷ s) - 1} (omega arith)
 
--- a join with a rooted path is that path
+-- if b is rooted, the join of a and b is b
 pub join_of_rooted : (a b : List ℕ) → is_rooted b ≡ true → join_of a b ≡ b
 unfolding join_of
 join_of_rooted a b r = rw r refl
 
--- if a path is empty or ends in a slash, a join puts nothing between it and a path that isn't
--- rooted
+-- if b is not rooted, and a is empty or ends in a slash, the join of a and b is a and then b
 pub join_of_no_separator : (a b : List ℕ) → is_rooted b ≡ false → needs_no_separator a ≡ true
     → join_of a b ≡ a ++ b
 unfolding join_of
 join_of_no_separator a b r o = rw (r, o) refl
 
--- if a path is not empty and doesn't end in a slash, a join puts a slash between it and a path that
--- isn't rooted
+-- if b is not rooted, and a is neither empty nor ends in a slash, the join of a and b is a, a
+-- slash, and then b
 pub join_of_separator : (a b : List ℕ) → is_rooted b ≡ false → needs_no_separator a ≡ false
     → join_of a b ≡ (a ++ 47 ∷ []) ++ b
 unfolding join_of
@@ -36,12 +35,14 @@ join_of_separator a b r o = rw (r, o) (sym (append_assoc a (47 ∷ []) b))
 
 pub ruleset rootless_joins = (join_of_no_separator, join_of_separator, append-nil)
 
--- a join that puts nothing between two paths is as long as both together
+-- if b is not rooted, and a is empty or ends in a slash, the join of a and b is as long as a and b
+-- together
 pub length-join_of_no_separator : (a b : List ℕ) → is_rooted b ≡ false → needs_no_separator a ≡ true
     → length (join_of a b) ≡ length a + length b
 length-join_of_no_separator a b r o = ap length (join_of_no_separator a b r o) ∙ length-append a b
 
--- a join that puts a slash between two paths is one byte longer than both together
+-- if b is not rooted, and a is neither empty nor ends in a slash, the join of a and b is one byte
+-- longer than a and b together
 pub length-join_of_separator : (a b : List ℕ) → is_rooted b ≡ false → needs_no_separator a ≡ false
     → length (join_of a b) ≡ length a + (1 + length b)
 length-join_of_separator a b r o =

@@ -1,4 +1,4 @@
--- What a join keeps of its base, and what it appends.
+-- The length of a join, and joins with several paths.
 use Rattle.std.proofs.Common.{◌≡◌, ℕ, ◌+◌, ◌≤◌, List, [], ◌∷◌, ◌++◌, length, refl, ap}
 use Rattle.std.proofs.Common.{arith, false, Option, Some}
 use Rattle.std.proofs.iter.runs.Made.{run, seen, to_item}
@@ -26,7 +26,7 @@ pub join_all_of_snoc : (a : List ℕ) (paths : List Path) (path : Path)
 join_all_of_snoc a [] path = refl
 join_all_of_snoc a (p ∷ paths) path = join_all_of_snoc (join_of a p.bytes.now) paths path
 
--- the length of a join is at most the sum of the lengths of both paths, plus 1
+-- the length of the join of a and b is at most the sum of the lengths of a and b, plus 1
 length-join_of-max_len : (a b : List ℕ) → length (join_of a b) ≤ length a + (1 + length b)
 length-join_of-max_len a b = by_test (is_rooted b)
     (λ r. omega (arith, ap length (join_of_rooted a b r)))
@@ -34,12 +34,12 @@ length-join_of-max_len a b = by_test (is_rooted b)
     (λ o. omega (arith, length-join_of_no_separator a b r o))
     (λ o. omega (arith, length-join_of_separator a b r o)))
 
--- a number plus the lengths of these paths, plus 1 for each path
+-- the sum of a number, of the lengths of these paths, and of 1 for each path
 abbrev pub sum_of_paths : ℕ → List Path → ℕ
 sum_of_paths = fold (λ sum path. sum + (1 + length path.bytes.now))
 
--- the length of a join with several paths is at most the sum of the lengths of all paths, plus 1
--- for each joined path
+-- the length of the join of a with all of `paths` is at most the length of a, plus the lengths of
+-- `paths`, plus 1 for each of them (n is added on both sides)
 length-join_all_of-max_len : (a : List ℕ) (n : ℕ) (paths : List Path)
     → length (join_all_of a (bytes_of_each paths)) + n ≤ length a + sum_of_paths n paths
 length-join_all_of-max_len a n [] = omega arith
@@ -50,15 +50,18 @@ length-join_all_of-max_len a n (p ∷ paths) =
     ≤ length one + sum_of_paths more paths = length-join_all_of-max_len one more paths in
     omega (arith, rest, length-join_of-max_len a p.bytes.now)
 
--- if the items of an iterator fit the spare capacity, the joins with them fit the capacity
+-- if the lengths of any number of first items of the iterator `items`, plus 1 for each item, add up
+-- to at most `spare_capacity`, then joining these items to `old` adds at most `spare_capacity`
+-- bytes
 pub JoinsFit-spare_capacity : {S : Type 0} {steps : S → Option Path → S → Type 0} {items : S}
     (old : List ℕ) (spare_capacity : ℕ) → ItemsFit steps items spare_capacity
     → JoinsFit steps items old (length old + spare_capacity)
 JoinsFit-spare_capacity old spare_capacity fits run met from =
     omega (arith, length-join_all_of-max_len old 0 run.items, fits run met from)
 
--- if no join of `old` with first items of the iterator is longer than `max_len` bytes, neither is
--- its join with `paths`, the first items, and then `path`, the next item
+-- if `old` joined with any number of first items of the iterator `items` has at most `max_len`
+-- bytes, and the first items of `items` are `paths` and then `path`, then `old` joined with `paths`
+-- and then with `path` has at most `max_len` bytes
 pub JoinsFit-next : {S : Type 0} {steps : S → Option Path → S → Type 0} {items from : S}
     (old : List ℕ) (max_len : ℕ) → JoinsFit steps items old max_len → from ≡ items
     → (paths : List Path) (s t : S) (path : Path) → Yields steps from paths s

@@ -10,8 +10,9 @@ use Rattle.unix_path.specs.Scan.{is_filler}
 use Rattle.unix_path.proofs.lemmas.filler.FillerLemmas.{inner_parts_filler_at}
 use Rattle.unix_path.proofs.lemmas.filler.DotLaneLemmas.{stops, goes_on, stop_lanes, Tells-stop}
 
--- the lanes of the 16 bytes that start at `at` show which of these bytes are neither slashes nor
--- dots before slashes
+-- if s has more than 16 bytes from `at` on, the `stop_lanes` of the first 16 of them, each with the
+-- byte after it as neighbour, show which of these 16 bytes are neither slashes nor dots before
+-- slashes
 ends_shown : (s : List ℕ) (at : ℕ) → at + 16 < length s
     → TellFrom 16 (stop_lanes (chunk at 16 s) (chunk (at + 1) 16 s))
     (λ k. stops (get_or s k 0) (get_or s (k + 1) 47)) at
@@ -28,7 +29,8 @@ ends_shown s at l =
           (length-chunk (at + 1) 16 s (omega arith)) few);
     }
 
--- if no bit of the mask is set, the 16 bytes that start at `at` are slashes, or dots before slashes
+-- if s has more than 16 bytes from `at` on, and the mask of the `stop_lanes` of the first 16 of
+-- them, each with the byte after it as neighbour, is 0, then these 16 bytes are filler
 pub filler_block : (s : List ℕ) (at : ℕ) → at + 16 < length s
     → mask_of (stop_lanes (chunk at 16 s) (chunk (at + 1) 16 s)) ≡ 0
     → (k : ℕ) → at ≤ k → k < at + 16 → is_filler s k ≡ true
@@ -36,7 +38,8 @@ filler_block s at l none k from to =
     goes_on (get_or s k 0) (get_or s (k + 1) 47)
     ((none_set (ends_shown s at l) none).none_before k from to)
 
--- skipping n bytes of filler at index i doesn't change the inner components
+-- if the n bytes of s from index i on are filler, the inner components of s from i on are the inner
+-- components of s from i + n on, at the same positions
 pub inner_parts_filler_block : (at : ℕ) (s : List ℕ) (i n : ℕ) → i + n ≤ length s
     → ((k : ℕ) → i ≤ k → k < i + n → is_filler s k ≡ true)
     → inner_parts (at + i) (drop i s) ≡ inner_parts (at + (i + n)) (drop (i + n) s)

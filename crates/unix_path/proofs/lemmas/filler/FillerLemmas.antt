@@ -17,7 +17,8 @@ use Rattle.unix_path.specs.Parts.{value_of_piece, values}
 use Rattle.unix_path.specs.Scan.{is_filler}
 use Rattle.unix_path.specs.CommonDir.{inner_values}
 
--- a byte of filler is a slash, or a `.` followed by a slash or the end
+-- if the byte b, followed by s, is filler, b is a slash, or b is a `.` and s is empty or begins
+-- with a slash
 pub filler_from : (b : ℕ) (s : List ℕ) → is_filler (b ∷ s) 0 ≡ true
     → (b ≡ 47) ⊎ ((b ≡ 46) × (get_or s 0 47 ≡ 47))
 filler_from b s e =
@@ -26,7 +27,7 @@ filler_from b s e =
     inr (eqb-true b 46 both.0, eqb-true (get_or s 0 47) 47 both.1))
     (or_cases (eqb b 47) (eqb b 46 && eqb (get_or s 0 47) 47) e)
 
--- a `.` before a slash or the end is filler
+-- if s is empty or begins with a slash, a `.` put before s adds no inner component
 inner_parts-dot_cut : (at : ℕ) (s : List ℕ) → get_or s 0 47 ≡ 47
     → inner_parts at (46 ∷ s) ≡ inner_parts (at + 1) s
 inner_parts-dot_cut at [] e = inner_parts-dot at ∙ sym (inner_parts-nil (at + 1))
@@ -44,24 +45,24 @@ inner_parts_filler at (b ∷ s) l e =
     (λ is. ap (λ b. inner_parts at (b ∷ s)) is.0 ∙ inner_parts-dot_cut at s is.1)
     (filler_from b s e)
 
--- whether a byte is filler doesn't depend on the bytes before it
+-- whether the byte of s at i is filler doesn't depend on the bytes before it
 pub is_filler-drop : (s : List ℕ) (i : ℕ) → is_filler (drop i s) 0 ≡ is_filler s i
 is_filler-drop s i =
     let here : get_or (drop i s) 0 0 ≡ get_or s i 0 = get_or-drop i s 0 0
     ∙ ap (λ k. get_or s k 0) {x = i + 0} {y = i} (omega arith) in
     ap₂ (λ b next. eqb b 47 || (eqb b 46 && eqb next 47)) here (get_or-drop i s 1 47)
 
--- a slash is filler
+-- if the byte of s at i is a slash, `is_filler` is true for it
 pub filler_slash : (s : List ℕ) (i : ℕ) → get_or s i 0 ≡ 47 → is_filler s i ≡ true
 filler_slash s i e = rw e refl
 
--- a `.` followed by a slash or the end is filler
+-- if the byte of s at i is a `.` before a slash or the end of s, `is_filler` is true for it
 pub filler_dot : (s : List ℕ) (i : ℕ) → get_or s i 0 ≡ 46 → get_or s (i + 1) 47 ≡ 47
     → is_filler s i ≡ true
 filler_dot s i e next = rw (e, next) refl
 
--- if the byte of s at index i is filler, the inner components of s from i on are those from i + 1
--- on
+-- if the byte of s at index i is filler, the inner components of s from i on are the inner
+-- components of s from i + 1 on, at the same positions
 pub inner_parts_filler_at : (at : ℕ) (s : List ℕ) (i : ℕ) → i < length s → is_filler s i ≡ true
     → inner_parts (at + i) (drop i s) ≡ inner_parts (at + (i + 1)) (drop (i + 1) s)
 inner_parts_filler_at at s i l e =
@@ -69,14 +70,14 @@ inner_parts_filler_at at s i l e =
     inner_parts_filler (at + i) (drop i s) some (is_filler-drop s i ∙ e)
     ∙ ap₂ inner_parts {x = at + i + 1} {y = at + (i + 1)} (omega arith) (drop-drop 1 i s)
 
--- the first piece is empty if and only if the string is empty or begins with a slash
+-- the first piece of s is empty if and only if s is empty or begins with a slash
 pub first_piece_empty : (s : List ℕ) → bytes_eq (first_piece s) [] ≡ eqb (get_or s 0 47) 47
 first_piece_empty [] = refl
 first_piece_empty (b ∷ s) = by_test (eqb b 47)
     (λ e. ap (λ p. bytes_eq p []) (first_piece-slash b s e) ∙ sym e)
     (λ e. ap (λ p. bytes_eq p []) (first_piece-other b s e) ∙ sym e)
 
--- the first two bytes determine whether the first piece is `.`
+-- the first piece of s is `.` if and only if s is `.` or begins with `./`
 pub first_piece_dot : (s : List ℕ)
     → bytes_eq (first_piece s) cur_dir ≡ (eqb (get_or s 0 0) 46 && eqb (get_or s 1 47) 47)
 first_piece_dot [] = refl
@@ -95,7 +96,8 @@ not_filler_parts (b ∷ s) l e =
     let neither = or_parts (eqb b 47) (eqb b 46 && eqb (get_or s 0 47) 47) e in
     (neither.0, first_piece_dot (b ∷ s) ∙ neither.1)
 
--- the first piece of a string that doesn't begin with filler is its first component
+-- if s is not empty and doesn't begin with filler, its inner components are the component of its
+-- first piece, and then the inner components of the bytes after this piece
 pub inner_parts_not_filler : (at : ℕ) (s : List ℕ) → 0 < length s → is_filler s 0 ≡ false
     → inner_parts at s ≡ record
     { start = at; end = at + length (first_piece s); value = value_of_piece (first_piece s) }
@@ -104,8 +106,8 @@ inner_parts_not_filler at s l e =
     let is = not_filler_parts s l e in
     inner_parts-first at s ∙ rw (nonempty_first_piece s l is.0, is.1) refl
 
--- a string that doesn't begin with filler has neither a root nor a leading `.`, so its components
--- are its inner components
+-- if s is empty or doesn't begin with filler, it has neither a root nor a leading `.`, so its
+-- components are its inner components
 pub parts-not_filler : (s : List ℕ) → (0 < length s → is_filler s 0 ≡ false) → parts s
     ≡ inner_parts 0 s
 unfolding parts leading_part
@@ -116,21 +118,21 @@ parts-not_filler (b ∷ s) h =
     ∙ ap (λ t. cond t (record { start = 0; end = 1; value = CurDir } ∷ []) []) is.1 in
     ap (λ ps. ps ++ inner_parts 0 (b ∷ s)) none
 
--- a string that doesn't begin with filler has the same components at the beginning of a path as
--- after a slash
+-- if s doesn't begin with filler, it has the same components at the beginning of a path as after a
+-- slash
 pub values-not_filler : (s : List ℕ) → is_filler s 0 ≡ false → values s ≡ inner_values s
 unfolding values
 values-not_filler s not_filler =
     ap (map (λ (p : Part). p.value)) (parts-not_filler s (λ _. not_filler))
 
--- the first `len` bytes are filler, followed by a component or the end
+-- the first `len` bytes of s are filler, and a component or the end of s follows them
 pub record SkipsFiller (s : List ℕ) : Type 0 where
   pub len : ℕ
   pub in_range : len ≤ length s
   pub same : (at : ℕ) → inner_parts at s ≡ inner_parts (at + len) (drop len s)
   pub not_filler : 0 < length (drop len s) → is_filler (drop len s) 0 ≡ false
 
--- every string begins with filler, which may be empty
+-- every string s begins with filler, possibly none, which a component or the end of s follows
 pub skips_filler : (s : List ℕ) → SkipsFiller s
 skips_filler [] = record {
   len = 0;

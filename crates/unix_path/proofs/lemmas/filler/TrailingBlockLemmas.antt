@@ -10,8 +10,9 @@ use Rattle.unix_path.specs.Scan.{is_trailing}
 use Rattle.unix_path.proofs.lemmas.filler.DotLaneLemmas.{stops, goes_on, stop_lanes, Tells-stop}
 use Rattle.unix_path.proofs.lemmas.filler.TrimLemmas.{parts_trailing}
 
--- the lanes of the 16 bytes that start at `at` show which of these bytes are neither slashes nor
--- dots after slashes
+-- if `at` isn't 0, and s has at least 16 bytes from `at` on, the `stop_lanes` of the first 16 of
+-- them, each with the byte before it as neighbour, show which of these 16 bytes are neither slashes
+-- nor dots after slashes
 ends_shown : (s : List ℕ) (at : ℕ) → 0 < at → at + 16 ≤ length s
     → TellFrom 16 (stop_lanes (chunk at 16 s) (chunk (at - 1) 16 s))
     (λ k. stops (get_or s k 0) (get_or s (k - 1) 0)) at
@@ -28,7 +29,9 @@ ends_shown s at some l =
           (length-chunk (at - 1) 16 s (omega arith)) few);
     }
 
--- if no bit of the mask is set, the 16 bytes that start at `at` are slashes, or dots after slashes
+-- if `at` isn't 0, s has at least 16 bytes from `at` on, and the mask of the `stop_lanes` of the
+-- first 16 of them, each with the byte before it as neighbour, is 0, then `is_trailing` is true for
+-- these 16 bytes
 pub trailing_block : (s : List ℕ) (at : ℕ) → 0 < at → at + 16 ≤ length s
     → mask_of (stop_lanes (chunk at 16 s) (chunk (at - 1) 16 s)) ≡ 0
     → (k : ℕ) → at ≤ k → k < at + 16 → is_trailing s k ≡ true
@@ -39,7 +42,8 @@ trailing_block s at some l none k from to =
     ((none_set (ends_shown s at some l) none).none_before k from to) in
     rw (lt-ltb 0 k (omega arith), one) refl
 
--- removing n bytes of trailing filler doesn't change the components
+-- if `is_trailing` is true for the n bytes of s from `at` on, the first `at` bytes of s have the
+-- same components as its first `at` + n bytes
 pub parts_trailing_block : (s : List ℕ) (at n : ℕ) → at + n ≤ length s
     → ((k : ℕ) → at ≤ k → k < at + n → is_trailing s k ≡ true)
     → parts (take at s) ≡ parts (take (at + n) s)

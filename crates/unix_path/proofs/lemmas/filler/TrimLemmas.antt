@@ -12,22 +12,22 @@ use Rattle.unix_path.proofs.lemmas.parts.PieceLemmas.{inner_parts-dot, inner_par
 use Rattle.unix_path.specs.Parts.{inner_parts, leading_part, parts}
 use Rattle.unix_path.specs.Scan.{is_trailing, EndsInPart}
 
--- a slash at the end, after other bytes, is filler
+-- if x isn't empty, a slash after x adds no component
 pub parts-slash : (x : List ℕ) → 0 < length x → parts (x ++ 47 ∷ []) ≡ parts x
 unfolding parts
 parts-slash x l = ap₂ ◌++◌ (leading_part-append x [] l)
     (inner_parts-append 0 x [] ∙ ap (λ ps. inner_parts 0 x ++ ps) (inner_parts-nil _)
     ∙ append-nil (inner_parts 0 x))
 
--- what follows a slash doesn't change the leading part
+-- two strings that begin with x and a slash have the same root or leading `.`, or both have neither
 pub leading_past_slash : (x y z : List ℕ) → leading_part (x ++ 47 ∷ y) ≡ leading_part (x ++ 47 ∷ z)
 unfolding leading_part
 leading_past_slash [] y z = refl
 leading_past_slash (b ∷ x) y z = leading_part-append (b ∷ x) y (omega arith)
     ∙ sym (leading_part-append (b ∷ x) z (omega arith))
 
--- a string cut just after a slash has the components before the cut, and then the inner components
--- after it
+-- the components of x, a slash and y are the components of x and the slash, and then the inner
+-- components of y
 pub parts-append : (x y : List ℕ)
     → parts (x ++ 47 ∷ y) ≡ parts (x ++ 47 ∷ []) ++ inner_parts (0 + length x + 1) y
 unfolding parts
@@ -40,13 +40,14 @@ parts-append x y =
     (sym (inner_parts-append 0 x [] ∙ ap (λ ps. inner_parts 0 x ++ ps) (inner_parts-nil n)
     ∙ append-nil (inner_parts 0 x)))
 
--- a `.` at the end, after a slash, is filler
+-- a `.` after x and a slash adds no component
 parts-slash_dot : (x : List ℕ) → parts (x ++ 47 ∷ 46 ∷ []) ≡ parts (x ++ 47 ∷ [])
 parts-slash_dot x =
     parts-append x (46 ∷ []) ∙ ap (λ ps. parts (x ++ 47 ∷ []) ++ ps) (inner_parts-dot _)
     ∙ append-nil (parts (x ++ 47 ∷ []))
 
--- a byte for which `is_trailing` is true is not the first, and is a slash, or a `.` after a slash
+-- if `is_trailing` is true for the byte of s at i, then i is not 0, and this byte is a slash, or a
+-- `.` just after a slash
 trailing_from : (s : List ℕ) (i : ℕ) → is_trailing s i ≡ true
     → (0 < i) × ((get_or s i 0 ≡ 47) ⊎ ((get_or s i 0 ≡ 46) × (get_or s (i - 1) 0 ≡ 47)))
 trailing_from s i e =
@@ -60,8 +61,8 @@ trailing_from s i e =
           (eqb (get_or s i 0) 46 && eqb (get_or s (i - 1) 0) 47) both.1),
     )
 
--- if `is_trailing` is true for the byte at i, removing this byte from the first i + 1 bytes doesn't
--- change their components
+-- if `is_trailing` is true for the byte of s at i, the first i + 1 bytes of s have the same
+-- components as its first i bytes
 pub parts_trailing : (s : List ℕ) (i : ℕ) → i < length s → is_trailing s i ≡ true
     → parts (take (i + 1) s) ≡ parts (take i s)
 parts_trailing s i l e =
@@ -83,14 +84,15 @@ parts_trailing s i l e =
     ∙ ap parts (sym before))
     is.1
 
--- removing the last of the first n bytes, if it is filler, doesn't change their components
+-- if n isn't 0, and `is_trailing` is true for the last of the first n bytes of s, the first n - 1
+-- bytes have the same components as the first n bytes
 pub parts_shorter : (s : List ℕ) (n : ℕ) → 0 < n → n ≤ length s → is_trailing s (n - 1) ≡ true
     → parts (take (n - 1) s) ≡ parts (take n s)
 parts_shorter s n some l e =
     sym (parts_trailing s (n - 1) (omega arith) e)
     ∙ ap (λ k. parts (take k s)) {x = n - 1 + 1} {y = n} (omega arith)
 
--- if a string ends in a component, each of its suffixes ends in a component
+-- if s is empty or ends in a component, each suffix of s is empty or ends in a component
 pub EndsInPart-drop : (s : List ℕ) (i : ℕ) → i ≤ length s → EndsInPart s → EndsInPart (drop i s)
 EndsInPart-drop s i l ends some =
     let u = drop i s in
@@ -108,7 +110,8 @@ EndsInPart-drop s i l ends some =
     same ∙ ends (omega arith))
     (λ e. rw e refl)
 
--- the first n bytes end in a component if the last of them is not trailing filler
+-- if n is 0, or the last of the first n bytes of s is not trailing filler, these bytes are empty or
+-- end in a component
 pub EndsInPart-take : (s : List ℕ) (n : ℕ) → n ≤ length s → (0 < n → is_trailing s (n - 1) ≡ false)
     → EndsInPart (take n s)
 EndsInPart-take s n l ends some =
@@ -121,14 +124,15 @@ EndsInPart-take s n l ends some =
     rw (here, before, m) refl in
     same ∙ ends (omega arith)
 
--- the first `len` bytes of t have all components of the first n bytes, and end in a component
+-- `len` is at most n, and the first `len` bytes of t have the same components as its first n bytes,
+-- and are empty or end in a component
 pub record TrimsTo (t : List ℕ) (n : ℕ) : Type 0 where
   pub len : ℕ
   pub in_range : len ≤ n
   pub same : parts (take len t) ≡ parts (take n t)
   pub ends : 0 < len → is_trailing t (len - 1) ≡ false
 
--- the first n bytes can be cut before the filler at their end
+-- if t has at least n bytes, its first n bytes can be cut before the filler at their end
 pub trims_to : (t : List ℕ) (n : ℕ) → n ≤ length t → TrimsTo t n
 trims_to t zero l = record
     { len = 0; in_range = omega arith; same = refl; ends = λ l. absurd (omega arith) }

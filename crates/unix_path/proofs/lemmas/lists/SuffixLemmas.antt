@@ -5,8 +5,8 @@ use Rattle.unix_path.specs.Parts.{Value}
 use Rattle.unix_path.specs.Prefixes.{IsSuffixOf}
 use Rattle.unix_path.specs.Steps.{SharesSuffix}
 
--- if y is a suffix of x, then w is a suffix of v, where v and w are x and y with the same list
--- appended
+-- if v and w are x and y with the same list appended, and y is a suffix of x, then w is a suffix of
+-- v
 pub ends_with_shared : {v w x y : List Value} → SharesSuffix v w x y → IsSuffixOf y x
     → IsSuffixOf w v
 ends_with_shared {y = y} h e = (
@@ -15,8 +15,8 @@ ends_with_shared {y = y} h e = (
       ∙ sym h.first,
 )
 
--- if w is a suffix of v, then y is a suffix of x, where v and w are x and y with the same list
--- appended
+-- if v and w are x and y with the same list appended, and w is a suffix of v, then y is a suffix of
+-- x
 pub ends_without_shared : {v w x y : List Value} → SharesSuffix v w x y → IsSuffixOf w v
     → IsSuffixOf y x
 ends_without_shared {x = x} {y = y} h e = (
@@ -25,10 +25,10 @@ ends_without_shared {x = x} {y = y} h e = (
       ∙ ap (λ z. e.0 ++ z) (sym h.second) ∙ e.1 ∙ h.first),
 )
 
--- suffixes of lists with and without the same list appended
+-- the two lemmas above, as rules for both directions
 pub ruleset shared_ends = (ends_with_shared, ends_without_shared)
 
--- if a list is a suffix of another, both have the same last component
+-- if x ends with the component p, y ends with the component q, and y is a suffix of x, then p is q
 pub ends_last : {x y : List Value} {p q : Value} (t u : List Value) → x ≡ t ++ p ∷ []
     → y ≡ u ++ q ∷ [] → IsSuffixOf y x → p ≡ q
 ends_last {p = p} {q = q} t u x_is y_is e =

@@ -1,4 +1,5 @@
--- Searching many bytes at once for an end candidate. The separator is m, and the dot is p.
+-- Searching many bytes at once for an end candidate: the separator m before another m or before the
+-- dot p.
 use Rattle.std.proofs.Common.{◌≡◌, ℕ, ◌+◌, ◌<◌, ◌≤◌, eqb, ◌&&◌, ◌||◌, List, length, get_or, ap₂}
 use Rattle.std.proofs.Common.{subst, arith}
 use Rattle.std.specs.Simd.Lanes.{chunk}
@@ -8,12 +9,13 @@ use Rattle.unix_bytes.proofs.lemmas.vectors.TestLaneLemmas.{Tells-both}
 use Rattle.unix_bytes.proofs.lemmas.vectors.TestLaneLemmas.{Tells-either, lane_at, TellFrom}
 use Rattle.unix_path.specs.NameRunEnds.{is_end_candidate_of}
 
--- the lanes that show which of the n bytes of `here` are end candidates; `next` contains the byte
--- after each
+-- the lanes that show which of the n bytes of `here` are end candidates; byte i of `next` is the
+-- byte after byte i of `here`
 abbrev candidate_lanes : ℕ → ℕ → ℕ → List ℕ → List ℕ → List ℕ
 candidate_lanes n m p here next = both (hits n here m) (either (hits n next m) (hits n next p))
 
--- lane i of `candidate_lanes` shows whether byte i of `here` is an end candidate
+-- if `here` and `next` have n bytes each, lane i of `candidate_lanes` shows whether byte i of
+-- `here` is m, and byte i of `next` is m or p
 Tells-break : (n m p : ℕ) (here next : List ℕ) (i : ℕ) → length here ≡ n → length next ≡ n
     → i < n → Tells n (candidate_lanes n m p here next) i
     (eqb (get_or here i 0) m && (eqb (get_or next i 0) m || eqb (get_or next i 0) p))
@@ -25,7 +27,8 @@ Tells-break n m p here next i l k few =
 abbrev lanes : ℕ → ℕ → ℕ → List ℕ → ℕ → List ℕ
 lanes n m p s at = candidate_lanes n m p (chunk at n s) (chunk (at + 1) n s)
 
--- `lanes` show which of the n bytes that start at `at` are end candidates
+-- if n is 1 to 64, and s has more than n bytes from `at` on, `lanes` show which of the first n of
+-- them are end candidates
 pub candidates_shown : (n m p : ℕ) (s : List ℕ) (at : ℕ) → 0 < n → n ≤ 64 → at + n + 1 ≤ length s
     → TellFrom n (lanes n m p s at) (is_end_candidate_of m p s) at
 candidates_shown n m p s at some low l = record {

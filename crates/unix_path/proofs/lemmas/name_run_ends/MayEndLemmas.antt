@@ -1,4 +1,5 @@
--- Testing many bytes at once for a possible end candidate. The separator is m, and the dot is p.
+-- Testing many bytes at once for a possible end candidate: the separator m before another m or
+-- before the dot p.
 use Rattle.std.proofs.Common.{◌≡◌, ℕ, ◌+◌, ◌<◌, ◌≤◌, Bool, true, false, not, eqb, ◌&&◌, ◌||◌, List}
 use Rattle.std.proofs.Common.{length, get_or, bit_and, bit_or, refl, sym, ap, ap₂, subst, ◌∙◌}
 use Rattle.std.proofs.Common.{arith, eq-eqb, eqb-true}
@@ -34,7 +35,7 @@ get_or-odd n m here next i l k few =
     ∙ ap₂ bit_or (get_or-with (λ a b. bit_xor a b) n here m i l few)
     (get_or-with (λ a b. bit_and a b) n next 208 i k few)
 
--- if x is the separator, and y is the separator or the dot, `(x ^ m) | (y & 208)` is 0
+-- if m and p have none of the bits of 208, x is m, and y is m or p, then `(x ^ m) | (y & 208)` is 0
 zero_at : (m p x y : ℕ) → BothLackBits m p → (eqb x m && (eqb y m || eqb y p)) ≡ true
     → bit_or (bit_xor x m) (bit_and y 208) ≡ 0
 zero_at m p x y h e = by (eqb x m) (eqb y m) (eqb y p) refl refl refl e
@@ -51,7 +52,8 @@ zero_at m p x y h e = by (eqb x m) (eqb y m) (eqb y p) refl refl refl e
         ap₂ bit_or (same (eqb-true x m i)) (ap (λ y. bit_and y 208) (eqb-true y p k) ∙ h.1)
     by true false false i j k e = absurd (cc)
 
--- if `(x ^ m) | (y & 208)` is not 0, x followed by y is no end candidate
+-- if m and p have none of the bits of 208, and `(x ^ m) | (y & 208)` is not 0, then x followed by y
+-- is no end candidate: x isn't m, or y is neither m nor p
 other_at : (m p x y : ℕ) → BothLackBits m p
     → eqb (bit_or (bit_xor x m) (bit_and y 208)) 0 ≡ false
     → (eqb x m && (eqb y m || eqb y p)) ≡ false
@@ -71,12 +73,13 @@ unnegated : (b : Bool) → not b ≡ true → b ≡ false
 unnegated false h = refl
 unnegated true h = absurd (let k : false ≡ true = h in cc)
 
--- the lanes that show where `odd` is 0 for the n bytes of s that start at `at`
+-- the lanes that show for which bytes x, of the n bytes of s that start at `at`,
+-- `(x ^ m) | (y & 208)` is 0, where y is the byte after x
 abbrev lanes : ℕ → ℕ → List ℕ → ℕ → List ℕ
 lanes n m s at = hits n (odd n m (chunk at n s) (chunk (at + 1) n s)) 0
 
--- these lanes show at which index i `(x ^ m) | (y & 208)` is 0, where x is the byte at i, and y is
--- the byte after it
+-- if n is 1 to 64, and s has more than n bytes from `at` on, `lanes` show for which x of the first
+-- n of them `(x ^ m) | (y & 208)` is 0, where y is the byte after x
 may_end_shown : (n m : ℕ) (s : List ℕ) (at : ℕ) → 0 < n → n ≤ 64 → at + n + 1 ≤ length s
     → TellFrom n (lanes n m s at)
     (λ i. eqb (bit_or (bit_xor (get_or s i 0) m) (bit_and (get_or s (i + 1) m) 208)) 0) at
@@ -96,7 +99,8 @@ may_end_shown n m s at some low l =
           (Tells-hits n (odd n m here next) 0 i (length-odd n m here next lh ln) few);
     }
 
--- if the mask is 0, none of the n bytes is an end candidate
+-- if m and p have none of the bits of 208, n is 1 to 64, s has more than n bytes from `at` on, and
+-- the mask of `lanes` is 0, then none of the first n of these bytes is an end candidate
 pub none_told : (n m p : ℕ) (s : List ℕ) (at : ℕ) → BothLackBits m p → 0 < n → n ≤ 64
     → at + n + 1 ≤ length s → not (eqb (mask_of (lanes n m s at)) 0) ≡ false
     → (i : ℕ) → at ≤ i → i < at + n → is_end_candidate_of m p s i ≡ false
@@ -105,7 +109,7 @@ none_told n m p s at bits some low l none i from to =
     ((none_set (may_end_shown n m s at some low l)
     (eqb-true (mask_of (lanes n m s at)) 0 (negated _ none))).none_before i from to)
 
--- if `(x ^ m) | (y & 208)` is 0, x is the separator, and y has none of the bits of 208
+-- if `(x ^ m) | (y & 208)` is 0, then x is m, and y has none of the bits of 208
 near_at : (m x y : ℕ) → bit_or (bit_xor x m) (bit_and y 208) ≡ 0
     → (x ≡ m) × (bit_and y 208 ≡ 0)
 near_at m x y e =
@@ -115,8 +119,8 @@ near_at m x y e =
       omega (arith, e, le_or_r (bit_xor x m) (bit_and y 208)),
     )
 
--- if the mask is not 0, one of the n bytes is the separator, and the byte after it has none of the
--- bits of 208
+-- if n is 1 to 64, s has more than n bytes from `at` on, and the mask of `lanes` is not 0, then one
+-- of the first n of these bytes is m, and the byte after it has none of the bits of 208
 pub one_told : (n m : ℕ) (s : List ℕ) (at : ℕ) → 0 < n → n ≤ 64 → at + n + 1 ≤ length s
     → not (eqb (mask_of (lanes n m s at)) 0) ≡ true
     → (i : ℕ) × (at ≤ i) × (i < at + n) × IsRoughEndCandidate m s i

@@ -9,14 +9,15 @@ use Rattle.unix_bytes.proofs.lemmas.vectors.TestLaneLemmas.{Tells-either, lane_a
 use Rattle.unix_path.specs.NameRunEnds.{ends_name_run_of}
 use Rattle.unix_path.proofs.lemmas.name_run_ends.NameRunEndLemmas.{no_name, no_name-same}
 
--- the lanes that show which of the n bytes of `here` end a run of names; `first`, `second` and
--- `third` contain the first, the second and the third byte after each byte of `here`
+-- the lanes that show which of the n bytes of `here` end a run of names; byte i of `first`,
+-- `second` and `third` is the first, second and third byte after byte i of `here`
 abbrev end_lanes : ℕ → ℕ → ℕ → List ℕ → List ℕ → List ℕ → List ℕ → List ℕ
 end_lanes n m p here first second third =
     both (hits n here m) (either (hits n first m)
     (both (hits n first p) (either (hits n second m) (both (hits n second p) (hits n third m)))))
 
--- lane i of `end_lanes` shows whether byte i of `here` ends a run of names
+-- if all four strings have n bytes, lane i of `end_lanes` shows whether byte i of `here` is the
+-- separator, and no name starts with the bytes i of `first`, `second` and `third`
 Tells-stop : (n m p : ℕ) (here first second third : List ℕ) (i : ℕ) → length here ≡ n
     → length first ≡ n → length second ≡ n → length third ≡ n → i < n
     → Tells n (end_lanes n m p here first second third) i (eqb (get_or here i 0) m
@@ -33,7 +34,8 @@ abbrev lanes : ℕ → ℕ → ℕ → List ℕ → ℕ → List ℕ
 lanes n m p s at = end_lanes n m p (chunk at n s) (chunk (at + 1) n s) (chunk (at + 2) n s)
     (chunk (at + 3) n s)
 
--- `lanes` show which of the n bytes that start at `at` end a run of names
+-- if n is 1 to 64, and s has at least n + 3 bytes from `at` on, `lanes` show which of the first n
+-- of them end a run of names
 pub ends_shown : (n m p : ℕ) (s : List ℕ) (at : ℕ) → 0 < n → n ≤ 64 → at + n + 3 ≤ length s
     → TellFrom n (lanes n m p s at) (ends_name_run_of m p s) at
 ends_shown n m p s at some low l = record {

@@ -13,14 +13,14 @@ use Rattle.unix_path.specs.NameRunEnds.{IsNameRunEnd}
 abbrev pub no_name : ℕ → ℕ → ℕ → ℕ → ℕ → Bool
 no_name m p a b c = eqb a m || (eqb a p && (eqb b m || (eqb b p && eqb c m)))
 
--- `no_name` depends only on the three bytes
+-- `no_name` is the same for a, b, c as for the equal bytes x, y, z
 pub no_name-same : (m p : ℕ) {a b c x y z : ℕ} → a ≡ x → b ≡ y → c ≡ z
     → no_name m p a b c ≡ no_name m p x y z
 no_name-same m p e f g =
     ap₂ (λ a r. eqb a m || (eqb a p && r)) e
     (ap₂ (λ b r. eqb b m || (eqb b p && r)) f (ap (λ c. eqb c m) g))
 
--- if the first byte is the separator, `no_name` doesn't depend on the other two bytes
+-- if a and x are both the separator, `no_name` is the same for a, b, c as for x, y, z
 no_name-first : (m p : ℕ) {a x : ℕ} (b c y z : ℕ) → a ≡ m → x ≡ m
     → no_name m p a b c ≡ no_name m p x y z
 no_name-first m p {a} {x} b c y z e f =
@@ -34,7 +34,7 @@ no_name-second m p {a} {b} {x} {y} c z e f g =
     (ap (λ t. t || (eqb b p && eqb c m)) (eq-eqb b m f)
     ∙ sym (ap (λ t. t || (eqb y p && eqb z m)) (eq-eqb y m g)))
 
--- a byte that ends a run of names is an end candidate
+-- if the byte of s at i is no end candidate, it doesn't end a run of names
 pub no_candidate_no_end : (m p : ℕ) (s : List ℕ) (i : ℕ) → is_end_candidate_of m p s i ≡ false
     → ends_name_run_of m p s i ≡ false
 no_candidate_no_end m p s i e = by (eqb (get_or s i 0) m) (eqb (get_or s (i + 1) m) m)
@@ -46,7 +46,7 @@ no_candidate_no_end m p s i e = by (eqb (get_or s i 0) m) (eqb (get_or s (i + 1)
     by true false true d e = absurd (let k : true ≡ false = e in cc)
     by true false false d e = refl
 
--- whether a byte ends a run of names doesn't depend on the bytes before it
+-- whether the byte of ys at i ends a run of names doesn't depend on the bytes xs before ys
 pub ends_name_run-append : (m p : ℕ) (xs ys : List ℕ) (i : ℕ)
     → ends_name_run_of m p (xs ++ ys) (length xs + i) ≡ ends_name_run_of m p ys i
 ends_name_run-append m p xs ys i =
@@ -58,7 +58,8 @@ ends_name_run-append m p xs ys i =
     at : (k n : ℕ) → k ≡ length xs + n → get_or (xs ++ ys) k m ≡ get_or ys n m
     at k n e = ap (λ n. get_or (xs ++ ys) n m) e ∙ get_or-append-add xs ys n m
 
--- whether a byte ends a run of names doesn't change if the first `from` bytes are dropped
+-- whether the byte of s at `from` + k ends a run of names doesn't change if the first `from` bytes
+-- of s are dropped
 pub ends_name_run-behind : (m p : ℕ) (s : List ℕ) (from k : ℕ) → from ≤ length s
     → ends_name_run_of m p s (from + k) ≡ ends_name_run_of m p (drop from s) k
 ends_name_run-behind m p s from k l =
@@ -66,8 +67,8 @@ ends_name_run-behind m p s from k l =
     (sym (length-take-le from s l))
     ∙ ends_name_run-append m p (take from s) (drop from s) k
 
--- if no run of names ends in the first `from` bytes or in the n bytes after them, none ends in the
--- first from + n bytes
+-- if no run of names ends in the first `from` bytes of s or in the n bytes after them, none ends in
+-- the first `from` + n bytes
 pub no_end_in_both : (m p : ℕ) (s : List ℕ) (from n : ℕ) → from ≤ length s
     → ((i : ℕ) → i < from → ends_name_run_of m p s i ≡ false)
     → ((i : ℕ) → i < n → ends_name_run_of m p (drop from s) i ≡ false)
@@ -78,8 +79,9 @@ no_end_in_both m p s from n l front behind i low = ⊎_elim
     ∙ ends_name_run-behind m p s from (i - from) l ∙ behind (i - from) (omega arith))
     (cases_lt i from)
 
--- if the first n bytes are all of s, or the separator follows them, they have the same byte at
--- index i as s, for i at most n; past the end of either string, the separator is read
+-- if the first n bytes are all of s, or the separator follows them, and i is at most n, then s and
+-- its first n bytes have the same byte at index i; past the end of either string, the separator is
+-- read
 front_same : (m : ℕ) (s : List ℕ) (n i : ℕ) → n ≤ length s → get_or s n m ≡ m → i ≤ n
     → get_or (take n s) i m ≡ get_or s i m
 front_same m s n i l e few = ⊎_elim
@@ -89,12 +91,13 @@ front_same m s n i l e few = ⊎_elim
     ∙ sym (ap (λ k. get_or s k m) {x = i} {y = n} (omega arith) ∙ e))
     (cases_lt i n)
 
--- reading the first n bytes at index n or later yields the separator
+-- if i is at least n, and so past the end of the first n bytes of s, reading these bytes at i
+-- yields the separator
 front_past : (m : ℕ) (s : List ℕ) (n i : ℕ) → n ≤ length s → n ≤ i → get_or (take n s) i m ≡ m
 front_past m s n i l past = get_or_past (take n s) i m (omega (arith, length-take-le n s l))
 
--- if the first n bytes are all of s, or the separator follows them, a name starts at an index up to
--- n of these bytes if and only if a name starts there in s
+-- if the first n bytes are all of s, or the separator follows them, and i is at most n, then a name
+-- starts at i in these bytes if and only if a name starts at i in s
 pub no_name_starts_at-take : (m p : ℕ) (s : List ℕ) (n i : ℕ) → n ≤ length s → get_or s n m ≡ m → i
     ≤ n
     → no_name_starts_at m p (take n s) i ≡ no_name_starts_at m p s i
@@ -123,7 +126,8 @@ no_name_starts_at-take m p s n i l e few = ⊎_elim inside at_end (cases_lt i n)
         (mark_at (i + 1) (omega arith)))
         (cases_lt (i + 1) n)
 
--- if the first run of names ends at n, and s doesn't end there, the byte at n is the separator
+-- if the first run of names in s ends at n, and n is less than the length of s, the byte of s at n
+-- is the separator
 pub separator_at_end : (m p : ℕ) (s : List ℕ) (n : ℕ) → IsNameRunEnd m p s n → n < length s
     → get_or s n 0 ≡ m
 separator_at_end m p s n h l =
@@ -135,7 +139,8 @@ separator_or_no_byte m p s n h = ⊎_elim
     (λ past. get_or_past s n m past)
     (cases_lt n (length s))
 
--- if the first run of names ends at n, no byte of the first n bytes, taken as a string, ends a run
+-- if the first run of names in s ends at n, no byte of the first n bytes of s, taken as a string of
+-- their own, ends a run of names
 pub no_end_before : (m p : ℕ) (s : List ℕ) (n : ℕ) → IsNameRunEnd m p s n
     → (i : ℕ) → i < length (take n s) → ends_name_run_of m p (take n s) i ≡ false
 no_end_before m p s n h i l =

@@ -1,4 +1,5 @@
--- The ancestors of a path: the path and its parent's ancestors, and how many there are.
+-- The ancestors of a path, which are the path and then its parent's ancestors, and how many there
+-- are.
 use Rattle.std.proofs.Common.{◌≡◌, ℕ, zero, suc, ◌+◌, ◌-◌, ◌≤◌, List, [], ◌∷◌, ◌++◌, length, map}
 use Rattle.std.proofs.Common.{Option, Some, None, option_map, refl, sym, ap, ap₂, ◌∙◌, arith}
 use Rattle.std.specs.List.{range_with_len}
@@ -16,12 +17,12 @@ use Rattle.unix_path.proofs.lemmas.names.DepthLemmas.{depth_of-push}
 use Rattle.unix_path.proofs.lemmas.names.ParentLemmas.{parent_of-alone, parent_of-deep}
 use Rattle.unix_bytes.proofs.lemmas.lists.ListLemmas.{Snoc, Empty, Push, snoc}
 
--- the ancestors of a parent, if there is one
+-- the ancestors of the parent, or none if there is no parent
 abbrev pub ancestors_by : Option (List ℕ) → List (List ℕ)
 ancestors_by parent = option_map_or ancestors_of parent []
 
--- for each of the n numbers m from a on, removing m + 1 trailing components is the same as removing
--- the last component and then m more
+-- for each of the n numbers m from a on, removing m + 1 trailing components of s is the same as
+-- removing the last component of s and then m more
 shift : (s : List ℕ) (a n : ℕ) → map (λ m. rest s 0 m) (range_with_len (a + 1) n)
     ≡ map (λ m. rest (rest s 0 1) 0 m) (range_with_len a n)
 shift s a zero = refl
@@ -30,15 +31,15 @@ shift s a (suc n) =
     ap (rest s 0) {x = a + 1} {y = 1 + a} (omega arith) ∙ sym (rest-rest s 0 1 0 a) in
     ap₂ (λ x xs. x ∷ xs) here (shift s (a + 1) n)
 
--- a path of depth 0 is its only ancestor, and has no parent
+-- if s has depth 0, its ancestors are s and then its parent's ancestors, if it has a parent
 ancestors_of-no_depth : (s : List ℕ) → depth_of s ≡ 0
     → ancestors_of s ≡ s ∷ ancestors_by (parent_of s)
 unfolding ancestors_of
 ancestors_of-no_depth s e = ap (λ n. s ∷ map (λ m. rest s 0 m) (range_with_len 1 n)) e
     ∙ sym (ap (λ o. s ∷ ancestors_by o) (parent_of-alone s e))
 
--- the ancestors of a path whose last component is not the root are the path and its parent's
--- ancestors
+-- if the last component v of s is not the root, the ancestors of s are s and then its parent's
+-- ancestors, if it has a parent
 ancestors_of-deep : (s : List ℕ) (vs : List Value) (v : Value) → values s ≡ vs ++ v ∷ []
     → (v ≡ RootDir → ⊥) → ancestors_of s ≡ s ∷ ancestors_by (parent_of s)
 unfolding ancestors_of
@@ -53,7 +54,8 @@ ancestors_of-deep s vs v e differs =
     ∙ ap (λ ps. s ∷ q ∷ ps) (shift s 1 (depth_of q))
     ∙ sym (ap (λ o. s ∷ ancestors_by o) (parent_of-deep s (depth_of q) more))
 
--- the ancestors of a path whose last component is v are the path and its parent's ancestors
+-- if the last component of s is v, the ancestors of s are s and then its parent's ancestors, if it
+-- has a parent
 by_last : (s : List ℕ) (vs : List Value) (v : Value) → values s ≡ vs ++ v ∷ []
     → ancestors_of s ≡ s ∷ ancestors_by (parent_of s)
 by_last s vs RootDir e = ancestors_of-no_depth s (depth_of-root s vs e)
@@ -65,37 +67,38 @@ by_snoc : (s : List ℕ) → Snoc (values s) → ancestors_of s ≡ s ∷ ancest
 by_snoc s (Empty e) = ancestors_of-no_depth s (depth_of-none s e)
 by_snoc s (Push vs v e) = by_last s vs v e
 
--- the ancestors of a path are the path and its parent's ancestors
+-- the ancestors of s are s and then its parent's ancestors, if it has a parent
 pub ancestors_of-parent : (s : List ℕ) → ancestors_of s ≡ s ∷ ancestors_by (parent_of s)
 ancestors_of-parent s = by_snoc s (snoc (values s))
 
--- a path without a parent is its only ancestor
+-- if s has no parent, s is the only ancestor of s
 pub ancestors_of-alone : (s : List ℕ) → parent_of s ≡ None → ancestors_of s ≡ s ∷ []
 ancestors_of-alone s e = ancestors_of-parent s ∙ ap (λ o. s ∷ ancestors_by o) e
 
--- if a path has a parent, its ancestors are the path and the parent's ancestors
+-- if s has a parent, the ancestors of s are s and then the parent's ancestors
 pub ancestors_of-above : (s parent : List ℕ) → parent_of s ≡ Some parent
     → ancestors_of s ≡ s ∷ ancestors_of parent
 ancestors_of-above s parent e = ancestors_of-parent s ∙ ap (λ o. s ∷ ancestors_by o) e
 
--- a path of n bytes has at most n + 1 ancestors, including itself
+-- s has at most one ancestor more than it has bytes, counting s itself as an ancestor
 pub length-ancestors_of : (s : List ℕ) → length (ancestors_of s) ≤ length s + 1
 unfolding ancestors_of
 length-ancestors_of s =
     omega (arith, length-values s, length-map-range_with_len (λ m. rest s 0 m) 1 (depth_of s))
 
--- the bytes of the paths that a walk over ancestors yields, starting with `next`
+-- the bytes of each path that a walk over ancestors yields if its next path is `next`
 abbrev ancestors_from : Option Path → List (List ℕ)
 ancestors_from next = option_map_or (λ path. ancestors_of path.bytes.now) next []
 
--- if a parent is given as a `Path`, `ancestors_by` of its bytes are the paths that a walk starting
--- with it yields
+-- a walk over ancestors whose next path is o (if any) yields the ancestors of o, or nothing if o is
+-- None
 ancestors_by-bytes : (o : Option Path)
     → ancestors_by (option_map (λ path. path.bytes.now) o) ≡ ancestors_from o
 ancestors_by-bytes None = refl
 ancestors_by-bytes (Some path) = refl
 
--- a walk over ancestors yields its path, and continues with the parent of that path
+-- if o is `path`, and `parent` has the bytes of the parent of `path`, a walk over ancestors whose
+-- next path is o yields `path` and then what a walk whose next path is `parent` yields
 pub remaining_ancestors-step : (o : Option Path) (path : Path) (parent : Option Path)
     → o ≡ Some path → option_map (λ path. path.bytes.now) parent ≡ parent_of path.bytes.now
     → ancestors_from o ≡ path.bytes.now ∷ ancestors_from parent

@@ -26,15 +26,15 @@ use Rattle.unix_path.proofs.lemmas.parts.ValueLemmas.{first_value, name_of-some}
 use Rattle.unix_path.proofs.lemmas.parts.PlaceLemmas.{parts_end}
 use Rattle.unix_path.proofs.lemmas.parts.PieceLemmas.{inner_parts-nil, no_slash_head}
 
--- a string that is one piece, and neither empty nor `.` nor `..`
+-- `name` is one piece, and neither empty nor `.` nor `..`
 pub record IsName (name : List ℕ) : Type 0 where
   pub some : 0 < length name
   pub no_slash : position_or_len is_slash name ≡ length name
   pub no_dot : bytes_eq name cur_dir ≡ false
   pub no_dots : bytes_eq name parent_dir ≡ false
 
--- s consists of a prefix, which is empty or ends in a slash, the file name, and the filler after
--- the name
+-- s is a prefix that is empty or ends in a slash, then the file name `name`, and then the filler
+-- after it
 pub record NameCut (s name : List ℕ) : Type 0 where
   pub prefix : List ℕ
   pub back : List ℕ
@@ -44,24 +44,25 @@ pub record NameCut (s name : List ℕ) : Type 0 where
   pub before : values s ≡ values prefix ++ Normal name ∷ []
   pub is_name : IsName name
 
--- the file name of a path is its last component
+-- if the last component of s is v, and s has the file name `name`, then v is the component `name`
 name_of_push : (s name : List ℕ) (vs : List Value) (v : Value) → values s ≡ vs ++ v ∷ []
     → file_name_of (values s) ≡ Some name → v ≡ Normal name
 name_of_push s name vs v is e =
     name_of-some v name (sym (ap file_name_of is ∙ file_name_of-last vs v) ∙ e)
 
--- a path without components has no file name
+-- if s has no components, it has no file name
 no_name : (s name : List ℕ) → values s ≡ [] → file_name_of (values s) ≡ Some name → ⊥
 unfolding file_name_of
 no_name s name is e = none-some name (sym (ap file_name_of is) ∙ e)
 
--- the piece y is the name, and neither `.` nor `..`
+-- the piece y is `name`, and neither `.` nor `..`
 record IsNamePiece (y name : List ℕ) : Type 0 where
   same : y ≡ name
   no_dot : bytes_eq y cur_dir ≡ false
   no_dots : bytes_eq y parent_dir ≡ false
 
--- a piece whose component is a name is that name
+-- if the piece y, at the beginning of a string, is the component `name`, then y is `name`, and
+-- neither `.` nor `..`
 name_piece : (y name : List ℕ) → first_value y ≡ Normal name → IsNamePiece y name
 name_piece y name h = by (bytes_eq y cur_dir) refl (bytes_eq y parent_dir) refl h
   where
@@ -71,7 +72,8 @@ name_piece y name h = by (bytes_eq y cur_dir) refl (bytes_eq y parent_dir) refl 
     by false e true k h = absurd (let no : ParentDir ≡ Normal name = h in cc)
     by false e false k h = record { same = cc; no_dot = e; no_dots = k }
 
--- a prefix of a string needs no separator if it is empty or its last byte is a slash
+-- if `a` is 0, or the last of the first `a` bytes of t is a slash, a join to these bytes needs no
+-- separator
 needs_no_separator-take : (t : List ℕ) (a : ℕ) → a ≤ length t → (0 < a → get_or t (a - 1) 0 ≡ 47)
     → needs_no_separator (take a t) ≡ true
 needs_no_separator-take t zero l h = refl
@@ -81,8 +83,8 @@ needs_no_separator-take t (suc k) l h =
     ∙ eq-eqb _ 47 (get_or-take (suc k) t (suc k - 1) 47 (omega arith)
     ∙ get_or_default t (suc k - 1) 47 0 (omega arith) ∙ h (omega arith))
 
--- if s has a file name, and the last piece of s without its trailing filler starts at index `a` and
--- isn't empty, `NameCut` holds, with the bytes before `a` as the prefix
+-- if s has the file name `name`, and the last piece of s without its trailing filler starts at
+-- index `a` and isn't empty, then s is a prefix, `name` and filler (`NameCut`)
 cut_at : (s name : List ℕ) (trim : TrimsEnd s) (a : ℕ) → file_name_of (values s) ≡ Some name
     → IsLastStart (take trim.len s) a → a < length (take trim.len s) → NameCut s name
 unfolding values
@@ -119,7 +121,8 @@ cut_at s name trim a e h l =
       };
     }
 
--- if the last piece of a path without its trailing filler is empty, the path has no file name
+-- if s has a file name, the last piece of s without its trailing filler, which starts at index `a`,
+-- isn't empty
 no_name_at_end : (s name : List ℕ) (trim : TrimsEnd s) (a : ℕ) → file_name_of (values s) ≡ Some name
     → IsLastStart (take trim.len s) a → length (take trim.len s) ≤ a → ⊥
 unfolding values
@@ -139,7 +142,7 @@ no_name_at_end s name trim a e h l =
     no_name s name (ap (map (λ (p : Part). p.value)) (sym trim.same) ∙ ap values nil ∙ values-nil)
     e)
 
--- a path with a file name consists of a prefix, the file name and filler
+-- if s has the file name `name`, then s is a prefix, `name` and filler (`NameCut`)
 pub name_cut : (s name : List ℕ) → file_name_of (values s) ≡ Some name → NameCut s name
 name_cut s name e =
     let trim = trims_end s in
@@ -148,7 +151,7 @@ name_cut s name e =
     (λ l. cut_at s name trim at.0 e at.1 (ltb-true _ _ l))
     (λ l. absurd (no_name_at_end s name trim at.0 e at.1 (ltb-false _ _ l)))
 
--- a name, taken as a path, has one component, which is this name
+-- a string s that is a name (`IsName`) has one component, which is this name
 pub values-name : (s : List ℕ) → IsName s → values s ≡ Normal s ∷ []
 unfolding values
 values-name s h =

@@ -12,16 +12,16 @@ use Rattle.unix_bytes.proofs.lemmas.lists.ListLemmas.{by_test, take-take_front}
 abbrev pub is_dot : ℕ → Bool
 is_dot b = b == dot
 
--- if no byte at index n or later passes p, and n is 0 or the byte before n passes, n is the index
--- just after the last byte that passes, or 0 if none does
+-- if no byte of s at index n or later passes p, and n is 0 or the byte before n passes p, then n is
+-- the index just after the last byte that passes p, or 0 if none does
 pub after_last-is : (p : ℕ → Bool) (s : List ℕ) (n : ℕ) → n ≤ length s
     → ((k : ℕ) → n ≤ k → k < length s → not (p (get_or s k 0)) ≡ true)
     → (0 < n → not (p (get_or s (n - 1) 0)) ≡ false) → n ≡ after_last p s
 after_last-is p s n l after here =
     omega (arith, suffix_len_is (λ b. not (p b)) s n 0 l after here)
 
--- if n is 0 or just after an occurrence of `byte`, and `byte` doesn't occur at n or later, n is the
--- index just after the last occurrence, or 0 if there is none
+-- if n is 0 or just after an occurrence of `byte` in s, and `byte` doesn't occur at n or later,
+-- then n is the index just after the last occurrence, or 0 if there is none
 pub after_last-byte : (byte : ℕ) (s : List ℕ) (n : ℕ) → n ≤ length s
     → (0 < n → get_or s (n - 1) 0 ≡ byte)
     → position_or_len (λ b. b == byte) (drop n s) ≡ length (drop n s)
@@ -36,13 +36,15 @@ after_last-byte byte s n l after none =
     (omega (arith, length-drop n s))))
     (λ some. ap not (eq-eqb (get_or s (n - 1) 0) byte (after some)))
 
--- a name without a dot after its first byte is all stem
+-- if n is the index just after the last dot of `name`, or 0, and n is at most 1, the stem is all of
+-- `name`, and there is no extension
 pub split_name-whole : (name : List ℕ) (n : ℕ) → n ≡ after_last is_dot name → n ≤ 1
     → split_name name ≡ (name, None)
 unfolding split_name
 split_name-whole name n e l = rw (le-ltb 1 (after_last is_dot name) (omega arith)) refl
 
--- a name with a dot at index 1 or later is cut at its last dot
+-- if n is the index just after the last dot of `name`, and n is more than 1, the stem is the bytes
+-- before this dot, and the extension is the bytes after it
 pub split_name-cut : (name : List ℕ) (n : ℕ) → n ≡ after_last is_dot name → 1 < n
     → split_name name ≡ (take (n - 1) name, Some (drop n name))
 unfolding split_name
@@ -50,7 +52,7 @@ split_name-cut name n e l =
     rw (lt-ltb 1 (after_last is_dot name) (omega arith))
     (ap (λ k. (take (k - 1) name, Some (drop k name))) (sym e))
 
--- a stem is a prefix of its name
+-- the stem of `name` is a prefix of `name`
 pub split_name-stem : (name : List ℕ)
     → take (length (split_name name).0) name ≡ (split_name name).0
 unfolding split_name

@@ -21,7 +21,7 @@ use Rattle.unix_path.proofs.lemmas.names.StemCutLemmas.{stem_end_of-take}
 use Rattle.unix_path.proofs.lemmas.names.StemLemmas.{last_start_of-name, stem_end_by}
 use Rattle.unix_path.proofs.lemmas.names.StemLemmas.{stem_end_of-some}
 
--- y is its own file name, which starts at index 0
+-- y, taken as a path, has the file name y, which starts at index 0
 record IsOwnName (y : List ℕ) : Type 0 where
   name : file_name_of (values y) ≡ Some y
   start : last_start_of (parts y) ≡ 0
@@ -43,7 +43,8 @@ own_name s y e =
       );
     }
 
--- if a file name is taken as a path, this path's file name ends where the path ends
+-- if `name` is the file name of s, then `name`, taken as a path, has a file name that ends where
+-- `name` ends
 pub name_end_of-name : (s name : List ℕ) → Some name ≡ file_name_of (values s)
     → name_end_of name ≡ Some (length name)
 unfolding name_end_of
@@ -52,7 +53,8 @@ name_end_of-name s name e =
     let to : last_start_of (parts name) + length name ≡ length name = omega (arith, h.start) in
     ap (name_end_by name) h.name ∙ ap Some to
 
--- the bytes of a file name up to the end of its stem are its stem
+-- if `name` is the file name of s, and the stem of `name`, taken as a path, ends at `end`, then the
+-- first `end` bytes of `name` are its stem
 pub take-stem_end : (s name : List ℕ) (end : ℕ) → Some name ≡ file_name_of (values s)
     → stem_end_of name ≡ Some end → take end name ≡ (split_name name).0
 unfolding stem_end_of
@@ -64,7 +66,7 @@ take-stem_end s name end e at =
     let same : end ≡ n = omega (arith, h.start) in
     ap (λ n. take n name) same ∙ split_name-stem name
 
--- a name that is all stem has no extension
+-- if the stem of `name` is as long as `name`, `name` has no extension
 extension-none : (name : List ℕ) → length (split_name name).0 ≡ length name
     → (split_name name).1 ≡ None
 extension-none name e =
@@ -81,7 +83,8 @@ extension-none name e =
     )))
     (λ f. ap (λ r. r.1) (split_name-whole name n refl (omega (arith, ltb-false _ _ f))))
 
--- if a stem is shorter than its name, a dot follows it, and then the extension
+-- if the stem of `name` is shorter than `name`, the extension is the bytes of `name` after the stem
+-- and one more byte, which is the dot
 extension-some : (name : List ℕ) → length (split_name name).0 < length name
     → (split_name name).1 ≡ Some (drop (length (split_name name).0 + 1) name)
 extension-some name l =
@@ -123,7 +126,7 @@ ends_at s end stem e at =
       stem_is = omega (arith, h.is);
     }
 
--- without an index where the file name ends there is no extension
+-- if there is no index where the file name of s ends, s has no extension
 pub extension_of-nameless : (s : List ℕ) → None ≡ name_end_of s → None ≡ extension_of (values s)
 extension_of-nameless s e = by (file_name_of (values s)) refl
   where
@@ -132,7 +135,8 @@ extension_of-nameless s e = by (file_name_of (values s)) refl
     by (Some name) is =
         absurd (none-some _ (e ∙ sym (name_end_of-some s name (length (rest s 0 0)) is refl)))
 
--- if the stem ends where the file name does, there is no extension
+-- if the file name of s ends at `end`, and the stem of the first `end` bytes of s ends at `stem`,
+-- which is `end`, then s has no extension
 pub extension_of-none : (s : List ℕ) (end stem : ℕ) → Some end ≡ name_end_of s
     → stem_end_of (take end s) ≡ Some stem → stem ≡ end → None ≡ extension_of (values s)
 extension_of-none s end stem e at same =
@@ -140,7 +144,9 @@ extension_of-none s end stem e at same =
     sym (extension-none h.name (omega (arith, h.end_is, h.stem_is)))
     ∙ ap (option_and_then (λ name. (split_name name).1)) h.is
 
--- if the stem ends before the file name does, the extension follows the byte after the stem
+-- if the file name of s ends at `end`, and the stem of the first `end` bytes of s ends at `stem`,
+-- which is less than `end`, then the extension of s is the bytes of s from `stem + 1` up to `end`,
+-- exclusive
 pub extension_of-some : (s : List ℕ) (end stem : ℕ) → Some end ≡ name_end_of s
     → stem_end_of (take end s) ≡ Some stem → stem < end
     → Some (drop (stem + 1) (take end s)) ≡ extension_of (values s)

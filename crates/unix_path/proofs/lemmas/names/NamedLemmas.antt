@@ -1,4 +1,4 @@
--- Strings that end in a name.
+-- Strings that end in a name, which is their file name.
 use Rattle.std.proofs.Common.{◌≡◌, ℕ, ◌+◌, ◌-◌, ◌<◌, ◌≤◌, true, false, eqb, ltb, List, [], ◌∷◌}
 use Rattle.std.proofs.Common.{◌++◌, length, get_or, take, drop, map, Option, Some, None, option_map}
 use Rattle.std.proofs.Common.{refl, sym, ap, ◌∙◌, arith, ltb-true, ltb-false, lt-ltb}
@@ -30,7 +30,7 @@ use Rattle.unix_path.proofs.lemmas.filler.TrimLemmas.{parts_shorter}
 use Rattle.unix_path.proofs.lemmas.parts.ValueLemmas.{first_value, name_of-some, value_bytes-first}
 use Rattle.unix_path.proofs.lemmas.parts.PlaceLemmas.{parts_end}
 
--- the last piece of s is its file name
+-- the last piece of s, which begins at `start`, is the file name of s
 pub record EndsInName (s : List ℕ) : Type 0 where
   pub start : ℕ
   pub last : IsLastStart s start
@@ -54,12 +54,12 @@ has_name_end s end (Some bytes) is e = record {
   is = sym (same_Some _ end (name_end_of-some s bytes (length (rest s 0 0)) is refl ∙ e));
 }
 
--- a file name ends where the last component does
+-- if the file name of s ends at `end`, s without its trailing filler has `end` bytes
 pub name_end : (s : List ℕ) (end : ℕ) → name_end_of s ≡ Some end → HasNameEnd s end
 name_end s end e = has_name_end s end (file_name_of (values s)) refl e
 
--- if s ends in a component, and its last piece, which begins at `start`, isn't empty, this piece is
--- the last component
+-- if s ends in a component, and its last piece, which begins at `start`, isn't empty, the
+-- components of s are those of its first `start` bytes, and then that of the piece
 last_value : (s : List ℕ) (start : ℕ) → IsLastStart s start → start < length s → EndsInPart s
     → values s ≡ values (take start s) ++ first_value (drop start s) ∷ []
 unfolding values
@@ -67,7 +67,8 @@ last_value s start h l ends =
     let last = last_part s start h l ends in
     ap (λ ps. map (λ p. p.value) ps) last.1 ∙ map-append (λ p. p.value) (parts (take start s)) _
 
--- a last piece that is a name is the file name
+-- if s ends in a component, and its last piece, which begins at `start`, isn't empty and is a name,
+-- the piece is the file name of s
 name_of_piece : (s : List ℕ) (start : ℕ) → IsLastStart s start → start < length s → EndsInPart s
     → first_value (drop start s) ≡ Normal (drop start s) → EndsInName s
 name_of_piece s start h l ends is = record {
@@ -80,14 +81,15 @@ name_of_piece s start h l ends is = record {
   end = sym (length-rest_whole s ∙ parts_end-whole s ends);
 }
 
--- a string that ends in a component and in a slash, which can only be the root, has no file name
+-- if s isn't empty, ends in a component, and its last byte is a slash, which then is the root, s
+-- has no file name
 root_nameless : (s : List ℕ) → 0 < length s → EndsInPart s → get_or s (length s - 1) 0 ≡ 47
     → None ≡ file_name_of (values s)
 unfolding values file_name_of
 root_nameless s l ends e =
     sym (ap (λ ps. file_name_of (map (λ p. p.value) ps)) (root_alone s l ends e))
 
--- a string that ends in a component and has a file name ends in the file name
+-- if s ends in a component and has the file name `name`, the last piece of s is its file name
 pub named_end : (s name : List ℕ) → EndsInPart s → Some name ≡ file_name_of (values s)
     → EndsInName s
 unfolding values
@@ -114,7 +116,7 @@ named_end s name ends is =
     absurd (none-some name (file_name_of-none s (ap (λ ps. map (λ p. p.value) ps) nil)
     ∙ sym is))))
 
--- a string without bytes after its last component ends in a component
+-- if s is as long as s without its trailing filler, s is empty or ends in a component
 pub ends_part : (s : List ℕ) → length s ≡ length (rest s 0 0) → EndsInPart s
 ends_part s e some =
     let n = length s in
@@ -133,24 +135,25 @@ ends_part s e some =
     )))
     (λ f. f)
 
--- a string without bytes after its file name ends in the file name
+-- if the file name of s ends where s ends, the last piece of s is its file name
 pub ends_in_name : (s : List ℕ) → name_end_of s ≡ Some (length s) → EndsInName s
 ends_in_name s e =
     let h = name_end s (length s) e in
     named_end s h.bytes (ends_part s h.is) h.name
 
--- if a string ends in its file name, the file name ends where the string ends
+-- if the last piece of s is its file name, the file name ends where s ends
 pub name_end_of-named : (s : List ℕ) → EndsInName s → name_end_of s ≡ Some (length s)
 name_end_of-named s h = sym (name_end_of-some s (drop h.start s) (length s) h.name h.end)
 
--- in two paths with the same components at the same positions, the file name ends at the same index
+-- if s and t have the same components at the same positions, their file names end at the same
+-- index, or neither has a file name
 pub name_end_of-same : (s t : List ℕ) → parts s ≡ parts t → name_end_of s ≡ name_end_of t
 unfolding name_end_of values
 name_end_of-same s t e =
     ap (λ ps. option_map (λ name. last_start_of ps + length name)
     (file_name_of (map (λ p. p.value) ps))) e
 
--- the bytes of a path up to the end of its file name have all components of the path
+-- if the file name of s ends at `end`, the first `end` bytes of s have the same components as s
 pub parts-named : (s : List ℕ) (end : ℕ) → name_end_of s ≡ Some end
     → parts (take end s) ≡ parts s
 parts-named s end e =
@@ -160,13 +163,14 @@ parts-named s end e =
     ∙ sym (ap length (rest-trimmed s trim.len trim.in_range trim.same trim.ends)) ∙ sym h.is in
     ap (λ k. parts (take k s)) (sym size) ∙ trim.same
 
--- the bytes of a path up to the end of its file name end in a name
+-- if the file name of s ends at `end`, the file name of the first `end` bytes of s ends at their
+-- end
 pub name_end_of-take : (s : List ℕ) (end : ℕ) → name_end_of s ≡ Some end → end ≤ length s
     → name_end_of (take end s) ≡ Some (length (take end s))
 name_end_of-take s end e l = name_end_of-same (take end s) s (parts-named s end e) ∙ e
     ∙ ap Some (sym (length-take-le end s l))
 
--- the last piece has no slash
+-- if the last piece of s begins at `start`, no byte of s at index `start` or later is a slash
 pub piece_slash : (s : List ℕ) (start i : ℕ) → IsLastStart s start → start ≤ i → i < length s
     → eqb (get_or s i 0) 47 ≡ false
 piece_slash s start i h from to =
@@ -230,7 +234,8 @@ pub nameless-trailing : (s : List ℕ) → 0 < length s → is_trailing s (lengt
 nameless-trailing s some t is =
     true≢false (sym t ∙ ends_part s (ends_in_name s is).end some)
 
--- a last piece that is neither empty nor `.` nor `..` is the file name
+-- if s isn't empty, its last byte is neither a slash nor trailing filler, s isn't `.`, and its last
+-- piece isn't `..`, then s ends in a name
 pub named-piece : (s : List ℕ) → 0 < length s → eqb (get_or s (length s - 1) 0) 47 ≡ false
     → is_trailing s (length s - 1) ≡ false → bytes_eq s cur_dir ≡ false
     → ends_with_parent_dir s ≡ false → name_end_of s ≡ Some (length s)
@@ -247,7 +252,8 @@ named-piece s some no_slash ends no_dot no_parent =
     absurd (true≢false (sym (ap (λ b. eqb b 47) (ap (λ k. get_or s (k - 1) 0) (sym here)
     ∙ at.1.after_slash (omega arith))) ∙ no_slash)))
 
--- if the bytes up to the end of the last component don't end in a name, there is no file name
+-- if the first `end` bytes of s have the same components as s, and are empty or end in a component
+-- that isn't a name, then s has no file name
 pub name_end_of-unnamed : (s : List ℕ) (end : ℕ) → parts (take end s) ≡ parts s
     → EndsInPart (take end s)
     → (name_end_of (take end s) ≡ Some (length (take end s)) → ⊥) → None ≡ name_end_of s
@@ -258,13 +264,14 @@ name_end_of-unnamed s end same ends none = by (file_name_of (values (take end s)
     by (Some name) is =
         absurd (none (name_end_of-named (take end s) (named_end (take end s) name ends is)))
 
--- if the bytes up to the end of the last component end in a name, the file name ends there
+-- if the first `end` bytes of s have the same components as s, and end in a name, the file name of
+-- s ends at `end`
 pub name_end_of-ended : (s : List ℕ) (end : ℕ) → end ≤ length s → parts (take end s) ≡ parts s
     → name_end_of (take end s) ≡ Some (length (take end s)) → Some end ≡ name_end_of s
 name_end_of-ended s end l same is = ap Some (sym (length-take-le end s l))
     ∙ sym is ∙ name_end_of-same (take end s) s same
 
--- bytes whose last byte is neither a slash nor a dot end in a name
+-- if s isn't empty, and its last byte is neither a slash nor a dot, s ends in a name
 pub named-other : (s : List ℕ) → 0 < length s → eqb (get_or s (length s - 1) 0) 47 ≡ false
     → eqb (get_or s (length s - 1) 0) 46 ≡ false → name_end_of s ≡ Some (length s)
 named-other s some no_slash no_dot =
@@ -278,7 +285,8 @@ named-other s some no_slash no_dot =
     (λ e. e))
     (rw no_dot refl)
 
--- bytes that end in a dot end in a name, unless their last piece is `.` or `..`
+-- if s has at least two bytes, the last is a dot, the byte before it is no slash, and the last
+-- piece isn't `..`, then s ends in a name
 pub named-dot : (s : List ℕ) → 1 < length s → get_or s (length s - 1) 0 ≡ 46
     → eqb (get_or s (length s - 2) 0) 47 ≡ false → ends_with_parent_dir s ≡ false
     → name_end_of s ≡ Some (length s)
@@ -310,6 +318,6 @@ nameless-after s some dot slash =
     ap (λ i. get_or s i 0) {x = n - 1 - 1} {y = n - 2} (omega arith) ∙ slash in
     nameless-trailing s (omega arith) (rw (lt-ltb 0 (n - 1) (omega arith), dot, after) refl)
 
--- the path up to the end of its file name is the path without trailing filler, `rest s 0 0`
+-- if the file name of s ends at `end`, the first `end` bytes of s are s without its trailing filler
 pub take-name_end : (s : List ℕ) (end : ℕ) → name_end_of s ≡ Some end → take end s ≡ rest s 0 0
 take-name_end s end e = ap (λ n. take n s) (name_end s end e).is ∙ take-rest s 0

@@ -14,7 +14,7 @@ use Rattle.unix_path.proofs.lemmas.rests.RestLemmas.{values-rest, rest-rest}
 use Rattle.unix_bytes.proofs.lemmas.lists.ListLemmas.{last_or-push}
 use Rattle.unix_path.proofs.lemmas.names.DepthLemmas.{depth_of-none, depth_of-root, depth_of-push}
 
--- a path without trailing filler, `rest s 0 0`, has all components of the path
+-- s without its trailing filler, `rest s 0 0`, has the same components as s
 pub values-whole : (s u : List ℕ) → u ≡ rest s 0 0 → values u ≡ values s
 values-whole s u e = ap values e ∙ values-rest s 0 0
     ∙ take_all (length (values s) - (0 + 0)) (values s) (omega arith)
@@ -32,7 +32,7 @@ pub parent_of-deep : (s : List ℕ) (n : ℕ) → depth_of s ≡ suc n → paren
 unfolding parent_of
 parent_of-deep s n e = rw (e, eqb-suc-zero n) refl
 
--- a parent is the rest before the last component
+-- if s has a parent, the parent is the rest of s before its last component
 pub parent_of-some : (s parent : List ℕ) → parent_of s ≡ Some parent → parent ≡ rest s 0 1
 unfolding parent_of
 parent_of-some s parent e = by (eqb (depth_of s) 0) e
@@ -48,7 +48,7 @@ pub parent_of-root : (s : List ℕ) (vs : List Value) → values s ≡ vs ++ Roo
     → None ≡ parent_of s
 parent_of-root s vs is = sym (parent_of-alone s (depth_of-root s vs is))
 
--- the parent of a path that doesn't end in the root is the rest before its last component
+-- if the last component v of s isn't the root, the parent of s is the rest of s before v
 pub parent_of-push : {w : List ℕ} (s : List ℕ) (vs : List Value) (v : Value)
     → values s ≡ vs ++ v ∷ [] → w ≡ rest s 0 1 → (v ≡ RootDir → ⊥) → Some w ≡ parent_of s
 parent_of-push s vs v is left differs =
@@ -58,17 +58,18 @@ pub file_name_of-none : (s : List ℕ) → values s ≡ [] → None ≡ file_nam
 unfolding file_name_of
 file_name_of-none s is = sym (ap file_name_of is)
 
--- the file name is the name of the last component
+-- the file name of components that end with v is v if v is a name, and otherwise None
 pub file_name_of-last : (vs : List Value) (v : Value) → file_name_of (vs ++ v ∷ []) ≡ name_of v
 unfolding file_name_of
 file_name_of-last vs v = ap (option_and_then name_of) (last_or-push None vs v)
 
--- the last component of a path determines its file name
+-- if the components of s are those of w and then v, the file name of s is v if v is a name, and
+-- otherwise None
 pub file_name_of-push : (s w : List ℕ) (v : Value) → values s ≡ values w ++ v ∷ []
     → name_of v ≡ file_name_of (values s)
 file_name_of-push s w v is = sym (ap file_name_of is ∙ file_name_of-last (values w) v)
 
--- if there is a file name, the path without it is the rest before the last component
+-- if s has a file name, s without its file name is the rest of s before its last component
 pub before_name_of-some : (s name : List ℕ) → Some name ≡ file_name_of (values s)
     → rest s 0 1 ≡ before_name_of s
 unfolding before_name_of

@@ -1,4 +1,5 @@
--- Where the stem of the name at the end of a string ends, by its last dot or slash.
+-- For a string that ends in a name: the index where the stem ends, found from the last dot or slash
+-- of the string.
 use Rattle.std.proofs.Common.{◌≡◌, ℕ, zero, suc, ◌+◌, ◌-◌, ◌<◌, ◌≤◌, true, false, not, eqb, ltb}
 use Rattle.std.proofs.Common.{◌||◌, List, length, get_or, take, drop, map, Option, Some, None}
 use Rattle.std.proofs.Common.{option_map, refl, sym, ap, ◌∙◌, arith, ltb-true, ltb-false}
@@ -39,12 +40,13 @@ no_dot b e = by_test (eqb b 46) (λ t. absurd (true≢false (rw t at e))) (λ f.
 no_slash : (b : ℕ) → (eqb b 46 || eqb b 47) ≡ false → eqb b 47 ≡ false
 no_slash b e = by_test (eqb b 46) (λ t. absurd (true≢false (rw t at e))) (λ f. rw f at e)
 
--- if every byte at index n or later is ordinary, no byte at index m or later is a dot, for m at
--- least n
+-- if s has no dot and no slash at index n or later, and m is at least n, s has no dot at index m or
+-- later
 Dotless-ordinary : (s : List ℕ) (n m : ℕ) → OrdinaryFrom s n → n ≤ m → DotlessFrom s m
 Dotless-ordinary s n m ordinary l i from to = no_dot (get_or s i 0) (ordinary i (omega arith) to)
 
--- if s without its first n bytes is ordinary from index `past` on, s is ordinary from n + past on
+-- if s without its first n bytes has no dot and no slash at index `past` or later, s has neither at
+-- index `n + past` or later
 pub ordinary_behind : (s : List ℕ) (n past : ℕ) → n ≤ length s → OrdinaryFrom (drop n s) past
     → OrdinaryFrom s (n + past)
 ordinary_behind s n past l ordinary i from to =
@@ -54,16 +56,16 @@ ordinary_behind s n past l ordinary i from to =
     ap (λ b. eqb b 46 || eqb b 47) here
     ∙ ordinary (i - n) (omega arith) (omega (arith, length-drop n s))
 
--- if t, which is s without its first n bytes, is ordinary from index `past` on, s is ordinary from
--- `place`, which is n + past, on
+-- if t, which is s without its first n bytes, has no dot and no slash at index `past` or later, and
+-- `place` is `n + past`, then s has neither at index `place` or later
 pub ordinary_from : (s t : List ℕ) (n past place : ℕ) → n ≤ length s → t ≡ drop n s
     → OrdinaryFrom t past
     → place ≡ n + past → OrdinaryFrom s place
 ordinary_from s t n past place l is ordinary e i from to =
     ordinary_behind s n past l (subst (λ t. OrdinaryFrom t past) is ordinary) i (omega arith) to
 
--- if t is s without its first n bytes, the byte of t before index `past` is a dot or a slash, and
--- this byte, which s has at `place`, isn't a slash, then it is a dot
+-- if t is s without its first n bytes, the byte of t at `past` - 1, which s has at `place`, is a
+-- dot or a slash, and s has no slash at `place`, then s has a dot at `place`
 pub dot_at : (s t : List ℕ) (n past place : ℕ) → t ≡ drop n s → 0 < past → place ≡ n + past - 1
     → (eqb (get_or t (past - 1) 0) 46 || eqb (get_or t (past - 1) 0) 47) ≡ true
     → (get_or s place 0 ≡ 47 → ⊥) → get_or s place 0 ≡ 46
@@ -75,7 +77,8 @@ dot_at s t n past place is some e stops no_slash =
     (λ slash. absurd (no_slash (here ∙ eqb-true _ 47 slash)))
     (or_cases (eqb (get_or t (past - 1) 0) 46) (eqb (get_or t (past - 1) 0) 47) stops)
 
--- the index where the stem ends is the start of the file name plus the length of the stem
+-- if the last piece of s is its file name, the stem ends at the start of this piece plus the length
+-- of the stem
 stem_end-named : (s : List ℕ) → (h : EndsInName s)
     → stem_end_of s ≡ Some (h.start + length (split_name (drop h.start s)).0)
 stem_end-named s h =
@@ -85,8 +88,8 @@ stem_end-named s h =
     omega (arith, length-drop h.start s) in
     sym (stem_end_of-some s y (length s) h.name h.end refl) ∙ ap Some (sym to)
 
--- if the byte at d is a dot, but not the name's first byte, and no dot and no slash follows it, the
--- stem ends at d
+-- if s ends in a name, the byte of s at d is a dot, neither at index 0 nor after a slash, and no
+-- dot and no slash follows it, then the stem ends at d
 pub stem_end-cut : (s : List ℕ) (d : ℕ) → EndsInName s → d < length s → OrdinaryFrom s (d + 1)
     → get_or s d 0 ≡ 46 → 0 < d → eqb (get_or s (d - 1) 0) 47 ≡ false → stem_end_of s ≡ Some d
 stem_end-cut s d h l ordinary dot some before =
@@ -126,7 +129,7 @@ stem_end-cut s d h l ordinary dot some before =
       length-take-le (n - 1) y (omega arith),
     ))
 
--- a name without a dot after its first byte is all stem
+-- if s ends in a name that has no dot after its first byte, the stem ends where s ends
 pub stem_end-whole : (s : List ℕ) → (h : EndsInName s) → DotlessFrom s (h.start + 1)
     → stem_end_of s ≡ Some (length s)
 stem_end-whole s h none =
@@ -153,7 +156,8 @@ stem_end-whole s h none =
       ap (λ r. length r.0) whole,
     ))
 
--- the index just after the last dot among the first m bytes, or 0 if they contain no dot
+-- `past` is the index just after the last dot among the first m bytes of s, or 0 if they contain no
+-- dot
 record LastDot (s : List ℕ) (m : ℕ) : Type 0 where
   past : ℕ
   in_range : past ≤ m
@@ -185,7 +189,7 @@ last_dot s (suc m) = by_test (eqb (get_or s m 0) 46)
       dot = h.dot;
     })
 
--- a name that is all stem has no dot after its first byte
+-- if the stem of the name y is as long as y, y has no dot after its first byte
 whole_dotless : (y : List ℕ) → length (split_name y).0 ≡ length y → DotlessFrom y 1
 whole_dotless y e =
     let h = last_dot y (length y) in
@@ -238,13 +242,13 @@ ends_in_stem_by s (Some bytes) is e =
     length_take_le : (n : ℕ) (xs : List ℕ) → length (take n xs) ≤ length xs
     length_take_le n xs = omega (arith, length-take n xs)
 
--- if the stem of its file name ends where a string ends, the string ends in a name that has no dot
--- after its first byte
+-- if the stem of the file name of s ends where s ends, s ends in a name that has no dot after its
+-- first byte
 pub ends_in_stem : (s : List ℕ) → stem_end_of s ≡ Some (length s) → EndsInStem s
 ends_in_stem s e = ends_in_stem_by s (file_name_of (values s)) refl e
 
--- if the first n bytes end in a stem, and no dot and no slash follows them, the whole string ends
--- in a stem
+-- if s ends in a name, the stem of its first n bytes ends at n, and s has no dot and no slash at n
+-- or later, then the stem of s ends where s ends
 pub stem_end-longer : (s : List ℕ) (n : ℕ) → n ≤ length s → EndsInName s
     → stem_end_of (take n s) ≡ Some n → OrdinaryFrom s n → stem_end_of s ≡ Some (length s)
 stem_end-longer s n l h known ordinary =
@@ -280,14 +284,14 @@ stem_end-longer s n l h known ordinary =
     ∙ stem.dotless i (omega arith) (omega (arith, ltb-true _ _ b)))
     (λ b. no_dot (get_or s i 0) (ordinary i (omega (arith, ltb-false _ _ b)) to)))
 
--- a string that ends in a name, and has no dot and no slash, is all stem
+-- if s ends in a name, and has no dot and no slash, the stem of s ends where s ends
 pub stem_end-ordinary : (s : List ℕ) → EndsInName s → OrdinaryFrom s 0
     → stem_end_of s ≡ Some (length s)
 stem_end-ordinary s h ordinary = stem_end-whole s h
     (Dotless-ordinary s 0 (h.start + 1) ordinary (omega arith))
 
--- if no dot and no slash follows the first n bytes, which end in a stem unless n is 0, the whole
--- string ends in a stem
+-- if s ends in a name, n is 0 or the stem of the first n bytes ends at n, and s has no dot and no
+-- slash at n or later, then the stem of s ends where s ends
 pub stem_end-known : (s : List ℕ) (n : ℕ) → EndsInName s → n ≤ length s
     → (0 < n → stem_end_of (take n s) ≡ Some n) → OrdinaryFrom s n
     → stem_end_of s ≡ Some (length s)
@@ -295,7 +299,8 @@ stem_end-known s n h l known ordinary = by_test (ltb 0 n)
     (λ t. stem_end-longer s n l h (known (ltb-true _ _ t)) ordinary)
     (λ f. stem_end-ordinary s h (λ i from to. ordinary i (omega (arith, ltb-false _ _ f)) to))
 
--- if the byte at d is a slash, and no dot and no slash follows it, the whole name is stem
+-- if s ends in a name, the byte at d is a slash, and no dot and no slash follows it, the stem of s
+-- ends where s ends
 pub stem_end-slash : (s : List ℕ) (d : ℕ) → EndsInName s → d < length s → OrdinaryFrom s (d + 1)
     → get_or s d 0 ≡ 47 → stem_end_of s ≡ Some (length s)
 stem_end-slash s d h l ordinary slash =
@@ -304,8 +309,8 @@ stem_end-slash s d h l ordinary slash =
     ∙ piece_slash s h.start d h.last (ltb-false _ _ f) l))) in
     stem_end-whole s h (Dotless-ordinary s (d + 1) (h.start + 1) ordinary (omega arith))
 
--- if the name's first byte is at d, and no dot and no slash follows this byte, the whole name is
--- stem
+-- if s ends in a name, d is 0 or just after a slash, and no dot and no slash follows the byte at d,
+-- the stem of s ends where s ends
 pub stem_end-lead : (s : List ℕ) (d : ℕ) → EndsInName s → d < length s → OrdinaryFrom s (d + 1)
     → (0 < d → eqb (get_or s (d - 1) 0) 47 ≡ true) → stem_end_of s ≡ Some (length s)
 stem_end-lead s d h l ordinary before =
@@ -317,7 +322,8 @@ stem_end-lead s d h l ordinary before =
     (λ f. ltb-false _ _ f) in
     stem_end-whole s h (Dotless-ordinary s (d + 1) (h.start + 1) ordinary (omega arith))
 
--- removing the filler after the file name doesn't change where the stem ends
+-- if the file name of s ends at `end`, the stem of the first `end` bytes of s ends where the stem
+-- of s ends
 pub stem_end_of-take : (s : List ℕ) (end : ℕ) → name_end_of s ≡ Some end
     → stem_end_of (take end s) ≡ stem_end_of s
 unfolding stem_end_of values
@@ -325,7 +331,7 @@ stem_end_of-take s end e =
     ap (λ ps. option_map (λ stem. last_start_of ps + length stem)
     (stem_of (map (λ p. p.value) ps))) (parts-named s end e)
 
--- if there is no index where the file name ends, there is none where its stem ends
+-- if there is no index where the file name of s ends, there is none where its stem ends
 pub stem_end_of-nameless : (s : List ℕ) → name_end_of s ≡ None → None ≡ stem_end_of s
 stem_end_of-nameless s e = by (file_name_of (values s)) refl
   where

@@ -20,11 +20,11 @@ use Rattle.unix_path.proofs.lemmas.rests.RestLemmas.{take-rest}
 use Rattle.unix_path.proofs.lemmas.steps.SpanLemmas.{length-rest_whole, parts_end-append}
 use Rattle.unix_path.proofs.lemmas.parts.ValueLemmas.{value_bytes-piece, name_of-some}
 
--- a component spans as many bytes as its value has
+-- the component p spans as many bytes as its value has
 abbrev SpansValue : Part → Type 0
 SpansValue p = p.end ≡ p.start + length (value_bytes p.value)
 
--- each component of these pieces spans as many bytes as its value has
+-- each component of the pieces ps spans as many bytes as its value has
 SpansValue-parts_of_pieces : (at : ℕ) (ps : List (List ℕ))
     → AllByRecursion SpansValue (parts_of_pieces at ps)
 SpansValue-parts_of_pieces at [] = tt
@@ -57,11 +57,12 @@ SpansValue-last : (ps : List Part) (p : Part) → AllByRecursion SpansValue (ps 
 SpansValue-last [] p h = h.0
 SpansValue-last (q ∷ ps) p h = SpansValue-last ps p h.1
 
--- after a component is appended, the last component starts where the appended component starts
+-- if p is the last of a list of components, `last_start_of` this list is the index where p starts
 last_start_of-push : (ps : List Part) (p : Part) → last_start_of (ps ++ p ∷ []) ≡ p.start
 last_start_of-push ps p = ap (λ o. option_map_or (λ p. p.start) o 0) (last_or-push None ps p)
 
--- the file name ends where the last component ends
+-- if s has the file name `name`, the start of the last component plus the length of `name` is the
+-- length of s without its trailing filler
 pub last_start_of-name : (s name : List ℕ) → Some name ≡ file_name_of (values s)
     → last_start_of (parts s) + length name ≡ length (rest s 0 0)
 unfolding file_name_of values
@@ -87,23 +88,24 @@ last_start_of-name s name e = by_last (snoc (parts s))
         let to : parts_end (parts s) ≡ p.end = ap parts_end n ∙ parts_end-append ps p in
         omega (arith, length-rest_whole s)
 
--- a file name that ends at index `end` has at most `end` bytes
+-- if s has the file name `name`, and s without its trailing filler has `end` bytes, `name` has at
+-- most `end` bytes
 pub length-name : (s name : List ℕ) (end : ℕ) → Some name ≡ file_name_of (values s)
     → end ≡ length (rest s 0 0) → length name ≤ end
 length-name s name end e at = omega (arith, last_start_of-name s name e, at)
 
--- the index in s where the stem of this name ends, if there is a name
+-- the index in s where the stem of the file name `name` ends, or None if `name` is None
 abbrev pub stem_end_by : List ℕ → Option (List ℕ) → Option ℕ
 stem_end_by s name = option_map (λ stem. last_start_of (parts s) + length stem)
     (option_map (λ name. (split_name name).0) name)
 
--- without a file name there is no index where its stem ends
+-- if s has no file name, there is no index where the stem ends
 pub stem_end_of-none : (s : List ℕ) → None ≡ file_name_of (values s) → None ≡ stem_end_of s
 unfolding stem_end_of
 stem_end_of-none s e = ap (stem_end_by s) e
 
--- if the last component ends at index `end` and is the file name, the stem ends at `end`, less the
--- length of the name, plus the length of the stem
+-- if s has the file name `name` with the stem `stem`, and s without its trailing filler has `end`
+-- bytes, the stem ends at `end`, less the length of `name`, plus the length of `stem`
 pub stem_end_of-some : {stem : List ℕ} (s name : List ℕ) (end : ℕ)
     → Some name ≡ file_name_of (values s) → end ≡ length (rest s 0 0)
     → stem ≡ (split_name name).0 → Some (end - length name + length stem) ≡ stem_end_of s
@@ -115,7 +117,7 @@ stem_end_of-some {stem} s name end e at is =
     omega (arith, at, ap length is) in
     ap Some to ∙ ap (stem_end_by s) e
 
--- a path without trailing filler, `rest s 0 0`, is no longer than the path
+-- s without its trailing filler, `rest s 0 0`, is no longer than s
 pub length-rest_whole-le : (s : List ℕ) → length (rest s 0 0) ≤ length s
 length-rest_whole-le s =
     omega (arith, ap length (take-rest s 0), length-take (length (rest s 0 0)) s)

@@ -23,13 +23,15 @@ use Rattle.unix_path.specs.Steps.{AreApart, HasMore, AfterFiller, SharesPrefix}
 abbrev values_of : List Part → List Value
 values_of = map (λ p. p.value)
 
--- the inner components of a string are the components of the string without its leading filler
+-- if t is s without its leading filler (`AfterFiller`), the inner components of s are the
+-- components of t
 pub values-past : (s t : List ℕ) → AfterFiller s t → inner_values s ≡ values t
 values-past s t h =
     ap values_of (h.filler 0) ∙ values-inner_parts (0 + h.len) t
     ∙ sym (values-not_filler t h.not_filler)
 
--- the components of the first string are the shared components and then those of its rest
+-- if x is the rest of a after components that a and b share, the components of a are the shared
+-- ones and then the inner components of x
 values-first : {a b x y : List ℕ} (h : SharesPrefix a b x y)
     → values a ≡ values_of h.shared ++ inner_values x
 unfolding values
@@ -37,15 +39,16 @@ values-first {x = x} h =
     ap values_of h.first ∙ map-append (λ (p : Part). p.value) h.shared (inner_parts h.at x)
     ∙ ap (λ vs. values_of h.shared ++ vs) (values-inner_parts h.at x)
 
--- if x and y are the rests of a and b after the same components, x and y are in the same order as a
--- and b
+-- if x and y are the rests of a and b after the same components, the inner components of x and y
+-- are in the same order as a and b
 pub values_cmp-shared : {a b x y : List ℕ} → SharesPrefix a b x y
     → values_cmp (inner_values x) (inner_values y) ≡ values_cmp (values a) (values b)
 values_cmp-shared {x = x} {y = y} h =
     sym (ap₂ values_cmp (values-first h) h.second
     ∙ values_cmp-common (values_of h.shared) (inner_values x) (inner_values y))
 
--- `SharesPrefix` still holds after the filler at the beginning of both rests is skipped
+-- if x and y are the rests of a and b after the same components, so are t and u, which are x and y
+-- without their leading filler
 pub shares-past : {a b x y t u : List ℕ} → SharesPrefix a b x y → AfterFiller x t → AfterFiller y u
     → SharesPrefix a b t u
 shares-past {a} {y = y} {t = t} {u = u} h past_x past_y = record {
@@ -67,8 +70,8 @@ past-nil = record {
   not_filler = refl;
 }
 
--- if t and u are rests of a and b after the same components, and x and y are rests of t and u after
--- the same components, then x and y are such rests of a and b
+-- if t and u are the rests of a and b after the same components, and begin with no filler, and x
+-- and y are the rests of t and u after the same components, then x and y are such rests of a and b
 pub shares-onward : {a b t u x y : List ℕ} → SharesPrefix a b t u → is_filler t 0 ≡ false
     → is_filler u 0 ≡ false → SharesPrefix t u x y → SharesPrefix a b x y
 shares-onward {a} {t = t} {u = u} {x = x} {y = y} h busy_t busy_u g =
@@ -95,14 +98,14 @@ shares-onward {a} {t = t} {u = u} {x = x} {y = y} h busy_t busy_u g =
           (sym (map-append (λ (p : Part). p.value) h.shared more));
     }
 
--- if a list is a prefix of another, it stays a prefix if the same components are removed from the
--- beginning of both
+-- if v followed by w is a prefix of v followed by x, then w is a prefix of x
 pub begins_past : (v w x : List Value) → IsPrefixOf (v ++ w) (v ++ x) → IsPrefixOf w x
 begins_past [] w x h = h
 begins_past (y ∷ v) w x h = begins_past v w x (begins_tail y y (v ++ w) (v ++ x) h).1
 
--- `AreApart` holds for two strings, with the same order, if it holds for their rests after the same
--- components, and these rests begin with no filler
+-- if t and u are the rests of a and b after the same components, and begin with no filler, and t
+-- doesn't start with u, and `order` is their order (`AreApart`), then a doesn't start with b, and
+-- `order` is the order of a and b
 pub apart-shared : {a b t u : List ℕ} {order : Ordering} → SharesPrefix a b t u
     → is_filler t 0 ≡ false → is_filler u 0 ≡ false → AreApart t u order → AreApart a b order
 apart-shared {a} {b} {t} {u} h busy_t busy_u apart = record {
@@ -117,14 +120,15 @@ apart-shared {a} {b} {t} {u} h busy_t busy_u apart = record {
       (subst (λ vs. IsPrefixOf vs (values a)) h.second begins)))));
 }
 
--- if the rest of `base` is empty, the shared components are all components of `base`
+-- if the rest of `base` after the components that s and `base` share is empty, these are all
+-- components of `base`
 shared_is : {s base rest_bytes : List ℕ} (h : SharesPrefix s base rest_bytes [])
     → values base ≡ values_of h.shared
 shared_is h =
     h.second ∙ ap (λ vs. values_of h.shared ++ vs) inner_values-nil
     ∙ append-nil (values_of h.shared)
 
--- if the rest of `base` is empty, s starts with the components of `base`
+-- if the rest of `base` after the components that s and `base` share is empty, s starts with `base`
 pub begins-rest_bytes : {s base rest_bytes : List ℕ} → SharesPrefix s base rest_bytes []
     → IsPrefixOf (values base) (values s)
 begins-rest_bytes {rest_bytes = rest_bytes} h = (
@@ -133,8 +137,9 @@ begins-rest_bytes {rest_bytes = rest_bytes} h = (
       ∙ sym (values-first h),
 )
 
--- if the rest of `base` is empty, and the rest `rest_bytes` of s begins with no filler and ends in
--- a component, `rest_bytes` is s without as many leading components as `base` has
+-- if the rest of `base` after the components that s and `base` share is empty, and the rest
+-- `rest_bytes` of s has no leading and no trailing filler, then `rest_bytes` is s without as many
+-- leading components as `base` has
 pub rest-rest_bytes : {s base rest_bytes : List ℕ} (h : SharesPrefix s base rest_bytes [])
     → is_filler rest_bytes 0 ≡ false
     → EndsInPart rest_bytes → rest s (length (values base)) 0 ≡ rest_bytes
@@ -159,7 +164,8 @@ rest-rest_bytes {s} {base} {rest_bytes} h not_filler ends =
       ends = ends;
     })
 
--- if the rest of a is empty, and the rest u of b is not, b has all components of a and then more
+-- if the rest of a after the components that a and b share is empty, and the rest u of b is not
+-- empty and begins with no filler, then b has all components of a and then more
 pub more-rest_bytes : {a b u : List ℕ} → SharesPrefix a b [] u → is_filler u 0 ≡ false → 0
     < length u
     → HasMore a b

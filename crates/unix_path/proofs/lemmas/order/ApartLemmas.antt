@@ -1,5 +1,5 @@
--- Two strings whose order is decided by the bytes at their first difference. Two strings are called
--- apart, in an order, if `AreApart` holds for them and this order.
+-- Two strings whose order is decided by the bytes at their first difference. `AreApart` says that
+-- the first string doesn't start with the second, and in which order they are.
 use Rattle.std.proofs.Common.{◌≡◌, ℕ, zero, suc, ◌+◌, ◌-◌, ◌<◌, ◌≤◌, ◌||◌, true, false, eqb, List}
 use Rattle.std.proofs.Common.{[], ◌∷◌, ◌++◌, length, get_or, take, drop, map, refl, sym, ap, ◌∙◌}
 use Rattle.std.proofs.Common.{arith, take-append-drop, append_assoc, get_or-drop, length-drop}
@@ -30,7 +30,7 @@ use Rattle.unix_path.proofs.lemmas.parts.PartLemmas.{values-nil}
 use Rattle.unix_path.proofs.lemmas.parts.PieceLemmas.{first_piece, first_piece-other}
 use Rattle.unix_path.proofs.lemmas.lists.PrefixLemmas.{begins_tail}
 
--- if two strings have the same `piece_rank` at their first difference, a piece of each ends there
+-- if a and b have the same `piece_rank` at their first difference n, a piece of each ends at n
 pub ranks_end : (a b : List ℕ) (n : ℕ) → n ≡ common_prefix_len eqb a b
     → piece_rank a n ≡ piece_rank b n → piece_rank a n ≡ 0
 ranks_end [] b n is same = refl
@@ -38,8 +38,9 @@ ranks_end (x ∷ a) [] n is same = same
 ranks_end (x ∷ a) (y ∷ b) zero is same = grind arith
 ranks_end (x ∷ a) (y ∷ b) (suc n) is same = grind (arith, ranks_end a b n)
 
--- a and b are apart if the components s and t, which come after the same components v in a and in
--- b, are in the order of two different numbers x and y
+-- if a has the components v, then s, then ss, b has the components v, then t, then ts, and s and t
+-- are in the order of the different numbers x and y, then a doesn't start with b, and this is the
+-- order of a and b
 pub apart-values : {a b : List ℕ} (v : List Value) (s t : Value) (ss ts : List Value) (x y : ℕ)
     → values a ≡ v ++ s ∷ ss → values b ≡ v ++ t ∷ ts → value_cmp s t ≡ nat_cmp x y
     → (x ≡ y → ⊥) → AreApart a b (nat_cmp x y)
@@ -52,22 +53,21 @@ apart-values v s t ss ts x y first second order differs = record {
       ∙ tied_itself value_cmp-total s));
 }
 
--- if a string starts with a prefix without a slash, its first piece is the prefix and the first
--- piece of what follows
+-- if p has no slash, the first piece of p followed by x is p followed by the first piece of x
 pub first_piece-after : (p x : List ℕ) → position_or_len is_slash p ≡ length p
     → first_piece (p ++ x) ≡ p ++ first_piece x
 first_piece-after [] x none = refl
 first_piece-after (b ∷ p) x none =
     grind (arith, first_piece-other b (p ++ x), first_piece-after p x)
 
--- the components of a string after its first piece
+-- the components of s after its first piece
 abbrev later_values : List ℕ → List Value
 later_values s =
     let n = position_or_len is_slash s in
     map (λ (p : Part). p.value) (inner_parts (0 + n) (drop n s))
 
--- if the first piece p of s is neither empty nor `.`, the first component of s is that of p, and s
--- has the same components as after a slash
+-- if the first piece p of s is neither empty nor `.`, the components of s are the component of p
+-- and then the components after it, and are the same as the inner components of s
 values-first : (s p : List ℕ) → first_piece s ≡ p → (bytes_eq p [] || bytes_eq p cur_dir) ≡ false
     → (values s ≡ value_of_piece p ∷ later_values s) × (values s ≡ inner_values s)
 unfolding values
@@ -82,9 +82,9 @@ values-first (b ∷ s) p is h =
       whole,
     )
 
--- if the last piece of w and the first piece of x together are a piece for which `Counts` holds, w
--- ++ x has the components before this piece, the component of this piece, and the components after
--- it
+-- if the last piece of w, which begins at k, and the first piece of x together are a piece for
+-- which `Counts` holds, the components of w followed by x are those of the first k bytes of w, then
+-- the component of this piece, and then those after it
 values-piece : (w x : List ℕ) (k : ℕ) → IsLastStart w k → Counts (drop k w) (first_piece x)
     → values (w ++ x) ≡ values (take k w)
     ++ value_of_piece (drop k w ++ first_piece x) ∷ later_values (drop k w ++ x)
@@ -104,12 +104,13 @@ values-piece w x (suc k) start h =
     ap values (ap (λ u. u ++ x) (sym (take-append-drop (suc k) w)) ∙ append_assoc f p x)
     ∙ after ∙ ap (λ v. values f ++ v) (sym first.1 ∙ first.0)
 
--- s has a byte at n, which is neither a slash nor a dot
+-- s has a byte at n, and this byte is neither a slash nor a dot
 abbrev IsInName : List ℕ → ℕ → Type 0
 IsInName s n = (piece_rank s n ≡ 0 → ⊥) × (piece_rank s n ≡ 47 → ⊥)
 
--- a and b are apart, in the order of the bytes at their first difference n, if these bytes are
--- neither slashes nor dots, or if more than a dot comes before them in their pieces
+-- if a and b have different `piece_rank`s at their first difference n, and either both have a byte
+-- at n that is neither a slash nor a dot, or the bytes of the piece before n are neither none nor a
+-- single dot, then a doesn't start with b, and these ranks decide the order of a and b
 apart-after : (a b : List ℕ) (n : ℕ) → n ≡ common_prefix_len eqb a b
     → (piece_rank a n ≡ piece_rank b n → ⊥)
     → ((k : ℕ) → is_piece_start a k ≡ true → k ≤ n → n ≤ k + 1 → (k < n → get_or a k 0 ≡ 46)
@@ -142,8 +143,8 @@ apart-after a b n is differs in_name =
     (rw (head_rank-drop a n, head_rank-drop b n) differs)))
     differs
 
--- a and b are apart if both have a byte at their first difference n, and these bytes are neither
--- slashes nor dots
+-- if a and b both have a byte at their first difference n, and these bytes are neither slashes nor
+-- dots, then a doesn't start with b, and these bytes decide the order of a and b
 pub apart-here : (a b : List ℕ) (n : ℕ) → n ≡ common_prefix_len eqb a b
     → (piece_rank a n ≡ 0 → ⊥) → (piece_rank a n ≡ 47 → ⊥)
     → (piece_rank b n ≡ 0 → ⊥) → (piece_rank b n ≡ 47 → ⊥)
@@ -152,8 +153,9 @@ apart-here a b n is end_a dot_a end_b dot_b =
     apart-after a b n is (λ e. end_a (ranks_end a b n is e))
     (λ k _ _ _ _. ((end_a, dot_a), (end_b, dot_b)))
 
--- a and b are apart if their pieces at the first difference n have bytes before n, other than a
--- single dot
+-- if a and b have different `piece_rank`s at their first difference n, and the bytes of the piece
+-- before n are neither none nor a single dot, then a doesn't start with b, and these ranks decide
+-- the order of a and b
 pub apart-inside : (a b : List ℕ) (n : ℕ) → n ≡ common_prefix_len eqb a b
     → is_piece_start a n ≡ false → (get_or a (n - 1) 0 ≡ 46 → is_piece_start a (n - 1) ≡ false)
     → (piece_rank a n ≡ piece_rank b n → ⊥)

@@ -15,8 +15,8 @@ use Rattle.unix_path.proofs.lemmas.order.AfterCutLemmas.{values_cmp-shared}
 use Rattle.unix_path.proofs.lemmas.names.NameLemmas.{after_last-byte}
 use Rattle.unix_path.proofs.lemmas.order.PairLemmas.{cuts-begins}
 
--- an index in the common prefix is the end of the common directory if it is 0 or just after a
--- slash, and no slash of the common prefix follows it
+-- if n is an index in the common prefix of a and b, n is 0 or just after a slash, and no slash of
+-- the common prefix follows, then n is the end of the common directory of a and b (`common_dir_of`)
 pub common_dir_of-is : (a b : List ℕ) (common n : ℕ) → common ≡ common_prefix_len eqb a b
     → n ≤ length (take common a) → (0 < n → get_or (take common a) (n - 1) 0 ≡ slash)
     → position_or_len is_slash (drop n (take common a)) ≡ length (drop n (take common a))
@@ -45,7 +45,8 @@ after_last-slash s some =
     not_false true e = refl
     not_false false e = cc
 
--- if two strings have a common directory, their rests after it come after the same components
+-- if a and b have a common directory, the bytes of a and b after it are their rests after the same
+-- components
 pub shares-common_dir : (a b : List ℕ) → 0 < common_dir_of a b
     → SharesPrefix a b (drop (common_dir_of a b) a) (drop (common_dir_of a b) b)
 unfolding common_dir_of
@@ -59,7 +60,8 @@ shares-common_dir a b some =
     let cut = cuts-begins a b m n refl inside (rw (other, here) refl) in
     cut.shares some
 
--- if two strings have a common directory, their rests after it decide the order of the strings
+-- if a and b have a common directory, a and b are in the order of the inner components of their
+-- rests after it
 pub values_cmp-common_dir : (a b : List ℕ) → 0 < common_dir_of a b
     → values_cmp (values a) (values b)
     ≡ values_cmp (inner_values (drop (common_dir_of a b) a))

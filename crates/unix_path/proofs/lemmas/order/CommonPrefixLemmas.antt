@@ -17,7 +17,7 @@ use Rattle.unix_path.proofs.lemmas.parts.PieceLemmas.{inner_parts-nil}
 use Rattle.unix_path.proofs.lemmas.parts.PlaceLemmas.{values-inner_parts}
 use Rattle.unix_path.proofs.lemmas.filler.TrimLemmas.{parts-append, parts-slash}
 
--- a string's components are its leading part and its inner components
+-- the components of s are its root or leading `.`, if it has one, and then its inner components
 pub values-leading : (s : List ℕ)
     → values s ≡ map (λ (p : Part). p.value) (leading_part s) ++ inner_values s
 unfolding values parts
@@ -26,7 +26,7 @@ values-leading s = map-append (λ (p : Part). p.value) (leading_part s) (inner_p
 pub inner_values-nil : inner_values [] ≡ []
 inner_values-nil = ap (map (λ (p : Part). p.value)) (inner_parts-nil 0)
 
--- the components of a ++ slash ++ b, where a is not empty, are those of a, and then the inner
+-- if a is not empty, the components of a, a slash and b are the components of a, and then the inner
 -- components of b
 pub values-slash : (a b : List ℕ) → 0 < length a
     → values (a ++ slash ∷ b) ≡ values a ++ inner_values b
@@ -38,8 +38,8 @@ values-slash a b l =
     ∙ map-append (λ (p : Part). p.value) (parts a) (inner_parts n b)
     ∙ ap (λ vs. map (λ (p : Part). p.value) (parts a) ++ vs) (values-inner_parts n b)
 
--- if b is appended to a string that ends in a slash, the inner components of b are appended to the
--- string's components, with their positions
+-- the components of f, a slash and b are the components of f and the slash, and then the inner
+-- components of b, at their positions after the slash
 pub parts-past_slash : (f b : List ℕ)
     → parts ((f ++ slash ∷ []) ++ b)
     ≡ parts (f ++ slash ∷ []) ++ inner_parts (length (f ++ slash ∷ [])) b
@@ -49,8 +49,8 @@ parts-past_slash f b =
     ∙ ap (λ n. parts g ++ inner_parts n b) {x = 0 + length f + 1} {y = length g}
     (omega (arith, length-append f (slash ∷ [])))
 
--- if b is appended to a string that ends in a slash, the inner components of b are appended to the
--- string's components, without their positions
+-- without positions, the components of f, a slash and b are the components of f and the slash, and
+-- then the inner components of b
 pub values-past_slash : (f b : List ℕ)
     → values ((f ++ slash ∷ []) ++ b) ≡ values (f ++ slash ∷ []) ++ inner_values b
 unfolding values
@@ -60,7 +60,8 @@ values-past_slash f b =
     ∙ map-append (λ (p : Part). p.value) (parts g) (inner_parts (length g) b)
     ∙ ap (λ vs. map (λ (p : Part). p.value) (parts g) ++ vs) (values-inner_parts (length g) b)
 
--- a common prefix of two lists doesn't change their order
+-- if R is a total order, two lists that begin with the same list v are in the order of the rests w
+-- and x after it
 pub slice_cmp-common : {A : Type 0} {R : A → A → Ordering} → IsTotalOrder R → (v w x : List A)
     → slice_cmp R (v ++ w) (v ++ x) ≡ slice_cmp R w x
 slice_cmp-common order [] w x = refl
@@ -68,11 +69,13 @@ slice_cmp-common {R = R} order (y ∷ v) w x =
     ap (λ o. ordering_then o (slice_cmp R (v ++ w) (v ++ x))) (tied_itself order y)
     ∙ slice_cmp-common order v w x
 
--- a common prefix of two lists of components doesn't change their order
+-- two lists of components that begin with the same list v are in the order of the rests w and x
+-- after it
 pub values_cmp-common : (v w x : List Value) → values_cmp (v ++ w) (v ++ x) ≡ values_cmp w x
 values_cmp-common = slice_cmp-common value_cmp-total
 
--- two strings with the same bytes up to a slash are in the order of the inner components after it
+-- if two strings begin with f and a slash, they are in the order of the inner components of their
+-- rests a and b after the slash
 pub values_cmp-slash : (f a b : List ℕ)
     → values_cmp (values (f ++ slash ∷ a)) (values (f ++ slash ∷ b))
     ≡ values_cmp (inner_values a) (inner_values b)
@@ -83,8 +86,8 @@ values_cmp-slash f a b =
     ap₂ values_cmp (after a) (after b)
     ∙ values_cmp-common (values g) (inner_values a) (inner_values b)
 
--- if the last of the first n bytes of a string is a slash, these bytes are the first n - 1 bytes
--- and the slash
+-- if the last of the first n bytes of s is a slash, these bytes are the first n - 1 bytes of s and
+-- the slash
 pub take-past_slash : (s : List ℕ) (n : ℕ) → 0 < n → n ≤ length s → get_or s (n - 1) 0 ≡ slash
     → take n s ≡ take (n - 1) s ++ slash ∷ []
 take-past_slash s n some l is =
@@ -92,13 +95,13 @@ take-past_slash s n some l is =
     ap (λ k. take k s) {x = n} {y = i + 1} (omega arith) ∙ take_more s i 0 (omega arith)
     ∙ ap (λ b. take i s ++ b ∷ []) is
 
--- equal strings compare as equal
+-- if a and b are the same string, they compare as equal
 pub values_cmp-equal_strings : (a b : List ℕ) → a ≡ b → Equal ≡ values_cmp (values a) (values b)
 values_cmp-equal_strings a b e =
     sym (ap (λ t. values_cmp (values a) (values t)) (sym e)
     ∙ tied_itself values_cmp-total (values a))
 
--- two strings have the same bytes within their common prefix
+-- if n is at most the length of the common prefix of a and b, they have the same first n bytes
 pub take-common : (a b : List ℕ) (n : ℕ) → n ≤ common_prefix_len eqb a b → take n a ≡ take n b
 take-common [] [] n l = refl
 take-common [] (y ∷ b) zero l = refl
@@ -111,7 +114,7 @@ take-common (x ∷ a) (y ∷ b) (suc n) l = by_test (eqb x y)
     ap₂ (λ z zs. z ∷ zs) (eqb-true x y e) (take-common a b n (omega arith)))
     (λ e. let m : suc n ≤ 0 = rw e at l in absurd (omega arith))
 
--- two strings are the same if their common prefix is all of both
+-- if the common prefix of a and b is as long as a and as long as b, a and b are the same
 pub common_prefix_len-whole : (a b : List ℕ) → common_prefix_len eqb a b ≡ length a
     → common_prefix_len eqb a b ≡ length b → a ≡ b
 common_prefix_len-whole a b e f =

@@ -15,7 +15,7 @@ pub record SomeValue (s : List ℕ) : Type 0 where
   pub others : List Value
   pub is : values s ≡ first ∷ others
 
--- a string that is not empty has a component
+-- if s is not empty, it has a component
 pub some_value : (s : List ℕ) → 0 < length s → SomeValue s
 unfolding values
 some_value s l =
@@ -26,7 +26,7 @@ some_value s l =
       is = ap (map (λ p. p.value)) h.is;
     }
 
--- two strings of which at least one is empty are in the order of their lengths
+-- if s or t is empty, s and t are in the order of their lengths
 pub values_cmp-end : (s t : List ℕ) → (0 < length s → length t ≡ 0)
     → nat_cmp (length s) (length t) ≡ values_cmp (values s) (values t)
 values_cmp-end [] [] h = sym (ap₂ values_cmp values-nil values-nil)

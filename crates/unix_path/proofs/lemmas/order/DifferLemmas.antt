@@ -16,19 +16,20 @@ use Rattle.unix_path.proofs.lemmas.parts.PieceLemmas.{first_piece-slash}
 pub rank_end : (s : List ℕ) (i : ℕ) → piece_rank s i ≡ 0 → get_or s i 47 ≡ 47
 rank_end s i e = grind arith
 
--- one more than the first byte of a piece, or 0 if the piece is empty
+-- the first byte of a piece, plus 1; or 0 if the piece is empty
 abbrev pub head_rank : List ℕ → ℕ
 head_rank [] = 0
 head_rank (b ∷ p) = 1 + b
 
--- `head_rank` of the piece that starts at n is `piece_rank s n`
+-- the `head_rank` of the bytes of s from n up to the next slash is `piece_rank s n`
 pub head_rank-drop : (s : List ℕ) (n : ℕ) → head_rank (first_piece (drop n s)) ≡ piece_rank s n
 head_rank-drop [] zero = refl
 head_rank-drop [] (suc n) = refl
 head_rank-drop (b ∷ s) zero = grind (arith, first_piece-slash b s, first_piece-other b s)
 head_rank-drop (b ∷ s) (suc n) = head_rank-drop s n
 
--- pieces whose first bytes differ are in the order of these bytes
+-- if q and r have different `head_rank`s, so that their first bytes differ or only one of them is
+-- empty, they are in the order of these ranks
 pub slice_cmp-heads : (q r : List ℕ) → (head_rank q ≡ head_rank r → ⊥)
     → slice_cmp nat_cmp q r ≡ nat_cmp (head_rank q) (head_rank r)
 slice_cmp-heads [] [] differs = absurd (differs refl)
@@ -41,7 +42,8 @@ pub record Counts (p q : List ℕ) : Type 0 where
   pub counts : (bytes_eq (p ++ q) [] || bytes_eq (p ++ q) cur_dir) ≡ false
   pub parent : bytes_eq (p ++ q) parent_dir ≡ true → head_rank q ≡ 0
 
--- `Counts` holds for p and q if q begins with a byte that isn't a dot, or p is more than a dot
+-- if p is neither empty nor a dot, or q is not empty and begins with a byte that isn't a dot, then
+-- the piece `p ++ q` is neither empty nor `.`, and if it is `..`, q is empty (`Counts`)
 pub counts_from : (p q : List ℕ) → (length p ≤ 1 → get_or p 0 46 ≡ 46
     → (head_rank q ≡ 0 → ⊥) × (head_rank q ≡ 47 → ⊥)) → Counts p q
 counts_from [] [] h = absurd ((h (omega arith) refl).0 refl)
@@ -58,8 +60,8 @@ counts_from (c ∷ d ∷ []) [] h = record { counts = grind arith; parent = λ e
 counts_from (c ∷ d ∷ []) (b ∷ q) h = record { counts = grind arith; parent = λ e. grind arith }
 counts_from (c ∷ d ∷ b ∷ p) q h = record { counts = grind arith; parent = λ e. grind arith }
 
--- if `Counts` holds for p and q, and for p and r, and the first bytes of q and r differ, the pieces
--- p ++ q and p ++ r are in the order of these bytes
+-- if `Counts` holds for p and q, and for p and r, and q and r have different `head_rank`s, then the
+-- components of the pieces `p ++ q` and `p ++ r` are in the order of these ranks
 pub value_cmp-pieces : (p q r : List ℕ) → Counts p q → Counts p r
     → (head_rank q ≡ head_rank r → ⊥)
     → value_cmp (value_of_piece (p ++ q)) (value_of_piece (p ++ r))

@@ -1,5 +1,5 @@
--- The writes of eight bytes that a component feeds to a hasher: its bytes first, and the terminator
--- in the last write.
+-- The writes of eight bytes with which a component is fed to a hasher: first its bytes, and in the
+-- last write the beginning of the terminator.
 use Rattle.std.proofs.Common.{◌≡◌, ℕ, suc, ◌/◌, ◌<◌, ◌≤◌, List, [], ◌∷◌, ◌++◌}
 use Rattle.std.proofs.Common.{length, get_or, take, drop, map, refl, sym, ap, ap₂, ◌∙◌, arith}
 use Rattle.std.proofs.Common.{length-append, length-drop, zero, rules, Fits, w8, w64}
@@ -12,7 +12,8 @@ use Rattle.std.proofs.lemmas.List.FromFn.{fill_by_all}
 use Rattle.std.proofs.lemmas.Nat.{le_bytes_8}
 use Rattle.unix_path.specs.Hashed.{terminator, in_eights}
 
--- if s has at least eight bytes, its first eight are fed, and then the rest with the terminator
+-- if s has at least eight bytes, the writes of s and the terminator are the first eight bytes of s,
+-- and then the writes of the rest of s and the terminator
 pub in_eights-more : (s : List ℕ) → 8 ≤ length s
     → in_eights (s ++ terminator) ≡ take 8 s ∷ in_eights (drop 8 s ++ terminator)
 unfolding in_eights
@@ -26,7 +27,8 @@ in_eights-more s h =
     ∙ ap₂ (λ p r. p ∷ first_chunks 8 (length rest / 8) r) (take-append-le 8 s terminator h)
     (drop-append-le 8 s terminator h)
 
--- if s has fewer than eight bytes, they are fed in one write, with the beginning of the terminator
+-- if s has fewer than eight bytes, s and the terminator are fed in one write, of their first eight
+-- bytes
 pub in_eights-last : (s : List ℕ) → length s < 8
     → in_eights (s ++ terminator) ≡ take 8 (s ++ terminator) ∷ []
 unfolding in_eights
@@ -45,15 +47,16 @@ AreBytes-append [] t h k i = k i
 AreBytes-append (x ∷ s) t h k zero = h 0
 AreBytes-append (x ∷ s) t h k (suc i) = AreBytes-append s t (λ i. h (suc i)) k i
 
--- if s consists of bytes, so do its first n numbers
+-- if s consists of bytes, each of its first n numbers is less than 256
 AreBytes-take : (n : ℕ) (s : List ℕ) → AreBytes s → (i : ℕ) → get_or (take n s) i 0 < 256
 AreBytes-take zero s h i = omega arith
 AreBytes-take (suc n) [] h i = omega arith
 AreBytes-take (suc n) (x ∷ s) h zero = omega (arith, h 0)
 AreBytes-take (suc n) (x ∷ s) h (suc i) = AreBytes-take n s (λ i. h (suc i)) i
 
--- the number that is read, in little-endian order, from the first eight bytes of s and the
--- terminator consists of these eight bytes; s has k bytes
+-- if s consists of k bytes, and n is the number that is read, in little-endian order, from the
+-- first eight bytes of s and the terminator, then the eight little-endian bytes of n are these
+-- bytes
 pub le_bytes-last : (s : List ℕ) (k n : ℕ) → length s ≡ k → AreBytes s
     → n ≡ from_le_bytes w64 (take 8 (map (λ i. get_or s i 0) (range_with_len 0 k) ++ terminator))
     → le_bytes 8 n ≡ take 8 (s ++ terminator)

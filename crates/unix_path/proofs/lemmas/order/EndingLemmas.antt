@@ -11,21 +11,22 @@ use Rattle.unix_path.proofs.lemmas.steps.LastLemmas.{last_part, last_start, IsLa
 use Rattle.unix_path.proofs.lemmas.lists.SuffixLemmas.{ends_last}
 use Rattle.unix_path.proofs.lemmas.parts.ValueLemmas.{first_value, value_bytes-first}
 
--- the byte before the last n bytes is one of the last k bytes, if n is less than k
+-- if n is less than k, the byte of s just before its last n bytes is one of the last k bytes of s,
+-- at index `k - 1 - n` among them
 from_end : (s : List ℕ) (n k : ℕ) → n < k → k ≤ length s
     → get_or s (length s - 1 - n) 0 ≡ get_or (drop (length s - k) s) (k - 1 - n) 0
 from_end s n k more inside = grind (arith, get_or-drop)
 
--- if a common suffix of two strings has more than n bytes, both have the same byte before their
--- last n bytes
+-- if a and b have a common suffix of k bytes without a slash, and n is less than k, the byte just
+-- before the last n bytes of a equals the byte just before the last n bytes of b
 pub same_end_byte : (a b : List ℕ) (n k : ℕ) → HasCommonSuffix a b k → n < k
     → get_or a (length a - 1 - n) 0 ≡ get_or b (length b - 1 - n) 0
 same_end_byte a b n k h more =
     from_end a n k more h.in_first ∙ ap (λ w. get_or w (k - 1 - n) 0) h.same
     ∙ sym (from_end b n k more h.in_second)
 
--- if a common suffix that contains no slash has more than n bytes, the byte before the last n bytes
--- is not a slash
+-- if a and b have a common suffix of k bytes without a slash, and n is less than k, the byte just
+-- before the last n bytes of a is not a slash
 pub same_end_no_slash : (a b : List ℕ) (n k : ℕ) → HasCommonSuffix a b k → n < k
     → get_or a (length a - 1 - n) 0 ≡ 47 → ⊥
 same_end_no_slash a b n k h more slash =
@@ -33,11 +34,11 @@ same_end_no_slash a b n k h more slash =
     let none = fails_before_first is_slash (drop (length a - k) a) (k - 1 - n) 0 in
     grind (arith, slash, is, none, h.no_slash)
 
--- the byte before the last n bytes of two strings, if they have a common suffix of more than n
--- bytes
+-- the two lemmas above, about the byte just before the last n bytes
 pub ruleset longer_ends = (same_end_byte, same_end_no_slash)
 
--- the last k bytes are the last piece if they contain no slash and a piece begins with them
+-- if the last k bytes of s contain no slash, and a piece begins with them, they are the last piece
+-- of s
 last_at : (s : List ℕ) (k : ℕ) → k ≤ length s
     → position_or_len is_slash (drop (length s - k) s) ≡ k
     → is_piece_start s (length s - k) ≡ true → IsLastStart s (length s - k)
@@ -47,17 +48,18 @@ last_at s k inside none begins = record {
   no_slash = omega (arith, none, length-drop (length s - k) s);
 }
 
--- where the last piece begins, a piece begins
+-- if the last piece of s begins at `start`, a piece begins at `start`
 begins_last : (s : List ℕ) (start : ℕ) → IsLastStart s start → is_piece_start s start ≡ true
 begins_last s start h = grind (arith, h.after_slash)
 
--- a last piece that is the last component of its string is not empty
+-- if the last piece of s, which begins at `start`, is the last component of s, this piece is not
+-- empty
 starts_inside : (s : List ℕ) (start : ℕ) → IsLastStart s start → EndsInPiece s → start < length s
 starts_inside s start h ends =
     grind (arith, h.in_range, h.after_slash, ends.some, ends.no_slash)
 
--- if the last piece of a string is its last component, the components are those before the piece,
--- and then the component of the piece
+-- if the last piece of s, which begins at `start`, is the last component of s, the components of s
+-- are those of its first `start` bytes, and then the component of the piece
 last_is : (s : List ℕ) (start : ℕ) → IsLastStart s start → EndsInPiece s
     → values s ≡ values (take start s) ++ first_value (drop start s) ∷ []
 unfolding values
@@ -66,8 +68,9 @@ last_is s start h ends =
     ap (map (λ (p : Part). p.value)) all
     ∙ map-append (λ (p : Part). p.value) (parts (take start s)) _
 
--- if a piece begins in both strings where their common suffix begins, the last components are the
--- same
+-- if a and b end in their last components, have a common suffix of k bytes without a slash, and a
+-- piece of each begins where this suffix begins, then the components of a and b are those of the
+-- bytes before this suffix, each followed by the same components
 pub shares_last : (a b : List ℕ) (k : ℕ) → EndsInPiece a → EndsInPiece b → HasCommonSuffix a b k
     → is_piece_start a (length a - k) ≡ true → is_piece_start b (length b - k) ≡ true
     → SharesSuffix (values a) (values b) (values (take (length a - k) a))
@@ -81,8 +84,9 @@ shares_last a b k first second h begins_a begins_b =
           ∙ ap (λ p. values (take (length b - k) b) ++ first_value p ∷ []) (sym h.same);
     }
 
--- if the components of a end with the components of b, a piece begins in both strings where their
--- longest common suffix begins
+-- if a and b end in their last components, k is the length of their longest common suffix without a
+-- slash, and the components of a end with the components of b, then a piece of each begins where
+-- this suffix begins
 pub ends_longest : (a b : List ℕ) (k : ℕ) → EndsInPiece a → EndsInPiece b → HasCommonSuffix a b k
     → ((n : ℕ) → HasCommonSuffix a b n → n ≤ k) → IsSuffixOf (values b) (values a)
     → (is_piece_start a (length a - k) ≡ true) × (is_piece_start b (length b - k) ≡ true)
@@ -113,5 +117,6 @@ ends_longest a b k first second h longest ends =
       subst (λ i. is_piece_start b i ≡ true) start_b (begins_last b e at_b),
     )
 
--- the byte before the longest common suffix shows whether the last components are the same
+-- the two lemmas above: the byte before the longest common suffix shows whether the last components
+-- are the same
 pub ruleset last_parts = (shares_last, ends_longest)

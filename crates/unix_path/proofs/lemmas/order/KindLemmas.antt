@@ -21,7 +21,8 @@ use Rattle.unix_path.proofs.lemmas.parts.PieceLemmas.{first_piece, first_piece-o
 use Rattle.unix_path.proofs.lemmas.lists.PrefixLemmas.{begins_tail}
 use Rattle.unix_path.proofs.lemmas.parts.ValueLemmas.{first_value, value_bytes-first}
 
--- the first three bytes determine the kind of the first component
+-- the `first_rank` of the components of s is 0 if s is empty, 1 if s begins with a slash, 2 if its
+-- first piece is `.`, 3 if its first piece is `..`, and otherwise 4
 pub first_rank_of : (s : List ℕ) → first_rank (values s) ≡ cond (eqb (length s) 0) 0
     (cond (eqb (get_or s 0 0) 47) 1 (cond (is_filler s 0) 2 (cond (starts_with_parent_dir s) 3 4)))
 unfolding values
@@ -36,7 +37,8 @@ first_rank_of (b ∷ s) =
       first_value-name (b ∷ s),
     )
 
--- paths whose first components are of different kinds are in the order of these kinds
+-- if the first components of v and w are of different kinds, or only one of v and w is empty, then
+-- v and w are in the order of their `first_rank`s
 pub values_cmp-ranks : (v w : List Value) → is_ne (nat_cmp (first_rank v) (first_rank w)) ≡ true
     → nat_cmp (first_rank v) (first_rank w) ≡ values_cmp v w
 values_cmp-ranks [] [] differs = absurd (false≢true differs)
@@ -44,7 +46,7 @@ values_cmp-ranks [] (w ∷ ws) differs = grind arith
 values_cmp-ranks (v ∷ vs) [] differs = grind arith
 values_cmp-ranks (v ∷ vs) (w ∷ ws) differs = grind arith
 
--- components of the same kind are in the order of their bytes
+-- if the components v and w are of the same kind, they are in the order of their bytes
 same_kind : (v w : Value) → rank v ≡ rank w
     → value_cmp v w ≡ slice_cmp nat_cmp (value_bytes v) (value_bytes w)
 same_kind v w same = rw (same, tied_itself nat_cmp_total (rank w)) refl
@@ -55,8 +57,9 @@ values-name : (s : List ℕ) → 0 < length s → eqb (get_or s 0 0) 47 ≡ fals
 unfolding values
 values-name s some other = (_, ap (map (λ (p : Part). p.value)) (parts-name s some other))
 
--- if two strings don't begin with a slash, have the same bytes before n, which is 0 or 1, and
--- differ at n, their first pieces are in the order of the bytes at n
+-- if two strings begin with the bytes x and y, which aren't slashes, have the same bytes before n,
+-- which is 0 or 1, and have different `piece_rank`s at n, their first pieces are in the order of
+-- these ranks
 first_piece-cmp : (x y : ℕ) (a b : List ℕ) (n : ℕ) → n ≤ 1 → (0 < n → x ≡ y)
     → eqb x 47 ≡ false → eqb y 47 ≡ false
     → (piece_rank (x ∷ a) n ≡ piece_rank (y ∷ b) n → ⊥)
@@ -75,8 +78,8 @@ first_piece-cmp x y a b (suc zero) l same first second differs =
     )
 first_piece-cmp x y a b (suc (suc n)) l same first second differs = absurd (omega arith)
 
--- if two paths differ at their start, and their first components are of the same kind, neither path
--- begins with a slash
+-- if two strings begin with the bytes x and y, which are different or both a dot, and their first
+-- components are of the same kind, then neither x nor y is a slash
 no_root : (x y : ℕ) (a b : List ℕ) (n : ℕ) → n ≡ common_prefix_len eqb (x ∷ a) (y ∷ b)
     → (0 < n → x ≡ 46) → first_rank (values (x ∷ a)) ≡ first_rank (values (y ∷ b))
     → (eqb x 47 ≡ false) × (eqb y 47 ≡ false)
@@ -84,8 +87,9 @@ no_root x y a b n is dot same =
     let first : eqb x 47 ≡ false = grind (arith, first_rank_of (x ∷ a), first_rank_of (y ∷ b)) in
     (first, grind (arith, first_rank_of (x ∷ a), first_rank_of (y ∷ b)))
 
--- if a and b differ at their start, their first components are of the same kind, and b isn't empty,
--- a and b are apart, in the order of the bytes at their first difference n
+-- if a and b differ at their start, at byte n, their first components are of the same kind, and b
+-- isn't empty, then a doesn't start with b, and the `piece_rank`s of a and b at n decide their
+-- order
 first_parts-same : (a b : List ℕ) (n : ℕ) → n ≡ common_prefix_len eqb a b → DiffersAtStart a b n
     → first_rank (values a) ≡ first_rank (values b) → 0 < length b
     → AreApart a b (nat_cmp (piece_rank a n) (piece_rank b n))
@@ -107,8 +111,8 @@ first_parts-same (x ∷ a) (y ∷ b) n is start same some =
     ∙ ap₂ (slice_cmp nat_cmp) (value_bytes-first p) (value_bytes-first q)
     ∙ first_piece-cmp x y a b n start.near equal other.0 other.1 differs) differs
 
--- if a and b differ at their start, and their first components are of the same kind or both are
--- empty, a and b are in the order of the bytes at their first difference n
+-- if a and b differ at their start, at byte n, and their first components are of the same kind or
+-- both a and b are empty, then a and b are in the order of their `piece_rank`s at n
 pub first_parts-cmp : (a b : List ℕ) (n : ℕ) → n ≡ common_prefix_len eqb a b → DiffersAtStart a b n
     → is_ne (nat_cmp (first_rank (values a)) (first_rank (values b))) ≡ false
     → nat_cmp (piece_rank a n) (piece_rank b n) ≡ values_cmp (values a) (values b)
@@ -118,8 +122,7 @@ first_parts-cmp (x ∷ a) [] n is start same =
 first_parts-cmp a (y ∷ b) n is start same =
     (first_parts-same a (y ∷ b) n is start (grind arith) (omega arith)).order_is
 
--- if two paths differ at their start, and the second isn't empty, the first doesn't start with the
--- second
+-- if a and b differ at their start, and b isn't empty, a doesn't start with b
 pub first_parts-apart : (a b : List ℕ) (n : ℕ) → n ≡ common_prefix_len eqb a b
     → DiffersAtStart a b n → 0 < length b → IsPrefixOf (values b) (values a) → ⊥
 first_parts-apart a b n is start some begins =

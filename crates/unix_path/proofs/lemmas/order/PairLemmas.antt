@@ -33,7 +33,7 @@ use Rattle.unix_path.specs.declared.pair.Kind.{Kind}
 use Rattle.unix_path.specs.declared.pair.Kind.TheVariants.{Nothing, RootDir, CurDir, ParentDir}
 use Rattle.unix_path.specs.declared.pair.Kind.TheVariants.{Name}
 
--- an index at which no piece begins is not 0
+-- if no piece of s begins at i, i is not 0
 pub inside_piece : (s : List ℕ) (i : ℕ) → is_piece_start s i ≡ false → 0 < i
 inside_piece s i e = omega (arith, eqb-false i 0 (or_parts (eqb i 0) _ e).0)
 
@@ -41,8 +41,8 @@ inside_piece s i e = omega (arith, eqb-false i 0 (or_parts (eqb i 0) _ e).0)
 abbrev pub CanCut : List ℕ → ℕ → Type 0
 CanCut s n = (is_piece_start s n ≡ true) ⊎ (piece_rank s n ≡ 0)
 
--- if the byte of s before n is a slash, the components of s are those of its first n bytes, and
--- then the inner components of the other bytes
+-- if the byte of s before index n is a slash, the components of s are those of its first n bytes,
+-- and then the inner components of the bytes from n on
 parts-after : (s : List ℕ) (n : ℕ) → 0 < n → n ≤ length s → get_or s (n - 1) 0 ≡ slash
     → parts s ≡ parts (take n s) ++ inner_parts n (drop n s)
 parts-after s n some l is =
@@ -53,8 +53,8 @@ parts-after s n some l is =
     ∙ ap (λ t. parts t ++ inner_parts (length t) (drop n s)) (sym common)
     ∙ ap (λ k. parts (take n s) ++ inner_parts k (drop n s)) (length-take-le n s l)
 
--- if the byte of s at n is a slash, the components of s are those of its first n bytes, and then
--- the inner components of the other bytes
+-- if n isn't 0, and the byte of s at n is a slash, the components of s are those of its first n
+-- bytes, and then the inner components of the bytes from n on
 parts-before : (s : List ℕ) (n : ℕ) → 0 < n → n < length s → get_or s n slash ≡ slash
     → parts s ≡ parts (take n s) ++ inner_parts n (drop n s)
 parts-before s n some l is =
@@ -69,8 +69,8 @@ parts-before s n some l is =
     (omega (arith, size))
     ∙ ap (λ ps. parts f ++ ps) (sym (ap (inner_parts n) after ∙ inner_parts-slash n t))
 
--- if s can be cut at n, the components of s are those of its first n bytes, and then the inner
--- components of the other bytes
+-- if n isn't 0, and s can be cut at n, the components of s are those of its first n bytes, and then
+-- the inner components of the bytes from n on
 parts-cut : (s : List ℕ) (n : ℕ) → 0 < n → n ≤ length s → CanCut s n
     → parts s ≡ parts (take n s) ++ inner_parts n (drop n s)
 parts-cut s n some inside = ⊎_elim
@@ -84,14 +84,15 @@ parts-cut s n some inside = ⊎_elim
     sym (ap₂ (λ t u. parts t ++ inner_parts n u) (take_all n s end) (drop_all n s end)
     ∙ ap (λ ps. parts s ++ ps) (inner_parts-nil n) ∙ append-nil (parts s))))
 
--- both strings have at least k bytes, and if k is not 0, their rests after the first k bytes come
+-- a and b have at least k bytes, and if k is not 0, the bytes of a and b from k on are their rests
 -- after the same components
 pub record CutsAt (a b : List ℕ) (k : ℕ) : Type 0 where
   pub in_first : k ≤ length a
   pub in_second : k ≤ length b
   pub shares : 0 < k → SharesPrefix a b (drop k a) (drop k b)
 
--- `CutsAt` holds at an index of the common prefix where both strings can be cut
+-- if the common prefix of a and b has n bytes, k is at most n, and a piece of a and a piece of b
+-- begin or end at k, then a and b can be cut at k, after the same components (`CutsAt`)
 pub cuts : (a b : List ℕ) (n k : ℕ) → IsCommonPrefixLen a b n → k ≤ n → CanCut a k → CanCut b k
     → CutsAt a b k
 unfolding values
@@ -115,15 +116,16 @@ cuts a b n k alike l first second =
       };
     }
 
--- `CutsAt` holds at the first difference, if a piece of both strings ends there
+-- if a and b have the same `piece_rank` at their first difference n, where a piece of each then
+-- ends, a and b can be cut at n, after the same components (`CutsAt`)
 pub cuts-ends : (a b : List ℕ) (n : ℕ) → IsCommonPrefixLen a b n → piece_rank a n ≡ piece_rank b n
     → CutsAt a b n
 cuts-ends a b n alike same =
     let end = ranks_end a b n alike same in
     cuts a b n n alike (omega arith) (inr end) (inr (sym same ∙ end))
 
--- `CutsAt` holds at an index of the common prefix where a piece begins in the first string, and so
--- in both strings
+-- if the common prefix of a and b has n bytes, k is at most n, and a piece of a, and so of b,
+-- begins at k, then a and b can be cut at k, after the same components (`CutsAt`)
 pub cuts-begins : (a b : List ℕ) (n k : ℕ) → IsCommonPrefixLen a b n → k ≤ n → is_piece_start a k
     ≡ true
     → CutsAt a b k
@@ -135,8 +137,8 @@ cuts-begins a b n k alike l begins = cuts a b n k alike l (inl begins) (inl (by_
     let same = common_prefix_len-same a b (k - 1) (omega (arith, alike, l, some)) in
     rw e (ap (λ b. eqb b 47) (sym same) ∙ here))))
 
--- if a starts with the bytes of b, and can be cut after them, the bytes after them are the rest of
--- a after b
+-- if b is not empty, a begins with the bytes of b, and a can be cut after them, then the bytes of a
+-- after them are the rest of a after the components of b
 pub shares-written : (a b : List ℕ) (n : ℕ) → IsCommonPrefixLen a b n → 0 < length b → length b ≤ n
     → CanCut a (length b) → SharesPrefix a b (drop (length b) a) []
 shares-written a b n alike some all first =
@@ -144,8 +146,8 @@ shares-written a b n alike some all first =
     subst (SharesPrefix a b (drop (length b) a)) (drop-length b)
     ((cuts a b n (length b) alike all first ends).shares some)
 
--- if the first difference of a and b is not a `CutBefore`, and b isn't empty, a doesn't start with
--- b
+-- if the first difference of a and b, at n, does not show a `CutBefore`, and b isn't empty, a
+-- doesn't start with b
 pub apart-unless : (a : Bor (List ℕ)) (b : List ℕ) (n : ℕ) (said : Difference)
     → IsCommonPrefixLen a.now b n
     → DifferenceShows a b n said → ((x y : Bor (List ℕ)) → said ≡ CutBefore x y → ⊥) → 0 < length b
@@ -155,7 +157,8 @@ apart-unless a b n FirstComponents alike h other some =
     first_parts-apart a.now b n alike h some
 apart-unless a b n (CutBefore x y) alike h other some = absurd (other x y refl)
 
--- if the comparison of two paths s and t is not a `StartsWith`, s doesn't start with t
+-- if a and b are the rests of s and t after the same components, and the result of comparing a and
+-- b is not a `StartsWith`, s doesn't start with t
 pub no_prefix-unless : (s t : List ℕ) (a : Bor (List ℕ)) (b : List ℕ) (said : Comparison)
     → Compared a b said → SharesPrefix s t a.now b
     → ((rest_bytes : Bor (List ℕ)) → said ≡ StartsWith rest_bytes → ⊥)
@@ -164,7 +167,7 @@ no_prefix-unless s t a b (Differs order) h cut other = (h s t cut).no_prefix
 no_prefix-unless s t a b (StartsWith rest_bytes) h cut other = absurd (other rest_bytes refl)
 no_prefix-unless s t a b IsPrefix h cut other = (more-apart (h s t cut)).no_prefix
 
--- kinds are in the order of their ranks
+-- two kinds are in the order of their ranks
 pub kinds-cmp : (x y : Kind)
     → the_order.ghosts.cmp x y ≡ nat_cmp (kind_rank x) (kind_rank y)
 kinds-cmp Nothing Nothing = refl

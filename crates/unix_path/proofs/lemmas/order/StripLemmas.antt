@@ -15,41 +15,41 @@ use Rattle.unix_path.proofs.lemmas.rests.RestLemmas.{rest-rest}
 use Rattle.unix_path.proofs.lemmas.steps.SpanLemmas.{rest-trimmed}
 use Rattle.unix_path.proofs.lemmas.filler.TrimLemmas.{EndsInPart-drop, EndsInPart-take}
 
--- the first n bytes of s have all its components, and end in a component
+-- the first n bytes of s have the same components as s, and are empty or end in a component
 pub record Trims (s : List ℕ) (n : ℕ) : Type 0 where
   pub in_range : n ≤ length s
   pub same : parts (take n s) ≡ parts (take (length s) s)
   pub ends : 0 < n → is_trailing s (n - 1) ≡ false
 
 -- if `Trims s n` holds, the first n bytes of s are `rest s 0 0`, which is s without trailing
--- filler, and end in a component
+-- filler, and are empty or end in a component
 pub rest-trims : (s : List ℕ) (n : ℕ) → Trims s n → (rest s 0 0 ≡ take n s) × EndsInPart (take n s)
 rest-trims s n h =
     let ends = EndsInPart-take s n h.in_range h.ends in
     let same = h.same ∙ ap parts (take_all (length s) s (omega arith)) in
     (rest-trimmed s n h.in_range same ends, ends)
 
--- if `Trims s n` holds, the first n bytes of s have the values of s
+-- if `Trims s n` holds, the first n bytes of s have the same components as s, without positions
 pub values-trims : (s : List ℕ) (n : ℕ) → Trims s n → values (take n s) ≡ values s
 unfolding values
 values-trims s n h = ap (map (λ (p : Part). p.value))
     (h.same ∙ ap parts (take_all (length s) s (omega arith)))
 
--- every path starts with the empty path
+-- if `base` is empty, s starts with `base`
 pub begins-empty : (s base : List ℕ) → length base ≡ 0 → IsPrefixOf (values base) (values s)
 begins-empty s base none =
     let no_values = ap values (nil_from_length base none) ∙ values-nil in
     (values s, ap (λ vs. vs ++ values s) no_values)
 
--- stripping the empty path from a path leaves the path without trailing filler
+-- if `base` is empty, and `Trims s n` holds, stripping `base` from s leaves the first n bytes of s
 pub stripped-whole : (s base : List ℕ) (n : ℕ) → Trims s n → length base ≡ 0
     → take n s ≡ stripped_of s base
 stripped-whole s base n h none =
     let no_values = ap values (nil_from_length base none) ∙ values-nil in
     sym (ap (λ vs. rest s (length vs) 0) no_values ∙ (rest-trims s n h).0)
 
--- the bytes of s after the components of `base`, without filler at either end, are the rest of s
--- after `base`
+-- if `whole` is s without trailing filler, and `rest_bytes`, which has no leading filler, is the
+-- rest of `whole` after the components of `base`, then stripping `base` from s leaves `rest_bytes`
 pub stripped-is : (s base : List ℕ) (n : ℕ) (rest_bytes whole : Bor (List ℕ)) → Trims s n
     → whole.now ≡ take n s → IsTail rest_bytes whole → SharesPrefix whole.now base rest_bytes.now []
     → is_filler rest_bytes.now 0 ≡ false → rest_bytes.now ≡ stripped_of s base
@@ -63,7 +63,8 @@ stripped-is s base n rest_bytes whole h is tail shares not_filler =
     ∙ rest-rest s 0 0 k 0
     ∙ ap (λ i. rest s i (0 + 0)) {x = 0 + k} {y = k} (omega arith)
 
--- the rest of a path after a base ends where the last component of the path ends
+-- if `whole` begins where `path` begins, and is `path` without trailing filler, then each suffix of
+-- `whole` ends where the last component of `path` ends
 pub stripped-end : (path rest_bytes whole : Bor (List ℕ)) (n : ℕ) → Trims path.now n
     → whole.now ≡ take n path.now → whole.ref_ptr.1 ≡ path.ref_ptr.1 → IsTail rest_bytes whole
     → EndsAt rest_bytes path (length (rest path.now 0 0))

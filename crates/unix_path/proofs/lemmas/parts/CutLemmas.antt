@@ -11,12 +11,13 @@ use Rattle.unix_path.proofs.lemmas.parts.PieceLemmas.{slice_split-first}
 use Rattle.unix_path.specs.Parts.{CurDir, RootDir, inner_parts, cur_dir, is_slash, leading_part}
 use Rattle.unix_path.specs.Parts.{parts_of_pieces}
 
--- the number of bytes of these pieces with a slash after each
+-- the total number of bytes of these pieces, with a slash after each
 width : List (List ℕ) → ℕ
 width [] = 0
 width (p ∷ ps) = length p + 1 + width ps
 
--- the components of two lists of pieces are those of the first list and then those of the second
+-- the components of the pieces ps and qs together are those of ps, and then those of qs, which
+-- begin `width ps` bytes later
 parts_of_pieces-append : (at : ℕ) (ps qs : List (List ℕ))
     → parts_of_pieces at (ps ++ qs)
     ≡ parts_of_pieces at ps ++ parts_of_pieces (at + width ps) qs
@@ -30,18 +31,18 @@ parts_of_pieces-append at (p ∷ ps) qs =
     {y = at + (length p + 1 + width ps)} (omega arith))
     ∙ sym (append_assoc (parts_of_piece at p) _ _)
 
--- one byte more in the first piece makes the pieces one byte wider
+-- if there is at least one piece, prepending the byte x to the first increases the `width` by 1
 width-onto_first : (x : ℕ) (ps : List (List ℕ)) → 0 < length ps
     → width (onto_first x ps) ≡ 1 + width ps
 unfolding width
 width-onto_first x [] l = absurd (omega arith)
 width-onto_first x (p ∷ ps) l = omega arith
 
--- every string has a piece
+-- every string s has at least one piece
 some_piece : (s : List ℕ) → 0 < length (slice_split is_slash s)
 some_piece s = omega (arith, length-slice_split is_slash s)
 
--- the pieces of a string, with a slash after each, are one byte longer than the string
+-- the pieces of s, with a slash after each, are one byte longer than s
 width-slice_split : (s : List ℕ) → width (slice_split is_slash s) ≡ length s + 1
 unfolding width
 width-slice_split [] = refl
@@ -55,14 +56,14 @@ width-slice_split (x ∷ s) = by_test (eqb x 47)
           (some_piece s),
     ))
 
--- prepending a byte to the first piece of two concatenated lists prepends it to the first piece of
--- the first list, if this list isn't empty
+-- if ps is not empty, prepending x to the first piece of ps and qs together prepends it to the
+-- first piece of ps
 onto_first-append : (x : ℕ) (ps qs : List (List ℕ)) → 0 < length ps
     → onto_first x (ps ++ qs) ≡ onto_first x ps ++ qs
 onto_first-append x [] qs l = absurd (omega arith)
 onto_first-append x (p ∷ ps) qs l = refl
 
--- a string cut at a slash has the pieces before the slash and then the pieces after it
+-- the pieces of x, a slash and y are the pieces of x, and then the pieces of y
 pub slice_split-append : (x y : List ℕ)
     → slice_split is_slash (x ++ 47 ∷ y) ≡ slice_split is_slash x ++ slice_split is_slash y
 slice_split-append [] y = refl
@@ -75,8 +76,8 @@ slice_split-append (b ∷ x) y = by_test (eqb b 47)
     ∙ onto_first-append b (slice_split is_slash x) (slice_split is_slash y) (some_piece x)
     ∙ ap (λ ps. ps ++ slice_split is_slash y) (sym (slice_split-cons_no is_slash b x e)))
 
--- a string cut at a slash has the inner components before the slash and then the inner components
--- after it
+-- the inner components of x, a slash and y are those of x, and then those of y, which begins after
+-- the slash
 pub inner_parts-append : (at : ℕ) (x y : List ℕ)
     → inner_parts at (x ++ 47 ∷ y) ≡ inner_parts at x ++ inner_parts (at + length x + 1) y
 unfolding inner_parts
@@ -86,14 +87,15 @@ inner_parts-append at x y =
     ∙ ap (λ n. inner_parts at x ++ inner_parts n y) {x = at + width (slice_split is_slash x)}
     {y = at + length x + 1} (omega (arith, width-slice_split x))
 
--- the first piece doesn't depend on what follows a slash
+-- the first piece of x, a slash and y is the first piece of x
 first_piece-append : (x y : List ℕ) → first_piece (x ++ 47 ∷ y) ≡ first_piece x
 first_piece-append x y =
     let cut = sym (slice_split-first (x ++ 47 ∷ y)) ∙ slice_split-append x y
     ∙ ap (λ ps. ps ++ slice_split is_slash y) (slice_split-first x) in
     cc
 
--- the leading part doesn't depend on what follows a slash that is not the first byte
+-- if x is not empty, x followed by a slash and y has the same root or leading `.` as x, or both
+-- have neither
 pub leading_part-append : (x y : List ℕ) → 0 < length x
     → leading_part (x ++ 47 ∷ y) ≡ leading_part x
 unfolding leading_part

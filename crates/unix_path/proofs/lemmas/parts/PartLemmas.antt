@@ -18,19 +18,20 @@ use Rattle.unix_path.proofs.lemmas.parts.ValueLemmas.{first_value}
 abbrev root : Part
 root = record { start = 0; end = 1; value = RootDir }
 
--- a string that begins with a slash has the root as its first component
+-- if s begins with a slash, the components of s are the root, and then the inner components of the
+-- bytes after the slash
 pub parts-root : (s : List ℕ) → get_or s 0 0 ≡ 47
     → parts s ≡ record { start = 0; end = 1; value = RootDir } ∷ inner_parts 1 (drop 1 s)
 unfolding parts leading_part
 parts-root [] e = absurd (omega arith)
 parts-root (b ∷ s) e = ap (λ b. parts (b ∷ s)) e ∙ ap (λ ps. root ∷ ps) (inner_parts-slash 0 s)
 
--- a string is rooted if and only if it has a byte 0, and this byte is a slash
+-- s is rooted if and only if it has a byte 0, and this byte is a slash
 pub is_rooted-at : (s : List ℕ) → is_rooted s ≡ eqb (get_or s 0 0) 47
 is_rooted-at [] = refl
 is_rooted-at (b ∷ s) = refl
 
--- a string that doesn't begin with a slash has a leading part if and only if its first piece is `.`
+-- if s doesn't begin with a slash, it has a leading `.` if and only if its first piece is `.`
 pub leading_part-name : (s : List ℕ) → eqb (get_or s 0 0) 47 ≡ false
     → leading_part s ≡ cond (bytes_eq (first_piece s) cur_dir)
     (record { start = 0; end = 1; value = CurDir } ∷ []) []
@@ -44,7 +45,8 @@ pub nonempty_first_piece : (s : List ℕ) → 0 < length s → eqb (get_or s 0 0
 nonempty_first_piece [] l e = absurd (omega arith)
 nonempty_first_piece (b ∷ s) l e = ap (λ p. bytes_eq p []) (first_piece-other b s e)
 
--- a string that begins with a byte other than a slash has its first piece as its first component
+-- if s begins with a byte other than a slash, the components of s are the component of its first
+-- piece, and then the inner components of the bytes after this piece
 pub parts-name : (s : List ℕ) → 0 < length s → eqb (get_or s 0 0) 47 ≡ false
     → parts s ≡ record {
       start = 0;
@@ -84,11 +86,11 @@ pub parts-nil : parts [] ≡ []
 unfolding parts leading_part inner_parts
 parts-nil = refl
 
--- a string without bytes has no components
+-- if s is empty, it has no components
 pub parts-none : (s : List ℕ) → length s ≡ 0 → parts s ≡ []
 parts-none s e = ap parts (nil_from_length s e) ∙ parts-nil
 
--- a path of at least one byte has a component
+-- if s is not empty, it has a component
 pub some_values : (s : List ℕ) → 0 < length s
     → (v : Value) × (vs : List Value) × (values s ≡ v ∷ vs)
 unfolding values
@@ -96,7 +98,7 @@ some_values s l = by_test (eqb (get_or s 0 0) 47)
     (λ e. (_, _, ap (map (λ (p : Part). p.value)) (parts-root s (eqb-true _ 47 e))))
     (λ e. (_, _, ap (map (λ (p : Part). p.value)) (parts-name s l e)))
 
--- a path without components has no bytes
+-- if s has no components, it is empty
 pub values-none : (s : List ℕ) → values s ≡ [] → s ≡ []
 values-none [] none = refl
 values-none (b ∷ s) none = let some = some_values (b ∷ s) (omega arith) in cc (some.2)
@@ -107,7 +109,7 @@ root_first [] = false
 root_first (RootDir ∷ vs) = true
 root_first (_ ∷ vs) = false
 
--- the first component is the root if and only if byte 0 is a slash
+-- the first component of s is the root if and only if byte 0 of s is a slash
 pub root_first-values : (s : List ℕ) → root_first (values s) ≡ is_rooted s
 unfolding values
 root_first-values [] = ap (λ ps. root_first (map (λ p. p.value) ps)) parts-nil

@@ -11,7 +11,7 @@ pub inner_parts-nil : (at : ℕ) → inner_parts at [] ≡ []
 unfolding inner_parts
 inner_parts-nil at = refl
 
--- a slash at the beginning adds no inner component
+-- a slash put before s adds no inner component
 pub inner_parts-slash : (at : ℕ) (s : List ℕ) → inner_parts at (47 ∷ s) ≡ inner_parts (at + 1) s
 unfolding inner_parts
 inner_parts-slash at s = ap
@@ -23,7 +23,7 @@ pub inner_parts-dot : (at : ℕ) → inner_parts at (46 ∷ []) ≡ []
 unfolding inner_parts
 inner_parts-dot at = refl
 
--- a `.` at the beginning, before a slash, adds no inner component
+-- a `.` put before a slash and s adds no inner component
 pub inner_parts-dot_slash : (at : ℕ) (s : List ℕ)
     → inner_parts at (46 ∷ 47 ∷ s) ≡ inner_parts (at + 1) (47 ∷ s)
 unfolding inner_parts
@@ -35,7 +35,7 @@ inner_parts-dot_slash at s =
 abbrev pub first_piece : List ℕ → List ℕ
 first_piece = before_first is_slash
 
--- the pieces after the slash that a string begins with; none if it is empty
+-- the pieces of a string after its first byte, a slash; none if the string is empty
 abbrev later_pieces : List ℕ → List (List ℕ)
 later_pieces [] = []
 later_pieces (b ∷ s) = slice_split is_slash s
@@ -53,18 +53,18 @@ pub position_or_len-other : (x : ℕ) (xs : List ℕ) → eqb x 47 ≡ false
     → position_or_len is_slash (x ∷ xs) ≡ 1 + position_or_len is_slash xs
 position_or_len-other x xs e = rw e refl
 
--- if a string begins with a slash, its first piece is empty
+-- if x is a slash, the first piece of x followed by s is empty
 pub first_piece-slash : (x : ℕ) (s : List ℕ) → eqb x 47 ≡ true → first_piece (x ∷ s) ≡ []
 first_piece-slash x s e = ap (λ n. take n (x ∷ s)) (position_or_len-slash x s e)
 
--- if a string begins with a byte other than a slash, its first piece begins with this byte
+-- if x is not a slash, the first piece of x followed by s is x followed by the first piece of s
 pub first_piece-other : (x : ℕ) (s : List ℕ) → eqb x 47 ≡ false
     → first_piece (x ∷ s) ≡ x ∷ first_piece s
 first_piece-other x s e =
     ap (λ n. take n (x ∷ s)) (position_or_len-other x s e)
     ∙ take-suc_cons (position_or_len is_slash s) x s
 
--- the pieces are the first piece and the pieces that follow it
+-- the pieces of s are its first piece, and then the pieces after it
 pub slice_split-first : (s : List ℕ)
     → slice_split is_slash s ≡ first_piece s ∷ later_pieces (drop (position_or_len is_slash s) s)
 slice_split-first [] = refl
@@ -77,7 +77,7 @@ slice_split-first (x ∷ xs) = by_test (eqb x 47)
     ∙ sym (ap (λ n. take n (x ∷ xs) ∷ later_pieces (drop n (x ∷ xs))) (position_or_len-other x xs e)
     ∙ ap₂ (λ a b. a ∷ later_pieces b) (take-suc_cons n x xs) (drop-suc_cons n x xs)))
 
--- the first piece ends where the string ends, or before a slash
+-- the bytes of s after its first piece are empty or begin with a slash
 IsCut-drop : (s : List ℕ) → IsCut (drop (position_or_len is_slash s) s)
 IsCut-drop [] = tt
 IsCut-drop (x ∷ xs) = by_test (eqb x 47)
@@ -86,7 +86,7 @@ IsCut-drop (x ∷ xs) = by_test (eqb x 47)
     (λ e. subst (λ n. IsCut (drop n (x ∷ xs))) (sym (position_or_len-other x xs e))
     (subst IsCut (sym (drop-suc_cons (position_or_len is_slash xs) x xs)) (IsCut-drop xs)))
 
--- a string without a slash doesn't begin with one
+-- if s is not empty and contains no slash, its first byte isn't a slash
 pub no_slash_head : (s : List ℕ) → position_or_len is_slash s ≡ length s → 0 < length s
     → eqb (get_or s 0 0) 47 ≡ false
 no_slash_head [] e l = absurd (omega arith)
@@ -94,7 +94,8 @@ no_slash_head (b ∷ s) e l =
     by_test (eqb b 47) (λ slash. absurd (omega (arith, sym (position_or_len-slash b s slash) ∙ e)))
     (λ no. no)
 
--- the first piece ends at the first slash
+-- the length of the first piece of s is the index of the first slash of s, or the length of s if it
+-- has no slash
 pub length-first_piece : (s : List ℕ) → length (first_piece s) ≡ position_or_len is_slash s
 length-first_piece [] = refl
 length-first_piece (x ∷ xs) = by_test (eqb x 47)
@@ -102,13 +103,13 @@ length-first_piece (x ∷ xs) = by_test (eqb x 47)
     (λ e. ap length (first_piece-other x xs e)
     ∙ omega (arith, length-first_piece xs, position_or_len-other x xs e))
 
--- the component of a piece at index `at`, or none if the piece is empty or `.`
+-- the component of the piece p at index `at`, or none if p is empty or `.`
 abbrev pub parts_of_piece : ℕ → List ℕ → List Part
 parts_of_piece at p = cond (counts p)
     (record { start = at; end = at + length p; value = value_of_piece p } ∷ []) []
 
--- the components of the pieces after a slash are the inner components of the string that begins
--- with this slash
+-- if s is empty or begins with a slash, the components of the pieces after this slash (none if s is
+-- empty) are the inner components of s
 parts_of_pieces-later_pieces : (at : ℕ) (s : List ℕ) → IsCut s
     → parts_of_pieces (at + 1) (later_pieces s) ≡ inner_parts at s
 unfolding inner_parts

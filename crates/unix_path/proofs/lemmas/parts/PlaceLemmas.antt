@@ -11,7 +11,7 @@ use Rattle.unix_path.specs.Rest.{last_end}
 abbrev pub part_at : ℕ → Part → Part
 part_at d p = record { start = p.start + d; end = p.end + d; value = p.value }
 
--- if pieces are moved by d, so are their components
+-- if the pieces ps are moved by d bytes, so are their components
 parts_of_pieces-add : (at d : ℕ) (ps : List (List ℕ))
     → parts_of_pieces (at + d) ps ≡ map (part_at d) (parts_of_pieces at ps)
 parts_of_pieces-add at d [] = refl
@@ -24,31 +24,31 @@ parts_of_pieces-add at d (p ∷ ps) =
     first next))
     (λ e. rw e next)
 
--- if a string is moved by d, so are its inner components
+-- if s is moved by d bytes, so are its inner components
 pub inner_parts-add : (at d : ℕ) (s : List ℕ)
     → inner_parts (at + d) s ≡ map (part_at d) (inner_parts at s)
 unfolding inner_parts
 inner_parts-add at d s = parts_of_pieces-add at d (slice_split is_slash s)
 
--- without their positions, components that are moved stay the same
+-- moving components by d bytes changes only their positions
 pub values-part_at : (d : ℕ) (ps : List Part)
     → map (λ p. p.value) (map (part_at d) ps) ≡ map (λ p. p.value) ps
 values-part_at d [] = refl
 values-part_at d (p ∷ ps) = ap (λ vs. p.value ∷ vs) (values-part_at d ps)
 
--- without their positions, the components don't depend on where the string is
+-- without their positions, the inner components of s don't depend on the index `at` where s begins
 pub values-inner_parts : (at : ℕ) (s : List ℕ)
     → map (λ p. p.value) (inner_parts at s) ≡ map (λ p. p.value) (inner_parts 0 s)
 values-inner_parts at s =
     ap (λ n. map (λ p. p.value) (inner_parts n s)) {x = at} {y = 0 + at} (omega arith)
     ∙ ap (map (λ p. p.value)) (inner_parts-add 0 at s) ∙ values-part_at at (inner_parts 0 s)
 
--- the end of the last of these components, or 0 if there is none
+-- the index where the last of these components ends, or 0 if there is none
 abbrev pub parts_end : List Part → ℕ
 parts_end [] = 0
 parts_end (p ∷ ps) = last_end p ps
 
--- if components are moved by d, so is the end of the last
+-- if the components p and ps are moved by d bytes, so is the end of the last of them
 pub last_end-part_at : (d : ℕ) (p : Part) (ps : List Part)
     → last_end (part_at d p) (map (part_at d) ps) ≡ last_end p ps + d
 last_end-part_at d p [] = refl

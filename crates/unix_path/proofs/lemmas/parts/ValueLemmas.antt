@@ -12,26 +12,26 @@ use Rattle.unix_path.specs.Parts.{value_bytes, value_of_piece}
 abbrev pub first_value : List ℕ → Value
 first_value bytes = if bytes_eq bytes cur_dir then CurDir else value_of_piece bytes
 
--- the component of a piece has the bytes of the piece
+-- the component of the piece p has the bytes of p
 pub value_bytes-piece : (p : List ℕ) → value_bytes (value_of_piece p) ≡ p
 value_bytes-piece p = by_test (bytes_eq p parent_dir)
     (λ e. rw e (sym ((bytes_eq-Decides p parent_dir).0 e))) (λ e. rw e refl)
 
--- the component of a first piece has the bytes of the piece
+-- the component of a piece p at the beginning of a string has the bytes of p
 pub value_bytes-first : (p : List ℕ) → value_bytes (first_value p) ≡ p
 value_bytes-first p = by_test (bytes_eq p cur_dir)
     (λ e. rw e (sym ((bytes_eq-Decides p cur_dir).0 e))) (λ e. rw e (value_bytes-piece p))
 
--- the component of a piece is not the root
+-- the component of the piece p is not the root
 pub no_root_piece : (p : List ℕ) → value_of_piece p ≡ RootDir → ⊥
 no_root_piece p =
     by_test (bytes_eq p parent_dir) (λ e. rw e (λ h. cc)) (λ e. rw e (λ h. cc))
 
--- the component of a first piece is not the root
+-- the component of a piece p at the beginning of a string is not the root
 pub no_root_first : (p : List ℕ) → first_value p ≡ RootDir → ⊥
 no_root_first p = by_test (bytes_eq p cur_dir) (λ e. rw e (λ h. cc)) (λ e. rw e (no_root_piece p))
 
--- a component that has a name consists of that name
+-- if the component v has the name `name`, v is this name
 pub name_of-some : (v : Value) (name : List ℕ) → name_of v ≡ Some name → v ≡ Normal name
 name_of-some RootDir name e = absurd (none-some name e)
 name_of-some CurDir name e = absurd (none-some name e)

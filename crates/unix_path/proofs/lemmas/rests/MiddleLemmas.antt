@@ -13,7 +13,7 @@ use Rattle.unix_path.specs.Parts.{parts}
 use Rattle.unix_path.specs.Rest.{rest, span_of}
 use Rattle.unix_path.specs.Scan.{EndsInPart}
 
--- if w is at index i in s, and v is at j in w, then v is at i + j in s
+-- if s contains w at index i, and w contains v at index j, then s contains v at index i + j
 pub stands_in : (s w v : List ℕ) (i j : ℕ) → take (length w) (drop i s) ≡ w
     → take (length v) (drop j w) ≡ v → take (length v) (drop (i + j) s) ≡ v
 stands_in s w v i j outer inner = by_test (ltb j (length w))
@@ -35,7 +35,8 @@ stands_in s w v i j outer inner = by_test (ltb j (length w))
 abbrev pub middle : {X : Type 0} → ℕ → ℕ → List X → List X
 middle k m xs = take (length xs - (k + m)) (drop k xs)
 
--- the rest of s after its first k and before its last m components
+-- `rest_bytes`, which s contains at index `at`, has the components of s without the first k and the
+-- last m, and is empty or ends in a component
 pub record Middle (s : List ℕ) (k m : ℕ) : Type 0 where
   pub at : ℕ
   pub rest_bytes : List ℕ
@@ -43,7 +44,7 @@ pub record Middle (s : List ℕ) (k m : ℕ) : Type 0 where
   pub is : middle k m (parts s) ≡ map (part_at at) (parts rest_bytes)
   pub ends : EndsInPart rest_bytes
 
--- however many components are removed at both ends, the rest is within s
+-- for any k and m, s contains the rest of s without its first k and last m components (`Middle`)
 unfoldable pub middle_of : (s : List ℕ) (k m : ℕ) → Middle s k m
 middle_of s k m =
     let trim = trims_end s in
@@ -79,13 +80,13 @@ middle_of s k m =
       ends = taken.ends;
     }
 
--- `rest` is the rest that `Middle` describes
+-- `rest s k m` is the `rest_bytes` of any `Middle` of s, k and m
 pub rest-middle : (s : List ℕ) (k m : ℕ) (h : Middle s k m) → rest s k m ≡ h.rest_bytes
 unfolding rest
 rest-middle s k m h = ap (span_of s) h.is ∙ span_at s h.rest_bytes h.at h.stands h.ends
 
--- applying a function to each element and removing elements at both ends can be done in either
--- order
+-- applying f to each element of a list, and removing the first k and the last m elements, can be
+-- done in either order
 pub map-middle : {X Y : Type 0} (f : X → Y) (k m : ℕ) (xs : List X)
     → middle k m (map f xs) ≡ map f (middle k m xs)
 map-middle f k m xs = ap₂ (λ n ys. take (n - (k + m)) ys) (length-map xs f) (drop-map f k xs)

@@ -11,7 +11,7 @@ use Rattle.unix_path.proofs.lemmas.rests.SplitLemmas.{drops_to, splits_first}
 use Rattle.unix_path.specs.Parts.{parts, values}
 use Rattle.unix_path.specs.Rest.{rest}
 
--- the components of a rest are the path's, without the first k and the last m
+-- the components of `rest s k m` are those of s without the first k and the last m
 pub values-rest : (s : List ℕ) (k m : ℕ) → values (rest s k m) ≡ middle k m (values s)
 unfolding values
 values-rest s k m =
@@ -20,8 +20,8 @@ values-rest s k m =
     ∙ sym (values-part_at h.at (parts h.rest_bytes)) ∙ ap (map (λ p. p.value)) (sym h.is)
     ∙ sym (map-middle (λ p. p.value) k m (parts s))
 
--- removing k leading and m trailing components, and then i leading and j trailing components,
--- leaves the same rest as removing k + i and m + j of them at once
+-- removing k leading and m trailing components of s, and then i leading and j trailing components
+-- of the rest, leaves the same rest as removing k + i leading and m + j trailing components of s
 pub rest-rest : (s : List ℕ) (k m i j : ℕ) → rest (rest s k m) i j ≡ rest s (k + i) (m + j)
 rest-rest s k m i j =
     let h = middle_of s k m in
@@ -40,7 +40,7 @@ rest-rest s k m i j =
     ap (λ w. rest w i j) (rest-middle s k m h) ∙ rest-middle w i j g
     ∙ sym (rest-middle s (k + i) (m + j) together)
 
--- a string has no more components than bytes
+-- if t has at most n bytes, it has no more components than bytes
 few_parts : (n : ℕ) (t : List ℕ) → length t ≤ n → length (parts t) ≤ length t
 few_parts zero t l = omega (arith, ap length (parts-none t (omega arith)))
 few_parts (suc n) t l = by_test (ltb 0 (length t))
@@ -65,12 +65,12 @@ unfolding values
 length-values s = omega
     (arith, length-map (parts s) (λ p. p.value), few_parts (length s) s (omega arith))
 
--- if no leading component is removed, the rest is at index 0
+-- if no leading component of s is removed, the rest begins at index 0 of s
 pub middle_of-at : (s : List ℕ) (m : ℕ) → (middle_of s 0 m).at ≡ 0
 unfolding middle_of drops_to
 middle_of-at s m = refl
 
--- if no leading component is removed, the rest is a prefix of s
+-- `rest s 0 m`, from which no leading component is removed, is a prefix of s
 pub take-rest : (s : List ℕ) (m : ℕ) → take (length (rest s 0 m)) s ≡ rest s 0 m
 take-rest s m =
     let h = middle_of s 0 m in

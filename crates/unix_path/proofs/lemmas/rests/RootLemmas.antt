@@ -27,25 +27,25 @@ NoRoot (Normal name ∷ vs) = NoRoot vs
 no_root_cons : (p : List ℕ) (vs : List Value) → NoRoot vs → NoRoot (value_of_piece p ∷ vs)
 no_root_cons p vs h = by_test (bytes_eq p parent_dir) (λ e. rw e h) (λ e. rw e h)
 
--- none of the components of pieces is the root
+-- none of the components of the pieces ps is the root
 no_root_pieces : (at : ℕ) (ps : List (List ℕ)) → NoRoot (map (λ p. p.value) (parts_of_pieces at ps))
 no_root_pieces at [] = tt
 no_root_pieces at (p ∷ ps) =
     let next = no_root_pieces (at + length p + 1) ps in
     by_test (counts p) (λ e. rw e (no_root_cons p _ next)) (λ e. rw e next)
 
--- none of the inner components is the root
+-- none of the inner components of s is the root
 no_root_inner : (at : ℕ) (s : List ℕ) → NoRoot (map (λ p. p.value) (inner_parts at s))
 unfolding inner_parts
 no_root_inner at s = no_root_pieces at (slice_split is_slash s)
 
--- the first component is v, and no other is the root
+-- the first component of s is v, and no other component of s is the root
 pub record BeginsBy (s : List ℕ) (v : Value) : Type 0 where
   pub more : List Value
   pub is : values s ≡ v ∷ more
   pub no_root : NoRoot more
 
--- a string that begins with a slash has the root as its first component
+-- if s begins with a slash, its first component is the root, and no other component is the root
 begins_by_root : (s : List ℕ) → eqb (get_or s 0 0) 47 ≡ true → BeginsBy s RootDir
 unfolding values
 begins_by_root s e = record {
@@ -73,7 +73,7 @@ IsPrefixOf-root [] e = absurd (let d : false ≡ true = e in cc)
 IsPrefixOf-root (RootDir ∷ vs) e = (vs, refl)
 IsPrefixOf-root (v ∷ vs) e = absurd (let d : false ≡ true = e in cc)
 
--- a path is rooted if and only if its components begin with the root
+-- s is rooted if and only if the components of s begin with the root
 pub rooted-IsPrefixOf : (s : List ℕ) (r : Bool) → r ≡ is_rooted s
     → r ≡ true ↔ IsPrefixOf (RootDir ∷ []) (values s)
 rooted-IsPrefixOf s r e = (
@@ -85,11 +85,11 @@ rooted-IsPrefixOf s r e = (
 abbrev pub root_count : List Value → ℕ
 root_count vs = cond (root_first vs) 1 0
 
--- `root_count` of a path's components is 1 if the path is rooted, and otherwise 0
+-- `root_count` of the components of s is 1 if s is rooted, and otherwise 0
 pub root_count-values : (s : List ℕ) → cond (is_rooted s) 1 0 ≡ root_count (values s)
 root_count-values s = ap (λ c. cond c 1 0) (sym (root_first-values s))
 
--- if none of the components is the root, the last is not
+-- if none of the components is the root, the last one, v, is not the root
 no_root_last : (vs : List Value) (v : Value) → NoRoot (vs ++ v ∷ []) → v ≡ RootDir → ⊥
 no_root_last [] v h r = subst (λ v. NoRoot (v ∷ [])) r h
 no_root_last (RootDir ∷ vs) v h r = h
@@ -105,7 +105,7 @@ before_last_root v w more (x ∷ vs) h e r =
     let tail : more ≡ vs ++ w ∷ [] = cc in
     absurd (no_root_last vs w (subst NoRoot tail h) r)
 
--- if the root is the last component, it is the only component
+-- if the last component of s is the root, it is the only component
 pub root_last : (s : List ℕ) (vs : List Value) → values s ≡ vs ++ RootDir ∷ [] → length vs ≡ 0
 root_last s vs e = by_test (ltb 0 (length s))
     (λ some. by_test (eqb (get_or s 0 0) 47)

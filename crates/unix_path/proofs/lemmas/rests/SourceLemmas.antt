@@ -9,7 +9,8 @@ use Rattle.unix_path.specs.Slices.{IsTail, LiesIn}
 pub LiesIn-itself : (slice : Bor (List ℕ)) → LiesIn slice slice
 LiesIn-itself slice = record { block = refl; start = omega arith; end = omega arith }
 
--- a suffix of a suffix of a slice is a suffix of the slice, in the same memory
+-- if `part` is a suffix of `middle`, and `middle` is a suffix of `whole`, both in the same memory,
+-- then `part` is a suffix of `whole`
 pub IsTail-trans : (part middle whole : Bor (List ℕ)) → IsTail part middle → IsTail middle whole
     → IsTail part whole
 IsTail-trans part middle whole h k =
@@ -35,7 +36,8 @@ IsTail-itself slice = record {
   place = refl;
 }
 
--- a slice from an index to the end is a suffix
+-- if `part` is the bytes of `whole` from index n on, in the same memory, `part` is a suffix of
+-- `whole`
 pub IsTail-from : (part whole : Bor (List ℕ)) (n : ℕ) → n ≤ length whole.now
     → part.now ≡ take (length whole.now - n) (drop n whole.now)
     → part.ref_ptr.0 ≡ whole.ref_ptr.0 → part.ref_ptr.1 ≡ whole.ref_ptr.1 + n

@@ -17,8 +17,8 @@ use Rattle.unix_path.proofs.lemmas.parts.ValueLemmas.{first_value}
 use Rattle.unix_path.specs.Parts.{Part, RootDir, Value, inner_parts, is_slash, parts}
 use Rattle.unix_path.specs.Scan.{EndsInPart}
 
--- the first component is `first`, and the other components are those of t without its first `len`
--- bytes
+-- the first component of t is `first`, and the other components of t are the components of t
+-- without its first `len` bytes, where `len` is not 0
 pub record SplitsFirst (t : List ℕ) : Type 0 where
   pub first : Part
   pub len : ℕ
@@ -26,8 +26,8 @@ pub record SplitsFirst (t : List ℕ) : Type 0 where
   pub in_range : len ≤ length t
   pub is : parts t ≡ first ∷ map (part_at len) (parts (drop len t))
 
--- if the first component of t ends at e, and the other components are the inner components of t
--- from e on, `SplitsFirst` holds
+-- if the first component of t ends at e, which isn't 0, and the other components are the inner
+-- components of t from e on, then t can be split after its first component (`SplitsFirst`)
 splits_at : (t : List ℕ) (e : ℕ) (v : Value) → 0 < e → e ≤ length t
     → parts t ≡ record { start = 0; end = e; value = v } ∷ inner_parts e (drop e t) → SplitsFirst t
 splits_at t e v some l is =
@@ -47,13 +47,13 @@ splits_at t e v some l is =
           ∙ ap (λ u. map (part_at (e + d)) (parts u)) u);
     }
 
--- the first piece of a string that begins with a byte other than a slash is not empty
+-- if t begins with a byte other than a slash, its first piece is not empty
 some_first : (t : List ℕ) → 0 < length t → eqb (get_or t 0 0) 47 ≡ false
     → 0 < position_or_len is_slash t
 some_first [] l e = absurd (omega arith)
 some_first (b ∷ t) l e = omega (arith, position_or_len-other b t e)
 
--- a string that is not empty has a first component
+-- if t is not empty, it can be split after its first component (`SplitsFirst`)
 pub splits_first : (t : List ℕ) → 0 < length t → SplitsFirst t
 splits_first t l = by_test (eqb (get_or t 0 0) 47)
     (λ e. splits_at t 1 _ (omega arith) (omega arith) (parts-root t (eqb-true _ 47 e)))
@@ -61,13 +61,13 @@ splits_first t l = by_test (eqb (get_or t 0 0) 47)
     (omega (arith, length-first_piece t, length-take (position_or_len is_slash t) t))
     (parts-name t l e))
 
--- the components after the first k are the components of a suffix of t
+-- the components of t after the first k are the components of t without its first `at` bytes
 pub record DropsTo (t : List ℕ) (k : ℕ) : Type 0 where
   pub at : ℕ
   pub in_range : at ≤ length t
   pub is : drop k (parts t) ≡ map (part_at at) (parts (drop at t))
 
--- for any k, the components after the first k are the components of a suffix of the string
+-- for any k, the components of t after the first k are the components of a suffix of t
 unfoldable pub drops_to : (t : List ℕ) (k : ℕ) → DropsTo t k
 drops_to t zero = record { at = 0; in_range = omega arith; is = sym (part_at-zero (parts t)) }
 drops_to t (suc k) = by_test (ltb 0 (length t))
@@ -92,7 +92,8 @@ drops_to t (suc k) = by_test (ltb 0 (length t))
           ∙ sym (ap (map (part_at 0)) nil);
     })
 
--- the last component, and the components before it
+-- the components of t are those of its first `len` bytes, which are empty or end in a component,
+-- and then `last`
 pub record SplitsLast (t : List ℕ) : Type 0 where
   pub last : Part
   pub len : ℕ
@@ -100,7 +101,8 @@ pub record SplitsLast (t : List ℕ) : Type 0 where
   pub is : parts t ≡ parts (take len t) ++ last ∷ []
   pub ends : EndsInPart (take len t)
 
--- a string that is not empty and ends in a component has a last component
+-- if t is not empty and ends in a component, it can be split before its last component
+-- (`SplitsLast`)
 splits_last : (t : List ℕ) → 0 < length t → EndsInPart t → SplitsLast t
 splits_last t l ends =
     let start = last_start t in
@@ -133,14 +135,16 @@ splits_last t l ends =
       ends = λ l. absurd (omega arith);
     })
 
--- the components before the last m are the components of a prefix of t
+-- the components of t without the last m are the components of its first `len` bytes, which are
+-- empty or end in a component
 pub record TakesTo (t : List ℕ) (m : ℕ) : Type 0 where
   pub len : ℕ
   pub in_range : len ≤ length t
   pub is : take (length (parts t) - m) (parts t) ≡ parts (take len t)
   pub ends : EndsInPart (take len t)
 
--- for any m, the components before the last m are the components of a prefix of the string
+-- if t is empty or ends in a component, then for any m, the components of t without the last m are
+-- the components of a prefix of t
 pub takes_to : (t : List ℕ) (m : ℕ) → EndsInPart t → TakesTo t m
 takes_to t zero ends =
     let all : take (length t) t ≡ t = take_all (length t) t (omega arith) in

@@ -18,14 +18,14 @@ use Rattle.unix_path.proofs.lemmas.parts.ValueLemmas.{first_value}
 use Rattle.unix_path.specs.Parts.{RootDir, inner_parts, cur_dir, is_slash, parts, value_of_piece}
 use Rattle.unix_path.specs.Scan.{is_trailing, EndsInPart}
 
--- the last piece begins at `start`
+-- the last piece of s begins at `start`
 pub record IsLastStart (s : List ℕ) (start : ℕ) : Type 0 where
   pub in_range : start ≤ length s
   pub after_slash : 0 < start → get_or s (start - 1) 0 ≡ 47
   pub no_slash : position_or_len is_slash (drop start s) ≡ length (drop start s)
 
--- a string whose last piece comes after a slash consists of the bytes before the slash, the slash
--- and the piece
+-- if the last piece of s begins at `start`, and `start` is not 0, s is its first `start` - 1 bytes,
+-- a slash, and the piece
 split_last : (s : List ℕ) (start : ℕ) → IsLastStart s start → 0 < start
     → s ≡ take (start - 1) s ++ 47 ∷ drop start s
 split_last s start h some =
@@ -36,7 +36,7 @@ split_last s start h some =
     sym (take-append-drop j s)
     ∙ ap (λ r. take j s ++ r) (next ∙ ap₂ (λ b k. b ∷ drop k s) (h.after_slash some) k)
 
--- a string without a slash is its first piece
+-- if s has no slash, its first piece is all of s, and nothing follows this piece
 whole_first : (s : List ℕ) → position_or_len is_slash s ≡ length s
     → (first_piece s ≡ s) × (drop (position_or_len is_slash s) s ≡ [])
 whole_first s e = (
@@ -45,7 +45,7 @@ whole_first s e = (
       (position_or_len is_slash s) s (omega (arith, e)),
 )
 
--- a string that is a single piece, and neither empty nor `.`, has a single inner component
+-- if y is a single piece, and neither empty nor `.`, its only inner component is that of the piece
 inner_parts_one : (at : ℕ) (y : List ℕ) → position_or_len is_slash y ≡ length y
     → bytes_eq y [] ≡ false
     → bytes_eq y cur_dir ≡ false
@@ -57,7 +57,8 @@ inner_parts_one at y e some no_dot =
     ∙ ap (λ ps. parts_of_piece at y ++ ps) (inner_parts-nil _) ∙ append-nil (parts_of_piece at y)
     ∙ rw (some, no_dot) refl
 
--- a last piece that is neither empty nor `.`, and comes after a slash, is the last component
+-- if the last piece of s comes after a slash, and is neither empty nor `.`, the components of s are
+-- those of the bytes before this piece, and then the component of the piece
 last_after_slash : (s : List ℕ) (start : ℕ) → IsLastStart s start → 0 < start
     → bytes_eq (drop start s) [] ≡ false → bytes_eq (drop start s) cur_dir ≡ false
     → parts s ≡ parts (take start s) ++ record
@@ -80,8 +81,8 @@ last_after_slash s start h some named no_dot =
     ∙ ap₂ (λ a b. record { start = a; end = b; value = value_of_piece y } ∷ []) from to in
     ap parts is ∙ parts-append x y ∙ ap₂ ◌++◌ (sym (ap parts before)) one
 
--- if a string ends in a component, and a slash comes before its last piece, this piece is neither
--- empty nor `.`
+-- if s ends in a component, and its last piece has at least one byte and comes after a slash, this
+-- piece is neither empty nor `.`
 pub last_counts : (s : List ℕ) (start : ℕ) → IsLastStart s start → 0 < start → start < length s
     → EndsInPart s → (bytes_eq (drop start s) [] ≡ false)
     × (bytes_eq (drop start s) cur_dir ≡ false)
@@ -104,8 +105,8 @@ last_counts s start h some l ends =
           (λ e. e),
     )
 
--- the last piece of a string that ends in a component is its last component, after the components
--- of the bytes before the piece
+-- if s ends in a component, and its last piece isn't empty, the components of s are those of the
+-- bytes before this piece, and then the component of the piece
 pub last_part : (s : List ℕ) (start : ℕ) → IsLastStart s start → start < length s → EndsInPart s
     → (at : ℕ) × (parts s ≡ parts
     (take start s) ++ record { start = at; end = length s; value = first_value (drop start s) }
@@ -134,7 +135,8 @@ last_part s (suc k) h l ends =
           ∷ []) v,
     )
 
--- a string that ends in a component and in a slash is only the root
+-- if s isn't empty, ends in a component, and its last byte is a slash, the only component of s is
+-- the root
 pub root_alone : (s : List ℕ) → 0 < length s → EndsInPart s → get_or s (length s - 1) 0 ≡ 47
     → parts s ≡ record { start = 0; end = length s; value = RootDir } ∷ []
 root_alone [] l ends e = absurd (omega arith)
@@ -146,7 +148,8 @@ root_alone (b ∷ c ∷ s) l ends e =
     rw (lt-ltb 0 (length t - 1) (omega arith), e) refl in
     absurd (both_ways _ (ends l) hit)
 
--- if a byte is prepended to a string, the last piece begins one byte further on, or with that byte
+-- if the last piece of s begins at some index k, the last piece of b followed by s begins at some
+-- index j
 start_more : (b : ℕ) (s : List ℕ) (k : ℕ) → IsLastStart s k → (j : ℕ) × IsLastStart (b ∷ s) j
 start_more b s zero h = by_test (eqb b 47)
     (λ e. (
@@ -177,7 +180,7 @@ start_more b s (suc k) h =
       },
     )
 
--- every string has a last piece, which begins at some index
+-- the last piece of s begins at some index
 pub last_start : (s : List ℕ) → (k : ℕ) × IsLastStart s k
 last_start [] = (
   0,

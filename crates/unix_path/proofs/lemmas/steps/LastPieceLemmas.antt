@@ -16,13 +16,14 @@ use Rattle.unix_path.specs.Steps.{TakesLast}
 use Rattle.unix_path.proofs.lemmas.parts.ValueLemmas.{first_value}
 use Rattle.unix_path.proofs.lemmas.steps.StepLemmas.{takes_last}
 
--- a string that ends in a component and isn't `.` has a last piece other than `.`
+-- if s ends in a component and isn't `.`, and the last piece of s isn't empty, then this piece
+-- isn't `.`
 no_dot_piece : (s : List ℕ) (start : ℕ) → IsLastStart s start → start < length s → EndsInPart s
     → bytes_eq s cur_dir ≡ false → bytes_eq (drop start s) cur_dir ≡ false
 no_dot_piece s zero h l ends no_dot = no_dot
 no_dot_piece s (suc k) h l ends no_dot = (last_counts s (suc k) h (omega arith) l ends).1
 
--- a last piece of two bytes is the whole string or comes after a slash
+-- if the last piece of s has two bytes, it is all of s or comes after a slash
 is_piece_start : (s : List ℕ) (start : ℕ) → IsLastStart s start → length s ≡ start + 2
     → (eqb (length s) 2 || eqb (get_or s (length s - 3) 0) 47) ≡ true
 is_piece_start s zero h n = rw n refl
@@ -32,7 +33,7 @@ is_piece_start s (suc k) h n =
     ∙ h.after_slash (omega arith) in
     by_test (eqb (length s) 2) (λ e. rw e refl) (λ e. rw (e, slash) refl)
 
--- the last piece isn't `..` if `ends_with_parent_dir` is false
+-- if `ends_with_parent_dir s` is false, the last piece of s isn't `..`
 no_parent_piece : (s : List ℕ) (start : ℕ) → IsLastStart s start → start < length s
     → ends_with_parent_dir s ≡ false → bytes_eq (drop start s) parent_dir ≡ false
 no_parent_piece s start h l no_parent =
@@ -51,14 +52,17 @@ no_parent_piece s start h l no_parent =
     absurd (both_ways _ no_parent hit))
     (λ e. e)
 
--- the last piece of a string that ends in a component is a name, unless it is `.` or `..`
+-- if s ends in a component and isn't `.`, and the last piece of s is neither empty nor `..`, then
+-- this piece is a name
 pub last_name : (s : List ℕ) (start : ℕ) → IsLastStart s start → start < length s → EndsInPart s
     → bytes_eq s cur_dir ≡ false → ends_with_parent_dir s ≡ false
     → first_value (drop start s) ≡ Normal (drop start s)
 last_name s start h l ends no_dot no_parent =
     rw (no_dot_piece s start h l ends no_dot, no_parent_piece s start h l no_parent) refl
 
--- removing a last piece that is a name, and then the filler before it, removes the last component
+-- if s ends in a component, its last piece is neither empty nor `.` nor `..`, and the first n bytes
+-- of s are the bytes before this piece without trailing filler, then removing the last component of
+-- s, a name, leaves these n bytes
 pub takes_last_name : (s : List ℕ) (start n : ℕ) → IsLastStart s start → start < length s
     → EndsInPart s → bytes_eq s cur_dir ≡ false → ends_with_parent_dir s ≡ false → n ≤ start
     → parts (take n s) ≡ parts (take start s) → (0 < n → is_trailing s (n - 1) ≡ false)
@@ -67,13 +71,14 @@ takes_last_name s start n h l ends no_dot no_parent before same trimmed =
     subst (TakesLast s (take n s)) (last_name s start h l ends no_dot no_parent)
     (takes_last s start n h l ends before same trimmed)
 
--- a string that ends with `..` has at least two bytes
+-- if the last piece of s is `..`, s has at least two bytes
 pub length-with_parent : (s : List ℕ) → ends_with_parent_dir s ≡ true → 1 < length s
 length-with_parent s e =
     let all = and_parts (eqb (get_or s (length s - 1) 0) 46) _ e in
     ltb-true _ _ (and_parts (ltb 1 (length s)) _ all.1).0
 
--- the last piece of a string that ends with `..` is `..`, and begins two bytes before the end
+-- if `ends_with_parent_dir s` is true, the last piece of s is `..`, and begins two bytes before the
+-- end of s
 pub starts_parent : (s : List ℕ) → ends_with_parent_dir s ≡ true
     → IsLastStart s (length s - 2) × (first_value (drop (length s - 2) s) ≡ ParentDir)
 starts_parent s e =
@@ -101,7 +106,7 @@ starts_parent s e =
       ap first_value is,
     )
 
--- the last piece of `.` is `.`, and begins at index 0
+-- if s is `.`, its last piece begins at index 0 and is the component `.`
 pub starts_dot : (s : List ℕ) → bytes_eq s cur_dir ≡ true
     → IsLastStart s 0 × (first_value (drop 0 s) ≡ CurDir)
 starts_dot s e =

@@ -21,12 +21,13 @@ use Rattle.unix_path.specs.CommonDir.{inner_values}
 use Rattle.unix_path.specs.Steps.{StepsFirst}
 use Rattle.unix_path.proofs.lemmas.parts.ValueLemmas.{first_value}
 
--- if s is empty or begins with a slash, its first piece is empty
+-- if s is empty or begins with a slash, its first slash or its end is at index 0
 position_or_len-cut : (s : List ℕ) → get_or s 0 47 ≡ 47 → position_or_len is_slash s ≡ 0
 position_or_len-cut [] e = refl
 position_or_len-cut (b ∷ s) e = position_or_len-slash b s (rw e refl)
 
--- a `.` at the beginning, followed by a slash or the end, is the first component
+-- if s is empty or begins with a slash, the components of `.` followed by s are `.`, and then the
+-- inner components of s
 parts-leading_dot : (s : List ℕ) → get_or s 0 47 ≡ 47
     → parts (46 ∷ s) ≡ record { start = 0; end = 1; value = CurDir } ∷ inner_parts 1 s
 parts-leading_dot s e =
@@ -36,7 +37,8 @@ parts-leading_dot s e =
     ∙ ap (λ n. record { start = 0; end = n; value = first_value (take n (46 ∷ s)) }
     ∷ inner_parts n (drop n (46 ∷ s))) one
 
--- a `..` at the beginning, followed by a slash or the end, is the first component
+-- if s is empty or begins with a slash, the components of `..` followed by s are `..`, and then the
+-- inner components of s
 parts-two_dots : (s : List ℕ) → get_or s 0 47 ≡ 47
     → parts (46 ∷ 46 ∷ s) ≡ record { start = 0; end = 2; value = ParentDir } ∷ inner_parts 2 s
 parts-two_dots s e =
@@ -48,7 +50,8 @@ parts-two_dots s e =
     ∙ ap (λ n. record { start = 0; end = n; value = first_value (take n (46 ∷ 46 ∷ s)) }
     ∷ inner_parts n (drop n (46 ∷ 46 ∷ s))) two
 
--- if s begins with a leading `.`, this `.` is its first component
+-- if s begins with filler that isn't a slash, which is a leading `.`, the components of s are this
+-- `.`, and then the inner components of the bytes after it
 pub parts-dot_first : (s : List ℕ) → 0 < length s → is_filler s 0 ≡ true
     → eqb (get_or s 0 0) 47 ≡ false
     → parts s ≡ record { start = 0; end = 1; value = CurDir } ∷ inner_parts 1 (drop 1 s)
@@ -65,7 +68,8 @@ one_byte_no_parent : (b : ℕ) → (eqb b 46 && false) ≡ true → ⊥
 one_byte_no_parent b e =
     by_test (eqb b 46) (λ h. both_ways _ (rw h refl) e) (λ h. both_ways _ (rw h refl) e)
 
--- if the first piece of s is `..`, it is the first component
+-- if the first piece of s is `..`, the components of s are `..`, and then the inner components of
+-- the bytes after it
 pub parts-parent_first : (s : List ℕ) → starts_with_parent_dir s ≡ true
     → parts s ≡ record { start = 0; end = 2; value = ParentDir } ∷ inner_parts 2 (drop 2 s)
 parts-parent_first [] e = cc
@@ -76,14 +80,15 @@ parts-parent_first (b ∷ c ∷ s) e =
     ap₂ (λ b c. parts (b ∷ c ∷ s)) (eqb-true b 46 first.0) (eqb-true c 46 second.0)
     ∙ parts-two_dots s (eqb-true _ 47 second.1)
 
--- the components of a string that begins with `..` are `..` and the inner components after it
+-- if the first piece of s is `..`, the components of s, without positions, are `..`, and then the
+-- inner components of the bytes after it
 pub values-parent_first : (s : List ℕ) → starts_with_parent_dir s ≡ true
     → values s ≡ ParentDir ∷ inner_values (drop 2 s)
 unfolding values
 values-parent_first s e = ap (map (λ (p : Part). p.value)) (parts-parent_first s e)
     ∙ ap (λ vs. ParentDir ∷ vs) (values-inner_parts 2 (drop 2 s))
 
--- a string that begins with `..` has at least two bytes
+-- if the first piece of s is `..`, s has at least two bytes
 pub length-parent_first : (s : List ℕ) → starts_with_parent_dir s ≡ true → 2 ≤ length s
 length-parent_first [] e = cc
 length-parent_first (b ∷ []) e = absurd (one_byte_no_parent b e)
@@ -93,7 +98,8 @@ length-parent_first (b ∷ c ∷ s) e = omega arith
 pub not_filler_no_slash : (s : List ℕ) → is_filler s 0 ≡ false → eqb (get_or s 0 0) 47 ≡ false
 not_filler_no_slash s e = (or_parts (eqb (get_or s 0 0) 47) _ e).0
 
--- the first three bytes determine whether the first piece is `..`
+-- if s doesn't begin with a slash, its first piece is `..` if and only if
+-- `starts_with_parent_dir s` is true
 first_piece_parent : (s : List ℕ) → eqb (get_or s 0 0) 47 ≡ false
     → bytes_eq (first_piece s) parent_dir ≡ starts_with_parent_dir s
 first_piece_parent [] e = refl
@@ -101,7 +107,7 @@ first_piece_parent (b ∷ s) e =
     ap (λ p. bytes_eq p parent_dir) (first_piece-other b s e)
     ∙ ap (λ t. eqb b 46 && t) (first_piece_dot s)
 
--- a first piece that is neither empty nor `.` nor `..` is a name
+-- if s is not empty and begins with no filler, and its first piece isn't `..`, this piece is a name
 pub first_value-name : (s : List ℕ) → 0 < length s → is_filler s 0 ≡ false
     → starts_with_parent_dir s ≡ false → first_value (first_piece s) ≡ Normal (first_piece s)
 first_value-name s l not_filler e =
@@ -110,13 +116,15 @@ first_value-name s l not_filler e =
     first_piece_parent s is.0 ∙ e in
     rw (is.1, no_parent) refl
 
--- the first component is v and ends at e, and the filler after it ends at n
+-- the first component of t is v and ends at e, the filler after it ends at n, and the other
+-- components are the inner components of the bytes from n on
 pub record IsFirst (t : List ℕ) (e n : ℕ) (v : Value) : Type 0 where
   pub in_range : n ≤ length t
   pub parts_are : parts t ≡ record { start = 0; end = e; value = v } ∷ inner_parts n (drop n t)
   pub not_filler : n < length t → is_filler t n ≡ false
 
--- `IsFirst` holds if the first component ends at e, and d bytes of filler follow it
+-- if the first component of t is v and ends at e, and exactly d bytes of filler follow it, then
+-- `IsFirst` holds for t, e, `e + d` and v: this filler ends at `e + d`
 pub is_first : (t : List ℕ) (e d : ℕ) (v : Value) → e ≤ length t
     → parts t ≡ record { start = 0; end = e; value = v } ∷ inner_parts e (drop e t)
     → d ≤ length (drop e t)
@@ -133,7 +141,8 @@ is_first t e d v l first m filler not_filler =
           ∙ is_filler-drop (drop e t) d ∙ not_filler (omega arith);
     }
 
--- if the filler after the first component ends at n, a step over n bytes removes this component
+-- if the first component of t is v, and the filler after it ends at n, a step over n bytes removes
+-- v
 pub steps_first : (t : List ℕ) (e n : ℕ) (v : Value) → IsFirst t e n v → StepsFirst t n v
 unfolding values
 steps_first t e n v h =

@@ -12,7 +12,7 @@ use Rattle.unix_path.specs.Parts.{Part, Value, parts}
 use Rattle.unix_path.specs.Rest.{last_end, rest, span_of}
 use Rattle.unix_path.specs.Scan.{EndsInPart}
 
--- after a component is appended, the components end where the appended component ends
+-- if q is appended to the components p and ps, the last of them ends where q ends
 last_end-append : (p : Part) (ps : List Part) (q : Part) → last_end p (ps ++ q ∷ []) ≡ q.end
 last_end-append p [] q = refl
 last_end-append p (r ∷ ps) q = last_end-append r ps q
@@ -21,7 +21,7 @@ pub parts_end-append : (ps : List Part) (q : Part) → parts_end (ps ++ q ∷ []
 parts_end-append [] q = refl
 parts_end-append (p ∷ ps) q = last_end-append p ps q
 
--- the last component of a string that ends in a component ends where the string does
+-- if s is empty or ends in a component, its components end where s ends
 pub parts_end-whole : (s : List ℕ) → EndsInPart s → parts_end (parts s) ≡ length s
 parts_end-whole s ends =
     let at = last_start s in
@@ -39,8 +39,7 @@ parts_end-whole s ends =
     let size : length s ≡ 0 = omega (arith, ltb-false _ _ none) in
     ap parts_end (parts-none s size) ∙ sym size))
 
--- if the first of these components begins at index 0, they span the string up to the end of the
--- last
+-- if the first of the components `all` begins at index 0, they span t up to the end of the last
 from_zero : (t : List ℕ) {all : List Part} {v : Value} {e : ℕ} {ps : List Part}
     → all ≡ record { start = 0; end = e; value = v } ∷ ps → span_of t all ≡ take (parts_end all) t
 from_zero t {v = v} {e = e} {ps = ps} is =
@@ -49,7 +48,8 @@ from_zero t {v = v} {e = e} {ps = ps} is =
     {y = last_end (record { start = 0; end = e; value = v }) ps} (omega arith)
     ∙ ap (λ ps. take (parts_end ps) t) (sym is)
 
--- all components of a string span it from its first byte to the end of the last component
+-- in any string t, the components of s span the bytes from index 0 to the end of the last component
+-- of s
 pub span-parts : (t s : List ℕ) → span_of t (parts s) ≡ take (parts_end (parts s)) t
 span-parts t s = by_test (ltb 0 (length s))
     (λ some. by_test (eqb (get_or s 0 0) 47)
@@ -65,14 +65,15 @@ unfolding rest
 rest-whole s = ap (span_of s) (take_all (length (parts s) - (0 + 0)) (parts s) (omega arith))
     ∙ span-parts s s
 
--- a prefix that has all components of s, and ends in a component, is `rest s 0 0`
+-- if the first n bytes of s have the same components as s, and are empty or end in a component,
+-- they are `rest s 0 0`
 pub rest-trimmed : (s : List ℕ) (n : ℕ) → n ≤ length s → parts (take n s) ≡ parts s
     → EndsInPart (take n s) → rest s 0 0 ≡ take n s
 rest-trimmed s n l same ends = rest-whole s
     ∙ ap (λ k. take k s) (ap parts_end (sym same) ∙ parts_end-whole (take n s) ends
     ∙ length-take-le n s l)
 
--- the rest before the last component spans the components before it
+-- if the components of s are ps and then p, the rest of s before p is what ps span
 pub rest-last : (s : List ℕ) (ps : List Part) (p : Part) → parts s ≡ ps ++ p ∷ []
     → rest s 0 1 ≡ span_of s ps
 unfolding rest
@@ -84,7 +85,7 @@ rest-last s ps p e =
     ∙ ap (span_of s) (take-append-le (length ps) ps (p ∷ []) (omega arith)
     ∙ take_all (length ps) ps (omega arith))
 
--- if s ends in a component, `rest s 0 0`, from which no component is removed, is s
+-- if s is empty or ends in a component, `rest s 0 0`, from which no component is removed, is s
 pub rest-ended : (s : List ℕ) → EndsInPart s → rest s 0 0 ≡ s
 rest-ended s ends =
     let all = take_all (length s) s (omega arith) in
@@ -94,8 +95,8 @@ rest-ended s ends =
 abbrev pub StandsAt : List ℕ → ℕ → List ℕ → Type 0
 StandsAt s at w = take (length w) (drop at s) ≡ w
 
--- if components span all of w, and s contains w at index `at`, the components moved by `at` span w
--- in s
+-- if components that begin at index 0 span all of w, and s contains w at index `at`, these
+-- components, moved by `at`, span w in s
 span_of-part_at : (s : List ℕ) (at : ℕ) (ps : List Part) (w : List ℕ)
     → span_of w ps ≡ take (parts_end ps) w → parts_end ps ≡ length w → StandsAt s at w
     → (ps ≡ [] → w ≡ []) → ((p : Part) (qs : List Part) → ps ≡ p ∷ qs → p.start ≡ 0)
@@ -107,7 +108,7 @@ span_of-part_at s at (p ∷ ps) w span end stands none first =
     omega (arith, last_end-part_at at p ps, first p ps refl) in
     ap₂ (λ n i. take n (drop i s)) size start ∙ stands
 
--- the first component of a string begins at its first byte
+-- the first component of s begins at index 0
 first_start : (s : List ℕ) (p : Part) (qs : List Part) → parts s ≡ p ∷ qs → p.start ≡ 0
 first_start s p qs e = by_test (ltb 0 (length s))
     (λ some. by_test (eqb (get_or s 0 0) 47)
@@ -120,8 +121,8 @@ first_start s p qs e = by_test (ltb 0 (length s))
     start_of : {p q : Part} {ps qs : List Part} → p ∷ ps ≡ q ∷ qs → p.start ≡ q.start
     start_of h = cc
 
--- if s contains w at index `at`, and w ends in a component, the components of w moved by `at` span
--- w in s
+-- if s contains w at index `at`, and w is empty or ends in a component, the components of w, moved
+-- by `at`, span w in s
 pub span_at : (s w : List ℕ) (at : ℕ) → StandsAt s at w → EndsInPart w
     → span_of s (map (part_at at) (parts w)) ≡ w
 span_at s w at stands ends =
@@ -129,7 +130,7 @@ span_at s w at stands ends =
     span_of-part_at s at (parts w) w (span-parts w w) end stands
     (λ none. nil_from_length w (sym end ∙ ap parts_end none)) (first_start w)
 
--- the first `len` bytes of s have all its components and end in a component
+-- the first `len` bytes of s have the same components as s, and are empty or end in a component
 pub record TrimsEnd (s : List ℕ) : Type 0 where
   pub len : ℕ
   pub in_range : len ≤ length s
@@ -148,7 +149,7 @@ trims_end s =
       ends = EndsInPart-take s trim.len trim.in_range trim.ends;
     }
 
--- if no component is removed, the length of the rest is the index where the last component ends
+-- the length of `rest s 0 0` is the index where the last component of s ends, or 0 if s has none
 pub length-rest_whole : (s : List ℕ) → length (rest s 0 0) ≡ parts_end (parts s)
 length-rest_whole s =
     let trim = trims_end s in

@@ -16,14 +16,14 @@ use Rattle.unix_path.specs.Rest.{rest, span_of}
 use Rattle.unix_path.specs.Scan.{is_filler, is_trailing, EndsInPart}
 use Rattle.unix_path.specs.Steps.{TakesFirst, TakesLast}
 
--- the rest after the first component spans the components after it
+-- if the components of s are p and then ps, the rest of s after p is what ps span
 rest-first : (s : List ℕ) (p : Part) (ps : List Part) → parts s ≡ p ∷ ps
     → rest s 1 0 ≡ span_of s ps
 unfolding rest
 rest-first s p ps e = rw e (ap (span_of s) (take_all (length (p ∷ ps) - 1) ps (omega arith)))
 
--- if u, which is t without its first i bytes, begins with no filler and ends in a component, its
--- components span all of u
+-- if u is t without its first i bytes and begins with no filler, and the last inner component of u
+-- ends where t ends, the inner components of u span u in t
 span_not_filler : (t u : List ℕ) (i : ℕ) → drop i t ≡ u → i ≤ length t
     → (0 < length u → is_filler u 0 ≡ false)
     → (0 < length u → parts_end (inner_parts i u) ≡ length t)
@@ -36,8 +36,9 @@ span_not_filler t (b ∷ u) i is l not_filler end =
     ap (span_of t) first ∙ ap (λ n. take (n - i) (drop i t)) (sym (ap parts_end first) ∙ reaches)
     ∙ take_all (length t - i) (drop i t) (omega arith) ∙ is
 
--- if the first component ends at e, and the filler after it ends at n, removing the first n bytes
--- removes this component
+-- if t is empty or ends in a component, its components are v and then the inner components of the
+-- bytes from n on, and the byte at n, if any, is not filler, then removing v leaves the bytes from
+-- n on
 pub takes_first : (t : List ℕ) (e n : ℕ) (v : Value) → EndsInPart t → n ≤ length t
     → parts t ≡ record { start = 0; end = e; value = v } ∷ inner_parts n (drop n t)
     → (0 < length (drop n t) → is_filler (drop n t) 0 ≡ false) → TakesFirst t (drop n t) v
@@ -61,8 +62,8 @@ takes_first t e n v ends l all not_filler =
     end_of i u some not_filler e v =
         let first = inner_parts_not_filler i u some not_filler in rw first refl
 
--- if the first n bytes of t have all components of t except the last, and end in a component,
--- cutting t to these bytes removes the last component
+-- if the components of t are those of its first n bytes and then v, and these bytes are empty or
+-- end in a component, then removing v from t leaves these bytes
 takes_last_to : (t : List ℕ) (n at to : ℕ) (v : Value) → n ≤ length t
     → parts t ≡ parts (take n t) ++ record { start = at; end = to; value = v } ∷ []
     → EndsInPart (take n t) → TakesLast t (take n t) v
@@ -77,7 +78,9 @@ takes_last_to t n at to v l all ends =
       ends = ends;
     }
 
--- removing the last piece, and then the filler before it, removes the last component
+-- if t ends in a component, its last piece begins at `start` and isn't empty, and the first n bytes
+-- of t are the first `start` bytes without trailing filler, then removing the component of this
+-- piece leaves these n bytes
 pub takes_last : (t : List ℕ) (start n : ℕ) → IsLastStart t start → start < length t → EndsInPart t
     → n ≤ start → parts (take n t) ≡ parts (take start t) → (0 < n → is_trailing t (n - 1) ≡ false)
     → TakesLast t (take n t) (first_value (drop start t))
@@ -88,8 +91,8 @@ takes_last t start n h l ends m same trimmed =
     { start = last.0; end = length t; value = first_value (drop start t) } ∷ []) (sym same))
     (EndsInPart-take t n (omega arith) trimmed)
 
--- a string that ends in a component and in a slash has the root as its last component, and nothing
--- remains if the root is removed
+-- if t isn't empty, ends in a component, and its last byte is a slash, its last component is the
+-- root, and removing the root leaves nothing
 pub takes_root : (t : List ℕ) → 0 < length t → EndsInPart t → get_or t (length t - 1) 0 ≡ 47
     → TakesLast t (take 0 t) RootDir
 takes_root t l ends e =

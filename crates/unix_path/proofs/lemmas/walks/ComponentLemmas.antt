@@ -18,7 +18,7 @@ name_of-other CurDir h = refl
 name_of-other ParentDir h = refl
 name_of-other (Normal name) h = absurd (h name refl)
 
--- a `Component` that isn't `RootDir` isn't the root as a value
+-- if a `Component` isn't `RootDir`, its value isn't the root
 pub value_of-other : (x : Component) → (x ≡ RootDir → ⊥) → value_of x ≡ parts.RootDir → ⊥
 value_of-other RootDir h e = h refl
 value_of-other CurDir h e = cc
@@ -32,7 +32,7 @@ pub file_name_of-normal : {x : Component} {name : UnixStr} (s w : List ℕ)
 file_name_of-normal {x} s w last is =
     ap (λ x. name_of (value_of x)) (sym is) ∙ file_name_of-push s w (value_of x) last
 
--- if the last component is not `Normal`, there is no file name
+-- if the last component of s is not `Normal`, s has no file name
 pub file_name_of-other : (s w : List ℕ) (x : Component)
     → values s ≡ values w ++ value_of x ∷ [] → ((name : UnixStr) → x ≡ Normal name → ⊥)
     → None ≡ file_name_of (values s)

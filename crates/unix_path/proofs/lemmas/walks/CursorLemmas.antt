@@ -1,5 +1,5 @@
--- What calls on a cursor and chains of iterators yield: its components in order, or in reverse
--- order after `rev`.
+-- What calls on a cursor, and chains of iterators on it, yield: the components of the cursor in
+-- order, or in reverse order after `rev`.
 use Rattle.std.proofs.Common.{ap, ◌∙◌, ◌∷◌, [], length, None, reverse, subst, ◌≤◌, ◌-◌, drop}
 use Rattle.std.proofs.Common.{◌≡◌, refl, sym, arith, length-drop}
 use Rattle.std.specs.Iterator.Adapters.{rev_source, rev_steps}
@@ -19,7 +19,7 @@ use Rattle.unix_path.specs.declared.cursor.walk.Components.{Components}
 use Rattle.unix_path.specs.declared.cursor.iter.Iter.{Iter}
 use Rattle.unix_path.specs.Steps.{IsWalk}
 
--- the rest of a walk is no longer than its source
+-- the rest of the walk c is no longer than the source of c
 pub length-cursor_rest : (c : Components) → length (cursor_rest c) ≤ length (cursor_source c).now
 unfolding cursor_rest
 length-cursor_rest c = omega (
@@ -28,12 +28,12 @@ length-cursor_rest c = omega (
   length-drop c.start c.source.now,
 )
 
--- the rest of a walk has no trailing filler, so that it is its own rest if no component is removed
+-- if r is the rest of a walk, r has no trailing filler: `rest r 0 0` is r
 pub cursor_rest-whole : (c : Components) → cursor_rest c ≡ rest (cursor_rest c) 0 0
 unfolding cursor_rest IsWalk
 cursor_rest-whole c = sym (rest-ended (cursor_rest c) c.fields.ends)
 
--- if the rest is empty, `next` returns `None`, and leaves the cursor unchanged
+-- if the rest of the cursor c is empty, `next` returns `None`, and leaves c unchanged
 pub GivesFirst-none : (c : Components) → cursor_rest c ≡ [] → GivesFirstPart c None c
 GivesFirst-none c none =
     let no_value = ap values none ∙ values-nil in
@@ -44,7 +44,7 @@ GivesFirst-none c none =
       end_is = refl;
     }
 
--- if the rest is empty, `next_back` returns `None`, and leaves the cursor unchanged
+-- if the rest of the cursor c is empty, `next_back` returns `None`, and leaves c unchanged
 pub GivesLast-none : (c : Components) → cursor_rest c ≡ [] → GivesLastPart c None c
 GivesLast-none c none =
     let no_value = ap values none ∙ values-nil in
@@ -55,13 +55,13 @@ GivesLast-none c none =
       start_is = refl;
     }
 
--- a cursor yields its components in order
+-- a cursor yields the components that remain in it, in order
 pub Components-yields : (s : Components) → YieldsList GivesFirstPart value_of s (cursor_values s)
 Components-yields s =
     YieldsList-from_shown GivesFirstPart value_of cursor_values (λ s t h. ap length h.item_is.0)
     (λ s x t h. h.item_is) s
 
--- after `rev` an `Iter` yields the bytes of its components in reverse order
+-- after `rev`, an `Iter` yields the bytes of each component that remains in it, in reverse order
 Rev-yields : (s : Rev Iter)
     → YieldsList (rev_steps GivesLastName) name_bytes s (reverse (iter_bytes (rev_source s)))
 Rev-yields s =
@@ -71,7 +71,7 @@ Rev-yields s =
     (λ s x t h. ap reverse h.item_is
     ∙ reverse-append (iter_bytes (rev_source t)) (name_bytes x ∷ [])) s
 
--- the `rev` of c yields the bytes of the components of c in reverse order
+-- if s is the `rev` of c, s yields the bytes of each component that remains in c, in reverse order
 pub Iter-yields_back : {s : Rev Iter} {c : Iter} → rev_source s ≡ c
     → YieldsList (rev_steps GivesLastName) name_bytes s (reverse (iter_bytes c))
 Iter-yields_back {s} e =

@@ -13,15 +13,15 @@ use Rattle.unix_path.proofs.lemmas.rests.RestLemmas.{rest-rest}
 use Rattle.unix_path.specs.CallsMixed.{GivesMixed}
 
 module _ {S A V : Type 0} (shows : A → V) (pending : S → List V) where
-  -- the item that a call of `next` returned, and then the items that remain after the call, are the
-  -- items that remained before
+  -- the item that a call of `next` returned, if any, and then the items that remain after the call,
+  -- are the items that remained before
   first_taken : (s t : S) (item : Option A) → YieldsFirstBy shows pending s item t
       → map shows (option_to_list item) ++ pending t ≡ pending s
   first_taken s t None h = h.1 ∙ sym h.0
   first_taken s t (Some x) h = sym h
 
-  -- the items that remain after a call of `next_back`, and then the item that the call returned,
-  -- are the items that remained before
+  -- the items that remain after a call of `next_back`, and then the item that the call returned, if
+  -- any, are the items that remained before
   last_taken : (s t : S) (item : Option A) → YieldsLastBy shows pending s item t
       → pending t ++ reverse (map shows (option_to_list item)) ≡ pending s
   last_taken s t None h = append-nil (pending t) ∙ h.1 ∙ sym h.0
@@ -67,7 +67,8 @@ module _ {S A V : Type 0} (shows : A → V) (pending : S → List V) (bytes : S 
     (whole : (s : S) → bytes s ≡ rest (bytes s) 0 0)
     (none : (s : S) → pending s ≡ [] → bytes s ≡ [])
   where
-    -- a call of `next` removes a component, or none if none remains
+    -- if s is left with u without `length xs` leading and m trailing components, a call of `next`
+    -- on s removes one more leading component if it returns an item, and otherwise none
     after_first : (u : List ℕ) (m : ℕ) (xs : List A) (s t : S) (item : Option A)
         → bytes s ≡ rest u (length xs) m → next s item t
         → bytes t ≡ rest u (length (xs ++ option_to_list item)) m
@@ -79,7 +80,9 @@ module _ {S A V : Type 0} (shows : A → V) (pending : S → List V) (bytes : S 
         ∙ ap₂ (rest u) (sym (length-append xs (x ∷ [])))
         (let zero : m + 0 ≡ m = omega arith in zero)
 
-    -- a call of `next_back` removes a component, or none if none remains
+    -- if s is left with u without k leading and `length ys` trailing components, a call of
+    -- `next_back` on s removes one more trailing component if it returns an item, and otherwise
+    -- none
     after_last : (u : List ℕ) (k : ℕ) (ys : List A) (s t : S) (item : Option A)
         → bytes s ≡ rest u k (length ys) → next_back s item t
         → bytes t ≡ rest u k (length (ys ++ option_to_list item))
@@ -103,6 +106,6 @@ module _ {S A V : Type 0} (shows : A → V) (pending : S → List V) (bytes : S 
     rest_between old new front at_back (GivesMixed.at_back {xs} {ys} {s} {t} item calls call) =
         after_last (bytes old) (length xs) ys s t item (rest_between old s xs ys calls) call
 
--- if no components remain, the rest of a walk has no bytes
+-- if no components remain in the walk c, the rest of c has no bytes
 pub none-cursor_rest : (c : Components) → cursor_values c ≡ [] → cursor_rest c ≡ []
 none-cursor_rest c none = values-none (cursor_rest c) none

@@ -1,4 +1,4 @@
--- The range between two indices of a string, as its components are removed.
+-- The range between two indices of a string, from which components are removed at either end.
 use Rattle.std.proofs.Common.{◌≡◌, ℕ, ◌+◌, ◌-◌, ◌≤◌, ◌<◌, Bool, true, false, ◌&&◌, ◌||◌, eqb}
 use Rattle.std.proofs.Common.{ltb, List, [], ◌∷◌, ◌++◌, length, get_or, take, drop, map, refl, sym}
 use Rattle.std.proofs.Common.{ap, subst, ◌∙◌, arith, drop-drop, take-take, eqb-true}
@@ -22,25 +22,27 @@ use Rattle.unix_path.proofs.lemmas.steps.SpanLemmas.{parts_end-whole}
 use Rattle.unix_path.proofs.lemmas.parts.ValueLemmas.{first_value}
 use Rattle.unix_path.proofs.lemmas.parts.PlaceLemmas.{parts_end}
 
--- the range from a to b, without its first n bytes, is the range from a + n to b
+-- if n is at most b - a, the range of s from a to b, without its first n bytes, is the range from
+-- `a + n` to b
 range-drop : (s : List ℕ) (a b n : ℕ) → n ≤ b - a
     → drop n (slice_range s a b) ≡ slice_range s (a + n) b
 range-drop s a b n l =
     ap (λ k. drop n (take k (drop a s))) {x = b - a} {y = n + (b - (a + n))} (omega arith)
     ∙ drop-take n (b - (a + n)) (drop a s) ∙ ap (take (b - (a + n))) (drop-drop n a s)
 
--- the first n bytes of the range from a to b are the range from a to a + n
+-- if n is at most b - a, the first n bytes of the range of s from a to b are the range from a to
+-- `a + n`
 range-take : (s : List ℕ) (a b n : ℕ) → n ≤ b - a
     → take n (slice_range s a b) ≡ slice_range s a (a + n)
 range-take s a b n l =
     take-take n (b - a) (drop a s) l
     ∙ ap (λ k. take k (drop a s)) {x = n} {y = a + n - a} (omega arith)
 
--- the range from 0 to n is the first n bytes
+-- the range of s from 0 to n is the first n bytes of s
 pub range-zero : (s : List ℕ) (n : ℕ) → slice_range s 0 n ≡ take n s
 range-zero s n = ap (λ k. take k s) {x = n - 0} {y = n} (omega arith)
 
--- true if a root or a `.` comes first
+-- true if the first component is the root or a `.`
 abbrev lead_first : List Value → Bool
 lead_first (RootDir ∷ vs) = true
 lead_first (CurDir ∷ vs) = true
@@ -61,8 +63,8 @@ is_filler-first (b ∷ s) = by_test (eqb b 47)
         (λ e. rw e refl)
         (λ e. by_test (bytes_eq p parent_dir) (λ f. rw (e, f) refl) (λ f. rw (e, f) refl))
 
--- if two strings have the same components, both begin with the root or a leading `.`, or neither
--- does
+-- if s and t have the same components at the same positions, both begin with the root or a leading
+-- `.`, or neither does
 pub is_filler-same : (s t : List ℕ) → parts s ≡ parts t → is_filler s 0 ≡ is_filler t 0
 unfolding values
 is_filler-same s t e = is_filler-first s ∙ ap (λ ps. lead_first (map (λ p. p.value) ps)) e
@@ -72,14 +74,15 @@ pub first_not_filler : (u : List ℕ) → (0 < length u → is_filler u 0 ≡ fa
 first_not_filler [] h = refl
 first_not_filler (b ∷ u) h = sym (h (omega arith))
 
--- removing the first component from the range from a to b leaves the range from a + n to b
+-- the first component of the range of s from a to b is v, and removing v leaves the range from
+-- `a + n` to b, which doesn't begin with filler
 pub record StepsForward (s : List ℕ) (a b n : ℕ) (v : Value) : Type 0 where
   pub in_order : a + n ≤ b
   pub takes : TakesFirst (slice_range s a b) (slice_range s (a + n) b) v
   pub lead : false ≡ is_filler (slice_range s (a + n) b) 0
 
--- if the first component and the filler after it have n bytes, a step over them moves the start of
--- the range from a to a + n
+-- if the range of s from a to b ends in a component, and its first component v and the filler after
+-- v have n bytes, then removing v leaves the range from a + n to b (`StepsForward`)
 pub steps_forward : (s : List ℕ) (a b n : ℕ) (v : Value) → a ≤ b → b ≤ length s
     → EndsInPart (slice_range s a b) → StepsFirst (slice_range s a b) n v → StepsForward s a b n v
 steps_forward s a b n v in_order in_range ends step =
@@ -93,8 +96,8 @@ steps_forward s a b n v in_order in_range ends step =
           (subst (λ u. 0 < length u → is_filler u 0 ≡ false) is step.not_filler);
     }
 
--- if the first component of a walk's rest and the filler after it have n bytes, a step over them
--- moves the walk's `start` by n
+-- if the first component v of the rest of the walk c, and the filler after v, have n bytes, then a
+-- step over v moves the `start` of c by n
 pub walks_forward : {t : List ℕ} (c : Components) (n : ℕ) (v : Value) → t ≡ cursor_rest c
     → StepsFirst t n v → StepsForward c.source.now c.start c.end n v
 unfolding cursor_rest IsWalk
@@ -102,13 +105,14 @@ walks_forward c n v e step =
     steps_forward c.source.now c.start c.end n v c.fields.in_order c.fields.in_range c.fields.ends
     (subst (λ t. StepsFirst t n v) e step)
 
--- removing the last component from the range from a to b leaves its first n bytes
+-- the last component of the range of s from a to b is v, and removing v leaves the first n bytes of
+-- the range; if n isn't 0, these begin with the root or a leading `.` if and only if the range does
 pub record StepsBack (s : List ℕ) (a b n : ℕ) (v : Value) : Type 0 where
   pub in_order : a + n ≤ b
   pub takes : TakesLast (slice_range s a b) (slice_range s a (a + n)) v
   pub lead : (is_filler (slice_range s a b) 0 && ltb 0 n) ≡ is_filler (slice_range s a (a + n)) 0
 
--- a string without components is empty, if it has no trailing filler
+-- if u has no trailing filler and no components, it is empty
 no_values : (u : List ℕ) → EndsInPart u → values u ≡ [] → length u ≡ 0
 unfolding values
 no_values u ends e =
@@ -124,8 +128,8 @@ lead_first-push (CurDir ∷ vs) v some = refl
 lead_first-push (ParentDir ∷ vs) v some = refl
 lead_first-push (Normal name ∷ vs) v some = refl
 
--- the rest before the last component begins with a root or a leading `.` if and only if the whole
--- string does and the rest is not empty
+-- if u is t without its last component v, then u begins with the root or a leading `.` if and only
+-- if t does and u isn't empty
 lead_before_last : (t u : List ℕ) (v : Value) (n : ℕ) → TakesLast t u v → length u ≡ n
     → (is_filler t 0 && ltb 0 n) ≡ is_filler u 0
 lead_before_last t u v n h size = by_test (ltb 0 n)
@@ -146,8 +150,8 @@ lead_before_last t u v n h size = by_test (ltb 0 n)
     and_false true = refl
     and_false false = refl
 
--- if removing the last component of the range from a to b leaves n bytes, a step over this
--- component moves the end of the range to a + n
+-- if removing the last component v of the range of s from a to b leaves its first n bytes, a step
+-- over v moves the end of the range to a + n
 pub steps_back : (s : List ℕ) (a b n : ℕ) (v : Value) → a ≤ b → b ≤ length s
     → n ≤ length (slice_range s a b) → TakesLast (slice_range s a b) (take n (slice_range s a b)) v
     → StepsBack s a b n v
@@ -164,8 +168,8 @@ steps_back s a b n v in_order in_range l takes =
       lead = lead_before_last (slice_range s a b) (slice_range s a (a + n)) v n moved before;
     }
 
--- if removing the last component of a walk's rest leaves n bytes, a step over this component moves
--- the walk's `end` to `start` + n
+-- if removing the last component v of the rest of the walk c leaves its first n bytes, a step over
+-- v moves the `end` of c to the `start` of c, plus n
 pub walks_back : {t : List ℕ} (c : Components) (n : ℕ) (v : Value) → t ≡ cursor_rest c
     → n ≤ length t → TakesLast t (take n t) v → StepsBack c.source.now c.start c.end n v
 unfolding cursor_rest IsWalk
@@ -173,8 +177,9 @@ walks_back c n v e l takes =
     steps_back c.source.now c.start c.end n v c.fields.in_order c.fields.in_range
     (subst (λ t. n ≤ length t) e l) (subst (λ t. TakesLast t (take n t) v) e takes)
 
--- if u is s without trailing filler, u and s have the same last component, and the rest w of u
--- before this component is the rest of s before it
+-- if u is s without trailing filler and has `end` bytes, its last component is v, and the rest of u
+-- before v is the first `before` bytes of s, then v is the last component of s, ends at `end`, and
+-- comes after the same rest (`HasLast`)
 pub has_last : {u w : List ℕ} (s : List ℕ) (before end : ℕ) (v : Value) → u ≡ rest s 0 0
     → values u ≡ values w ++ v ∷ [] → w ≡ rest u 0 1 → w ≡ take before s → length u ≡ end
     → before ≤ length s → HasLast s before end v

@@ -21,7 +21,8 @@ returns-then-past-eq0-clause-value c =
     (ordinary_from s _ c.args.known past.result c.args.known c.requires.in_range
     (take_rest s c.args.known) past.ensures.none_after (omega (arith, c.if-past-eq0.true)))
 
--- the byte before index known + past is in the string
+-- if s has at least `known` bytes, at least `past` bytes follow these, and `past` is not 0, then
+-- the byte before index `known` + `past` is in s
 fits : (s : List ℕ) (known past : ℕ) → known ≤ length s
     → past ≤ length (take (length s - known) (drop known s)) → (past ≡ 0 → ⊥)
     → known + past - 1 < length s

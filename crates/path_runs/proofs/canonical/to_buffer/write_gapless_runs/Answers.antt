@@ -6,8 +6,8 @@ use Rattle.path_runs.proofs.lemmas.lists.WritingLemmas.{writes_stretch, writes_r
 use Rattle.path_runs.proofs.lemmas.lists.WritingLemmas.{writes_end}
 use Rattle.path_runs.proofs.canonical.to_buffer.write_gapless_runs.Goals as goal
 
--- if the length of `out` is at least `gap` plus the length of the components after the gap, the
--- bytes before the gap and these components fit into `out`
+-- if `out` has at least `gap` bytes plus those of the components of s after index `gap`, each with
+-- a slash before it, then the first `gap` bytes of s and these components fit into `out`
 room : (s out : List ℕ) (gap : ℕ) → gap ≤ length s
     → gap + length (slashed_parts (drop gap s)) ≤ length out
     → length (take gap s ++ slashed_parts (drop gap s)) ≤ length out

@@ -3,8 +3,8 @@ use Rattle.path_runs.specs.Gaps.{slashed_parts, IsPartStart}
 use Rattle.path_runs.proofs.lemmas.lists.WritingLemmas.{WritesOn}
 use Rattle.path_runs.proofs.canonical.to_buffer.write_gapless_runs.Given as goal
 
--- a prefix of the canonical form has been written, and the remaining components are the rest of the
--- canonical form
+-- a prefix of the canonical form has been written, and the remaining components, each after a
+-- slash, are the rest of the canonical form
 abbrev pub invariant-loop-start : goal.invariant-loop-start
 invariant-loop-start l = record {
   in_range : l.start ≤ length l.bytes;

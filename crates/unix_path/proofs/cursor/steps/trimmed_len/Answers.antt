@@ -4,7 +4,8 @@ use Rattle.unix_path.proofs.lemmas.filler.TrimLemmas.{parts_shorter}
 use Rattle.unix_path.proofs.cursor.steps.trimmed_len.Goals as goal
 use Rattle.unix_path.proofs.cursor.steps.trimmed_len.Goals.{Then-is_trailing}
 
--- removing one more trailing byte doesn't change the components
+-- if one more byte is removed from the end, the bytes of the path that remain have the same
+-- components as the first `len` bytes
 trims_one : (c : Then-is_trailing)
     → parts (take (c.loop-end.end - 1) c.args.path.now) ≡ parts (take c.args.len c.args.path.now)
 trims_one c =

@@ -13,8 +13,8 @@ use Rattle.unix_path.proofs.pair.Comparison.compare_after_cut.Goals as goal
 pub loop-second-init : goal.loop-second-init
 loop-second-init c = record { shares = λ s t h. h; tail = IsTail-itself c.args.a }
 
--- after the filler at their beginning is skipped, the rests are still rests of the two paths after
--- the same components
+-- if the arguments a and b are the rests of s and t after the same components, so are the results
+-- of both calls of `after_filler`
 shares : (c : After-after_filler-second) (s t : List ℕ) → SharesPrefix s t c.args.a.now c.args.b.now
     → SharesPrefix s t c.after_filler-first.result.now c.after_filler-second.result.now
 shares c s t h = shares-past (c.loop-second.invariant.shares s t h)

@@ -7,7 +7,8 @@ use Rattle.unix_path.proofs.lemmas.order.PairLemmas.{kinds-cmp}
 use Rattle.unix_path.proofs.pair.Pair.first_components_order.Goals.{After-cmp-by_kind}
 use Rattle.unix_path.proofs.pair.Pair.first_components_order.Goals as goal
 
--- comparing the kinds of the two paths is the same as comparing the ranks of their first values
+-- the order of the two paths by the kinds of their first components is the order of their
+-- `first_rank`s
 by_kind-is : (c : After-cmp-by_kind) → c.cmp-by_kind.result
     ≡ nat_cmp (first_rank (values c.args.self.first.now))
     (first_rank (values c.args.self.second.now))

@@ -40,8 +40,8 @@ is_piece_start-requires c =
     let pair = c.args.self in
     omega (arith, pair.alike, (common_prefix_len-le eqb pair.first.now pair.second.now).0)
 
--- if the condition for a cut at the first difference is false, no piece begins there, and the ranks
--- differ
+-- if the condition for a cut at the first difference is false, no piece of the first path begins
+-- there, and the two paths have different `piece_rank`s there
 told : (c : Joined-x-y) → c.if-x-y.value ≡ false
     → (is_piece_start c.args.self.first.now c.args.self.common ≡ false)
     × (piece_rank c.args.self.first.now c.args.self.common
@@ -79,7 +79,7 @@ returns-else-first-common-eq46 c =
     ∙ ap₂ nat_cmp c.piece_rank-x.ensures c.piece_rank-y.ensures))
     (apart-inside a pair.second.now n pair.alike no.0 dots no.1)
 
--- the paths can be cut at `cut_index`
+-- both paths can be cut at `cut_index`
 cut : (c : Joined-is_piece_start) → CutsAt c.args.self.first.now c.args.self.second.now
     c.if-is_piece_start.cut_index
 cut c =
