@@ -89,9 +89,9 @@ next_is {rest} {run} ws h e k =
     }
 
 -- the text of the values that are left begins with that of the next
-text_left : {ws : List Value} (vs more : List Value) (run : Run) → ws ≡ vs ++ more
+text_remains : {ws : List Value} (vs more : List Value) (run : Run) → ws ≡ vs ++ more
     → text_of vs ≡ run_text run → text_of ws ≡ run_text run ++ text_of more
-text_left {ws} vs more run e text =
+text_remains {ws} vs more run e text =
     ap text_of e ∙ text_of-append vs more ∙ ap (λ t. t ++ text_of more) text
 
 -- there is room for the text of the next run
@@ -101,7 +101,7 @@ pub spells_room : {key rest old out : List ℕ} {at : ℕ} {run : Run}
 spells_room {key} {rest} {old} {out} {at} {run} h k =
     let next = next_is h.ws h.inner h.rest_is k in
     writes_room (run_text run) (text_of next.more) h.written
-    (text_left k.vs next.more run next.is k.text_is) (omega (arith, h.room))
+    (text_remains k.vs next.more run next.is k.text_is) (omega (arith, h.room))
 
 -- the buffer is as long as before
 pub spells_long : {key rest old out : List ℕ} {at : ℕ}
@@ -137,7 +137,7 @@ spells_one {key} {rest} {old} {out} {more} {new} {at} {end} {run} h k e is_put e
       room = ap (λ vs. length (text_of vs)) (sym all) ∙ h.room;
       written = subst (λ vs. WritesOn (text_of vs) old end new (text_of next.more)) all
           (writes_stretch (run_text run) (text_of next.more) h.written
-          (text_left k.vs next.more run next.is k.text_is) is_put ends);
+          (text_remains k.vs next.more run next.is k.text_is) is_put ends);
     }
 
 -- if what is left is the key of no values, none are left

@@ -23,13 +23,13 @@ use Rattle.path_runs.proofs.lemmas.spelling.PieceValueLemmas.{inner_values-piece
 use Rattle.path_keys.specs.Keys.{key_of}
 use Rattle.path_keys.specs.Codes.{AllFit, IsName}
 use Rattle.path_keys.specs.NameBytes.{coded}
-use Rattle.path_keys.specs.Stretches.{FirstStop, IsRun}
+use Rattle.path_keys.specs.PathRuns.{FirstStop, IsRun}
 use Rattle.unix_path.proofs.lemmas.name_run_ends.NameRunEndLemmas.{separator_at_end, no_end_before}
 use Rattle.path_keys.proofs.lemmas.reading.FitLemmas.{values-fit}
 use Rattle.path_keys.proofs.lemmas.values.KeyLemmas.{key_of-cons, key_of-append}
 use Rattle.unix_path.proofs.lemmas.filler.FillerLemmas.{values-not_filler}
-use Rattle.path_keys.proofs.lemmas.writing.StretchLemmas.{later, later_names, some_piece}
-use Rattle.path_keys.proofs.lemmas.writing.StretchLemmas.{stretch_key}
+use Rattle.path_keys.proofs.lemmas.writing.PieceCodeLemmas.{later, later_names, some_piece}
+use Rattle.path_keys.proofs.lemmas.writing.PieceCodeLemmas.{stretch_key}
 
 -- the first value of a string that begins with neither filler nor `..` is its first piece
 values-first : (s : List ℕ) → 0 < length s → is_filler s 0 ≡ false → starts_with_parent_dir s

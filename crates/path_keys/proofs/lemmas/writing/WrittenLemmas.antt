@@ -10,7 +10,7 @@ use Rattle.path_runs.proofs.lemmas.lists.OverlayLemmas.{overlay-bytes_over}
 use Rattle.path_runs.proofs.lemmas.lists.WritingLemmas.{WritesOn, writes_room, writes_stretch}
 use Rattle.path_keys.specs.Keys.{key_of}
 use Rattle.path_keys.specs.NameBytes.{coded}
-use Rattle.path_keys.specs.Stretches.{run_key, IsRun}
+use Rattle.path_keys.specs.PathRuns.{run_key, IsRun}
 
 -- to put bytes in a buffer, and then more after them, is to put both there at once
 overlay-overlay : (at : ℕ) (xs ys old : List ℕ) → at ≤ length old

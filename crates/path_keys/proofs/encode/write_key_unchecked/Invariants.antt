@@ -4,7 +4,7 @@ use Rattle.unix_path.specs.Parts.{values}
 use Rattle.unix_path.specs.Scan.{is_filler}
 use Rattle.path_runs.proofs.lemmas.lists.WritingLemmas.{WritesOn}
 use Rattle.path_keys.specs.Keys.{key_of}
-use Rattle.path_keys.proofs.encode.write_path.Given as goal
+use Rattle.path_keys.proofs.encode.write_key_unchecked.Given as goal
 
 -- a beginning is written, and the key of what is left follows it
 abbrev pub invariant-loop-rest : goal.invariant-loop-rest
