@@ -1,4 +1,4 @@
--- Keys: what they stand for, and those that begin with a base's.
+-- Keys: what they represent, and keys that begin with a base's key.
 pub mod ReadLemmas
 pub mod RowLemmas
 pub mod PassLemmas
@@ -6,4 +6,5 @@ pub mod FilterLemmas
 pub mod UnderLemmas
 pub mod ChildKeyLemmas
 pub mod MovedKeyLemmas
+pub mod RestLemmas
 pub mod NearestLemmas

@@ -6,6 +6,8 @@ use Rattle.std.proofs.Common.{take_all, take_at, take-take, true, true≢false}
 use Rattle.std.proofs.lemmas.List.{nil_from_length}
 use Rattle.unix_path.specs.Parts.{Value, values}
 use Rattle.unix_path.specs.Prefixes.{IsPrefixOf, stripped_of}
+use Rattle.unix_path.specs.Rest.{rest}
+use Rattle.unix_path.proofs.lemmas.rests.RestLemmas.{rest-rest}
 use Rattle.path_runs.specs.Spelling.{spelling_of}
 use Rattle.path_runs.proofs.lemmas.spelling.ReadBackLemmas.{values-spelling_of}
 use Rattle.path_runs.specs.Rows.{value_at}
@@ -40,19 +42,21 @@ is_none None h = refl
 is_none (Some a) h = absurd (h refl)
 
 module _ {V : Type 0} (s key : List ℕ) (rows : List (List Value × V)) where
-  -- what is left of the path s begins it, has the first `end` bytes of the key as its key, and no
-  -- longer beginning of s has a row
+  -- `left` is the path s without some of its last components, its key is the first `end` bytes of
+  -- the key, and no longer prefix of s has a row
   pub record GoesUp (end : ℕ) (left : List ℕ) : Type 0 where
+    pub left_is : (m : ℕ) × (left ≡ rest s 0 m)
     pub begins : IsPrefixOf (values left) (values s)
     pub in_range : end ≤ length key
     pub key_is : take end key ≡ key_of (values left)
     pub longest : (v : List Value) → IsSome (value_at v rows) → IsPrefixOf v (values s)
         → length v ≤ length (values left)
 
-  -- at first all of it is left
+  -- it holds of the whole path and the whole key
   pub goes_up : (end : ℕ) (left : List ℕ) → is_own key ≡ true → key_values key ≡ values s
-      → end ≡ length key → values left ≡ values s → GoesUp end left
-  goes_up end left own is all same = record {
+      → end ≡ length key → left ≡ rest s 0 0 → values left ≡ values s → GoesUp end left
+  goes_up end left own is all whole same = record {
+    left_is = (0, whole);
     begins = ([], append-nil (values left) ∙ same);
     in_range = omega (arith, all);
     key_is = ap (λ n. take n key) all ∙ take_all (length key) key (omega arith)
@@ -88,14 +92,18 @@ module _ {V : Type 0} (s key : List ℕ) (rows : List (List Value × V)) where
   -- where what is left has no row, its last part is taken off, and that part's code off the key
   pub goes_on : (end : ℕ) (left new : List ℕ) (v : Value) → GoesUp end left
       → value_at (values left) rows ≡ None → values left ≡ values new ++ v ∷ []
-      → GoesUp (end - length (code v)) new
-  goes_on end left new v h none is =
+      → new ≡ rest left 0 1 → GoesUp (end - length (code v)) new
+  goes_on end left new v h none is new_is =
       let cut = key_cut end left new v h is in
       let long : end - length (code v) ≡ length (key_of (values new)) =
       omega (arith, key_long end left new v h is) in
       let shorter : length (values left) ≡ length (values new) + 1 =
       ap length is ∙ length-append (values new) (v ∷ []) in
       record {
+        left_is = (
+          h.left_is.0 + 1,
+          new_is ∙ ap (λ w. rest w 0 1) h.left_is.1 ∙ rest-rest s 0 h.left_is.0 0 1,
+        );
         begins = (
           v ∷ h.begins.0,
           sym (append_assoc (values new) (v ∷ []) h.begins.0)

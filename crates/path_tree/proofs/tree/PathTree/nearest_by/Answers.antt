@@ -1,17 +1,33 @@
-use Rattle.std.proofs.Common.{refl, sym, ap, ◌∙◌, ◌-◌, subst, arith}
+use Rattle.std.proofs.Common.{refl, sym, ap, ap₂, ◌∙◌, ◌-◌, subst, arith}
 use Rattle.unix_path.specs.Cursor.{cursor_rest}
 use Rattle.unix_path.specs.Prefixes.{stripped_of}
+use Rattle.unix_path.specs.Rest.{rest}
 use Rattle.unix_path.specs.Views.{value_of}
 use Rattle.path_runs.specs.Rows.{value_at}
 use Rattle.path_tree.specs.Tree.{table_of}
 use Rattle.path_tree.proofs.lemmas.keys.NearestLemmas.{GoesUp, code_fits, goes_on, goes_up}
 use Rattle.path_tree.proofs.lemmas.keys.NearestLemmas.{is_nearest, none_nearer}
 use Rattle.path_tree.proofs.lemmas.keys.ReadLemmas.{own-of, values-of}
+use Rattle.path_tree.proofs.lemmas.keys.RestLemmas.{prefix-trimmed, stripped-trimmed}
 use Rattle.path_tree.proofs.tree.PathTree.nearest_by.Goals as goal
 
 pub loop-value-init : goal.loop-value-init
 loop-value-init g c =
-    goes_up _ _ _ _ _ c.requires.own c.requires.values refl c.components-parts.ensures.values
+    goes_up _ _ _ _ _ c.requires.own c.requires.values refl c.components-parts.ensures.rest
+    c.components-parts.ensures.values
+
+pub rest_after-requires-clause-trimmed : goal.rest_after-requires-clause-trimmed
+rest_after-requires-clause-trimmed g c =
+    let s = c.args.path.bytes.now in
+    let whole = c.as_path-whole.ensures.bytes ∙ c.components-parts.ensures.rest in
+    ap (λ w. rest w 0 0) whole ∙ prefix-trimmed s 0 ∙ sym whole
+
+pub rest_after-requires-clause-base : goal.rest_after-requires-clause-base
+rest_after-requires-clause-base g c =
+    let s = c.args.path.bytes.now in
+    let whole = c.as_path-whole.ensures.bytes ∙ c.components-parts.ensures.rest in
+    let is = c.loop-value.invariant.left_is in
+    (is.0, c.as_path.ensures.bytes ∙ is.1 ∙ sym (ap (λ w. rest w 0 is.0) whole ∙ prefix-trimmed s is.0))
 
 pub find_filtered-requires : goal.find_filtered-requires
 find_filtered-requires g c = own-of _ (cursor_rest c.loop-value.parts) c.loop-value.invariant.key_is
@@ -25,7 +41,8 @@ returns-in-Some-clause-nearest g c =
     (c.in-Some.ensures
     ∙ ap (λ v. value_at v rows) (values-of _ left c.loop-value.invariant.key_is))
     (c.rest_after.ensures.bytes
-    ∙ ap (stripped_of c.args.path.bytes.now) c.as_path.ensures.bytes)
+    ∙ ap₂ stripped_of (c.as_path-whole.ensures.bytes ∙ c.components-parts.ensures.rest)
+    c.as_path.ensures.bytes ∙ stripped-trimmed c.args.path.bytes.now left)
 
 pub returns-in_default-next_back-clause-none : goal.returns-in_default-next_back-clause-none
 returns-in_default-next_back-clause-none g c = λ is.
@@ -59,4 +76,5 @@ loop-value-preserved g c =
     c.loop-value.invariant
     (sym (c.in_default.ensures
     ∙ ap (λ v. value_at v rows) (values-of _ left c.loop-value.invariant.key_is)))
-    c.in-Some-next_back.ensures.steps.item_is)
+    c.in-Some-next_back.ensures.steps.item_is
+    c.in-Some-next_back.ensures.steps.rest_is)
