@@ -1,6 +1,6 @@
 -- What follows a prefix of a path that ends where one of the path's components ends.
-use Rattle.std.proofs.Common.{◌≡◌, ◌∙◌, ◌+◌, ◌-◌, ◌<◌, ◌≤◌, ◌++◌, ℕ, true, false, eqb, List, length}
-use Rattle.std.proofs.Common.{ap, ap₂, arith, drop, eqb-true, get_or, inl, inr, refl, subst, sym}
+use Rattle.std.proofs.Common.{◌≡◌, ◌∙◌, ◌+◌, ◌-◌, ◌<◌, ◌≤◌, ◌++◌, ℕ, false, eqb, List, length}
+use Rattle.std.proofs.Common.{ap, arith, drop, eqb-true, get_or, inl, inr, refl, subst, sym}
 use Rattle.std.proofs.Common.{[], take, take-append-drop}
 use Rattle.std.proofs.lemmas.Bool.{eqb-false}
 use Rattle.std.proofs.lemmas.List.{get_or-take, get_or_past, length-take}

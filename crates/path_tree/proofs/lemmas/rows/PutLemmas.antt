@@ -1,10 +1,8 @@
 -- Entries that are put into rows, the last one first.
 use Rattle.std.proofs.Common.{◌≡◌, ◌∙◌, true, List, [], ◌∷◌, ◌++◌, ap, append_assoc, append-nil}
 use Rattle.std.proofs.Common.{refl, subst, sym}
-use Rattle.std.specs.BTreeMap.{insert_entry}
 use Rattle.std.specs.List.{AllByRecursion}
 use Rattle.std.specs.Map.{keys_of}
-use Rattle.unix_path.specs.Order.{values_cmp}
 use Rattle.unix_path.specs.Parts.{Value}
 use Rattle.path_tree.specs.Moved.{rows_with}
 use Rattle.path_tree.specs.Read.{is_own, key_values}
@@ -32,16 +30,7 @@ module _ {V : Type 0} (all : List (Key × V)) (old : List (List Value × V)) whe
 
   module _ (left : List (Key × V)) (new : List (List Value × V)) (h : PutsLast all old left new)
       (others : List (Key × V)) (k : Key) (x : V) (is : left ≡ others ++ (k, x) ∷ []) where
-    -- then one more
-    pub puts_one : (more : List (List Value × V))
-        → more ≡ insert_entry values_cmp new (key_values k.items) x → PutsLast all old others more
-    puts_one more put = record {
-      done = (k, x) ∷ h.done;
-      split = h.split ∙ ap (λ l. l ++ h.done) is ∙ append_assoc others ((k, x) ∷ []) h.done;
-      rows = put ∙ ap (λ l. insert_entry values_cmp l (key_values k.items) x) h.rows;
-    }
-
-    -- whose key is the key of a path
+    -- the last of the others has the key of a path
     pub one_own : Own (λ (k : Key). k.items) all → is_own k.items ≡ true
     one_own own = (all_rest (λ (k : Key). is_own k.items ≡ true) others ((k, x) ∷ h.done)
         (subst (λ l. AllByRecursion (λ (k : Key). is_own k.items ≡ true) (keys_of l))

@@ -1,7 +1,6 @@
-use Rattle.std.proofs.Common.{◌≡◌, ◌≤◌, ◌<◌, ◌-◌, ◌∙◌, Bor, ap, ap₂, arith, drop, length, refl, subst}
+use Rattle.std.proofs.Common.{◌≡◌, ◌≤◌, ◌<◌, ◌-◌, ◌∙◌, ap, ap₂, arith, drop, length, refl, subst}
 use Rattle.std.proofs.Common.{subst₂, sym, take}
 use Rattle.std.proofs.lemmas.List.{nil_from_length, take_rest}
-use Rattle.unix_path.specs.Prefixes.{stripped_of}
 use Rattle.unix_path.specs.Slices.{IsTail}
 use Rattle.unix_path.specs.Steps.{AfterFiller}
 use Rattle.path_tree.proofs.lemmas.keys.RestLemmas.{rest-after, rest-none, rest_short, tail_of_rest}
