@@ -4,6 +4,7 @@ pub mod RowLemmas
 pub mod PassLemmas
 pub mod FilterLemmas
 pub mod UnderLemmas
+pub mod IntervalLemmas
 pub mod ChildKeyLemmas
 pub mod MovedKeyLemmas
 pub mod RestLemmas

@@ -76,6 +76,9 @@ impl<V> PathTree<V> {
             ≡ value_at (values path.entry.bytes.now) (table_of self.old)) }
         ensures absent { IsErrOf result LookupError.Absent
             → value_at (values path.entry.bytes.now) (table_of self.old) ≡ None }
+        ensures absent_short { length (key_of (values path.entry.bytes.now)) ≤ 512
+            → value_at (values path.entry.bytes.now) (table_of self.old) ≡ None
+            → IsErrOf result LookupError.Absent }
         ensures succeeds { length (key_of (values path.entry.bytes.now)) ≤ 512
             → IsSome (value_at (values path.entry.bytes.now) (table_of self.old)) → IsOk result }
     {

@@ -1,5 +1,5 @@
 //! The entries of a tree in path order: all entries, and the entries under a base.
-ghost use Rattle.std.specs.Prelude.{◌≡◌, ◌<◌, ◌^◌, ◌-◌, [], IfOk, IfSome, IsOk, Some};
+ghost use Rattle.std.specs.Prelude.{◌≡◌, ◌<◌, ◌^◌, ◌-◌, [], IfOk, IfSome, IsOk, IsTrue, Some, false};
 ghost use Rattle.std.specs.Prelude.{length, map, option_map, slice_get};
 ghost use Rattle.std.specs.List.{All};
 ghost use Rattle.std.specs.List.Sorted.{IsStrictlySortedBy};
@@ -78,6 +78,20 @@ impl<V> PathTree<V> {
         ensures fits { length result < 2 ^ 63 }
     {
         self.entries.range(first..end)
+    }
+
+    // Returns true if a key starts with the key of the base.
+    pub(super) fn has_under(&self, base: &PathKey) -> bool
+        ensures some { IsTrue result
+            → entries_under (key_bytes base.now) (entries_of self.now) ≡ [] → ⊥ }
+        ensures none { result ≡ false
+            → entries_under (key_bytes base.now) (entries_of self.now) ≡ [] }
+    {
+        let base = vec_of(base);
+        match self.entries.range(base..).next() {
+            Some((key, _)) => key.as_slice().starts_with(base),
+            None => false,
+        }
     }
 
     // Does nothing. Its contract states what the tree's invariant says of the entries.

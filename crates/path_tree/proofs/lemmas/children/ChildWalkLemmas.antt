@@ -22,10 +22,11 @@ use Rattle.path_tree.specs.Children.{child_entry, child_of, children_of, is_belo
 use Rattle.path_tree.specs.Read.{is_own}
 use Rattle.path_tree.specs.Rows.{Key, key_entries}
 use Rattle.path_tree.proofs.lemmas.children.ChildLemmas.{children-fresh, fresh}
-use Rattle.path_tree.proofs.lemmas.children.ChildLemmas.{goes_on_in, is_after, items_of, le_less}
+use Rattle.path_tree.proofs.lemmas.children.ChildLemmas.{goes_on_in, is_after, items_of}
 use Rattle.path_tree.proofs.lemmas.children.ChildLemmas.{new_child, none_more, pass_child}
 use Rattle.path_tree.proofs.lemmas.children.ChildLemmas.{stays_after}
 use Rattle.path_tree.proofs.lemmas.keys.ChildKeyLemmas.{ChildKey}
+use Rattle.path_tree.proofs.lemmas.keys.IntervalLemmas.{le_less}
 use Rattle.path_tree.proofs.lemmas.keys.RowLemmas.{AllOwn, Own, all_own, keys_cmp}
 use Rattle.path_tree.proofs.lemmas.rows.DifferenceLemmas.{some_append}
 use Rattle.path_tree.proofs.lemmas.rows.EntryLemmas.{between-starts}
