@@ -41,5 +41,5 @@ children_of base entries =
     dedup have_same_key (map (child_entry base) (filter (λ e. is_below base e.0) entries))
 
 -- the bytes of a borrowed key, with the value that is borrowed with it, if any
-abbrev pub lent_child : {V : Type 0} → Bor (List ℕ) × Option (Bor V) → List ℕ × Option V
-lent_child child = (child.0.now, option_copied child.1)
+abbrev pub borrowed_child : {V : Type 0} → Bor (List ℕ) × Option (Bor V) → List ℕ × Option V
+borrowed_child child = (child.0.now, option_copied child.1)

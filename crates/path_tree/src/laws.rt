@@ -6,7 +6,7 @@ ghost use Rattle.std.specs.Map.{keys_of};
 ghost use Rattle.unix_path.specs.Order.{values_cmp};
 ghost use Rattle.path_keys.specs.Keys.{IsKey};
 ghost use Rattle.path_keys.specs.Ranges.{bytes_cmp};
-ghost use Rattle.path_tree.specs.Laws.{ChildHasOneMore, KeysStandFor};
+ghost use Rattle.path_tree.specs.Laws.{ChildHasOneMore, KeysRepresent};
 ghost use Rattle.path_tree.specs.Read.{key_values};
 ghost use Rattle.path_tree.specs.Tree.{entries_of, table_of};
 
@@ -17,8 +17,8 @@ use crate::tree::PathTree;
 /// What a tree has at a key is therefore what it has at each path that has the key.
 ///
 /// 61 00 62 00, the key of `a//b`, represents `a` and `b`.
-pub fn keys_stand_for()
-    ensures { KeysStandFor }
+pub fn keys_represent_values()
+    ensures { KeysRepresent }
 {}
 
 /// If a path has more components than a base that it starts with, the child of the base's key with
@@ -34,7 +34,7 @@ pub fn child_has_one_more()
 /// The keys of a tree are keys of paths, in strictly increasing order of their bytes, and their
 /// paths are in path order.
 ///
-/// So `path_of` reads back each key that a tree lends, and each key is lent once.
+/// So `path_of` reads back each key that a tree returns, and no key is returned twice.
 ///
 /// With 1 at `a//b` and 2 at `a.b`, the keys are 61 00 62 00 and 61 2F 62 00.
 pub fn tree_has_keys<V>(tree: &PathTree<V>)

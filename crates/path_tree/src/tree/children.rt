@@ -8,7 +8,7 @@ ghost use Rattle.std.specs.Map.{keys_of};
 ghost use Rattle.unix_path.specs.Prefixes.{IsPrefixOf};
 ghost use Rattle.path_keys.specs.Held.{key_bytes};
 ghost use Rattle.path_keys.specs.Ranges.{bytes_cmp, end_of};
-ghost use Rattle.path_tree.specs.Children.{child_of, children_of, first_code_len, lent_child};
+ghost use Rattle.path_tree.specs.Children.{child_of, children_of, first_code_len, borrowed_child};
 ghost use Rattle.path_tree.specs.Read.{is_own};
 
 use super::PathTree;
@@ -70,7 +70,7 @@ fn begun_by<'a>(last: Option<&'a [u8]>, key: &[u8]) -> Option<&'a [u8]>
 // Returns the child with the value of an entry whose key starts with it, if it is the whole key.
 #[inline]
 fn with_value<'a, V>(child: &'a [u8], key: &[u8], value: &'a V) -> (&'a [u8], Option<&'a V>)
-    ensures { lent_child result ≡ (
+    ensures { borrowed_child result ≡ (
       child.entry.now,
       if length child.entry.now == length key.now then Some value.entry.now else None,
     ) }
@@ -102,10 +102,10 @@ impl<V> PathTree<V> {
         &'a self,
         base: &PathKey,
     ) -> Result<Vec<(&'a [u8], Option<&'a V>)>, AllocError>
-        ensures entries { IfOk result (λ found. map lent_child found.items
+        ensures entries { IfOk result (λ found. map borrowed_child found.items
             ≡ children_of (key_bytes base.now) (entries_of self.entry.now)) }
         ensures ordered { IfOk result (λ found.
-            IsStrictlySortedBy bytes_cmp (keys_of (map lent_child found.items))) }
+            IsStrictlySortedBy bytes_cmp (keys_of (map borrowed_child found.items))) }
         ensures succeeds { children_of (key_bytes base.now) (entries_of self.entry.now) ≡ []
             → IsOk result }
     {

@@ -44,8 +44,7 @@ impl<V> PathTree<V> {
     ///
     /// The caller shows that `next` may be called on `items`, and that `items` ends. Of equal
     /// paths, the tree has the value of the last one. Allocates as `insert` does for each item. If
-    /// an insertion fails, the tree is as the insertions before it left it, and its item is
-    /// dropped.
+    /// an insertion fails, the insertions before it stay, and its item is dropped.
     ///
     /// A tree with 1 at `a/b`, extended by 2 at `c` and 3 at `a//b`, has 3 at `a/b` and 2 at `c`.
     #[tactic(auto, using(crate::proofs::lemmas::rows::ManyLemmas::inserted_all_snoc))]

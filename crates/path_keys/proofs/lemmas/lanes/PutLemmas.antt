@@ -1,4 +1,5 @@
--- Bytes that are put in a buffer, each changed by the same function: one by one, or many at once.
+-- Bytes that are written to a buffer, each changed by the same function: one by one, or many at
+-- once.
 use Rattle.std.proofs.Common.{◌≡◌, ℕ, ◌+◌, ◌<◌, ◌≤◌, List, [], ◌∷◌, ◌++◌, length, take, drop, map}
 use Rattle.std.proofs.Common.{get_or, set, refl, sym, ap, ap₂, ◌∙◌, arith}
 use Rattle.std.proofs.Common.{append_assoc, append-nil, length-append, length-set, length-drop}
@@ -13,22 +14,22 @@ use Rattle.std.proofs.Math.Seq.{take-add}
 use Rattle.std.specs.Simd.Lanes.{put_chunk}
 use Rattle.path_runs.specs.Overlay.{overlay}
 
--- the first i of these bytes, changed by f, were put in the old buffer from `at` on; what comes
--- after all of them is unchanged
+-- the first i of these bytes, changed by f, were written to the old buffer from `at` on; the bytes
+-- after all of them are unchanged
 pub record PutTo (f : ℕ → ℕ) (bytes old : List ℕ) (at i : ℕ) (out : List ℕ) : Type 0 where
   pub long : length out ≡ length old
   pub before : take (at + i) out ≡ take at old ++ map f (take i bytes)
-  pub behind : drop (at + length bytes) out ≡ drop (at + length bytes) old
+  pub after : drop (at + length bytes) out ≡ drop (at + length bytes) old
 
--- before the first byte nothing is put
+-- before the first byte nothing is written
 pub put_none : (f : ℕ → ℕ) (bytes old : List ℕ) (at : ℕ) → PutTo f bytes old at 0 old
 put_none f bytes old at = record {
   long = refl;
   before = ap (λ n. take n old) {x = at + 0} {y = at} (omega arith) ∙ sym (append-nil _);
-  behind = refl;
+  after = refl;
 }
 
--- one more byte is put there
+-- one more byte is written there
 pub put_one : (f : ℕ → ℕ) (bytes old : List ℕ) (at i : ℕ) (out new : List ℕ) (b : ℕ)
     → PutTo f bytes old at i out → i < length bytes → at + i < length old
     → b ≡ f (get_or bytes i 0) → new ≡ set out (at + i) b → PutTo f bytes old at (i + 1) new
@@ -42,15 +43,15 @@ put_one f bytes old at i out new b h l m is e =
           ∙ ap₂ (λ xs c. xs ++ c ∷ []) h.before is
           ∙ append_assoc (take at old) (map f (take i bytes)) (f (get_or bytes i 0) ∷ [])
           ∙ ap (λ xs. take at old ++ xs) (sym (map_more f bytes i 0 l));
-      behind = ap (drop (at + length bytes)) e
-          ∙ drop-set-lt (at + length bytes) out (at + i) b low ∙ h.behind;
+      after = ap (drop (at + length bytes)) e
+          ∙ drop-set-lt (at + length bytes) out (at + i) b low ∙ h.after;
     }
 
--- what was put up to i was put up to any k before it
+-- what was written up to i was written up to any k before it
 pub put_fewer : (f : ℕ → ℕ) (bytes old : List ℕ) (at i k : ℕ) (out : List ℕ)
     → PutTo f bytes old at i out → k ≤ i → i ≤ length bytes → at + length bytes ≤ length old
     → PutTo f bytes old at k out
-put_fewer f bytes old at i k out h l m room = record {
+put_fewer f bytes old at i k out h l m fits = record {
   long = h.long;
   before =
       let near : length (take at old) ≡ at = length-take-le at old (omega arith) in
@@ -72,7 +73,7 @@ put_fewer f bytes old at i k out h l m room = record {
       ∙ ap (λ xs. take at old ++ xs) (map-append f (take k bytes) (drop k (take i bytes)))
       ∙ sym (append_assoc (take at old) (map f (take k bytes)) (map f (drop k (take i bytes)))))
       ∙ take_at front (map f (drop k (take i bytes))) (at + k) size;
-  behind = h.behind;
+  after = h.after;
 }
 
 -- what comes after a chunk is unchanged
@@ -84,12 +85,12 @@ drop-put_chunk n i xs ys l =
     (λ k few. get_or-drop n (put_chunk i xs ys) k 0
     ∙ get_or-put_chunk_above i xs ys (n + k) 0 (omega arith) ∙ sym (get_or-drop n xs k 0))
 
--- n more bytes are put there at once
+-- n more bytes are written there at once
 pub put_many : (n : ℕ) (f : ℕ → ℕ) (bytes old : List ℕ) (at i : ℕ) (out new : List ℕ)
     → PutTo f bytes old at i out → i + n ≤ length bytes → at + length bytes ≤ length old
     → new ≡ put_chunk (at + i) out (map f (take n (drop i bytes)))
     → PutTo f bytes old at (i + n) new
-put_many n f bytes old at i out new h l room e =
+put_many n f bytes old at i out new h l fits e =
     let block = map f (take n (drop i bytes)) in
     let size : length block ≡ n =
     length-map (take n (drop i bytes)) f ∙ length-chunk i n bytes l in
@@ -103,11 +104,11 @@ put_many n f bytes old at i out new h l room e =
           ∙ ap (λ xs. take at old ++ xs)
           (sym (ap (map f) (take-add i n bytes)
           ∙ map-append f (take i bytes) (take n (drop i bytes))));
-      behind = ap (drop (at + length bytes)) e
-          ∙ drop-put_chunk (at + length bytes) (at + i) out block (omega arith) ∙ h.behind;
+      after = ap (drop (at + length bytes)) e
+          ∙ drop-put_chunk (at + length bytes) (at + i) out block (omega arith) ∙ h.after;
     }
 
--- all of these bytes were put there
+-- all of these bytes were written there
 pub put_all : (f : ℕ → ℕ) (bytes old : List ℕ) (at i : ℕ) (out : List ℕ)
     → PutTo f bytes old at i out → i ≡ length bytes → out ≡ overlay at (map f bytes) old
 put_all f bytes old at i out h e =
@@ -115,4 +116,4 @@ put_all f bytes old at i out h e =
     sym (take-append-drop (at + i) out)
     ∙ ap₂ (λ xs ys. xs ++ ys)
     (h.before ∙ ap (λ xs. take at old ++ map f xs) (take_all i bytes (omega arith)))
-    (ap (λ n. drop (at + n) out) e ∙ h.behind ∙ ap (λ n. drop (at + n) old) count)
+    (ap (λ n. drop (at + n) out) e ∙ h.after ∙ ap (λ n. drop (at + n) old) count)

@@ -1,4 +1,4 @@
--- Bytes changed as those of names, many at once, and the two ways in which they are changed.
+-- Bytes that are changed as the bytes of names are, many at once, and the two ways to change them.
 use Rattle.std.proofs.Common.{◌≡◌, ℕ, ◌+◌, ◌-◌, ◌%◌, cond, eqb, List, [], ◌∷◌}
 use Rattle.std.proofs.Common.{length, map, replicate, refl, sym, ap, ap₂, ◌∙◌, arith}
 use Rattle.std.specs.Simd.Lanes.{zip2, sel_l, top}

@@ -1,4 +1,4 @@
--- Values that may be all values of a path are those of one: of their spelling.
+-- Components that may be all components of a path are the components of a path: of their spelling.
 use Rattle.std.proofs.Common.{◌≡◌, ℕ, Bool, true, false, cond, List, [], ◌∷◌, ◌++◌, map, refl}
 use Rattle.std.proofs.Common.{sym, ap, ap₂, ◌∙◌, subst}
 use Rattle.std.specs.List.{AllByRecursion, slice_split}
@@ -60,10 +60,10 @@ AllFit-first (v ∷ vs) h = (Fits-first v h.0, h.1)
 -- the components between the slashes of any string may follow a first component
 names-fit : (s : List ℕ) → AllFit false (names_of (slice_split is_slash s))
 names-fit s =
-    let behind = values-hold_rooted (Fits false) piece_fits (slash ∷ s) refl in
-    let same : names_of (slice_split is_slash s) ≡ behind.0 =
-    (let e = sym (values-rooted s) ∙ behind.1 in cc) in
-    subst (AllFit false) (sym same) (all_fit behind.0 behind.2)
+    let after = values-hold_rooted (Fits false) piece_fits (slash ∷ s) refl in
+    let same : names_of (slice_split is_slash s) ≡ after.0 =
+    (let e = sym (values-rooted s) ∙ after.1 in cc) in
+    subst (AllFit false) (sym same) (all_fit after.0 after.2)
 
 -- a leading `.`, and components that may follow others, may be all components
 lead-fit : (dot : Bool) (vs : List Value) → AllFit false vs
@@ -75,8 +75,8 @@ lead-fit false vs h = AllFit-first vs h
 pub values-fit : (s : List ℕ) → AllFit true (values s)
 values-fit s = by_test (is_rooted s)
     (λ r.
-    let behind = values-hold_rooted (Fits false) piece_fits s r in
-    subst (AllFit true) (sym behind.1) (refl, all_fit behind.0 behind.2))
+    let after = values-hold_rooted (Fits false) piece_fits s r in
+    subst (AllFit true) (sym after.1) (refl, all_fit after.0 after.2))
     (λ r.
     let ps = slice_split is_slash s in
     subst (AllFit true) (sym (values-rootless s ps r refl))
@@ -124,7 +124,7 @@ inner-spelled vs h =
     values-join_with_byte (map value_bytes vs) (pieces-no_slash vs h) (pieces-count vs h)
     ∙ pieces-values vs h
 
--- values that may be all values of a path are those of their spelling
+-- components that may be all components of a path are the components of their spelling
 pub values-spelled : (vs : List Value) → AllFit true vs → values (spelling_of vs) ≡ vs
 values-spelled [] h = ap values spelling_of-nil ∙ values-nil
 values-spelled (RootDir ∷ vs) h =

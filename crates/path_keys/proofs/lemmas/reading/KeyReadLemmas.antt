@@ -67,7 +67,7 @@ read_back key path s h e =
     h.spelled ∙ ap spelling_of (key_of-same (values path) (values s) (values-coded path)
     (values-coded s) (h.key_is ∙ sym e))
 
--- the length of the path of a key is that of the spelling of each path that has the key
+-- the path of a key is as long as the spelling of each path that has the key
 spelled_long : {key : List ℕ} {n : ℕ} (s : List ℕ) → HasPath key n → key_of (values s) ≡ key
     → n ≡ length (spelling_of (values s))
 spelled_long {key} {n} s h e = h.len_is ∙ ap length (read_back key h.path s h.read e)
@@ -77,7 +77,7 @@ pub path_long : {key : List ℕ} {n : ℕ} (s : List ℕ) → HasPath key n → 
     → Some n ≡ Some (length (spelling_of (values s)))
 path_long s h e = ap Some (spelled_long s h e)
 
--- a buffer that has no room for the path of a key stays as it was
+-- a buffer that is too short for the path of a key is unchanged
 pub kept_back : {key old : List ℕ} {n : ℕ} (s : List ℕ) → HasPath key n
     → key_of (values s) ≡ key → length old < n → old ≡ buffer_after (spelling_of (values s)) old
 kept_back {key} {old} {n} s h e few =
@@ -88,12 +88,12 @@ kept_back {key} {old} {n} s h e few =
 pub written_back : {key path : List ℕ} {n : ℕ} (old s : List ℕ) → HasPath key n
     → IsRead key path → key_of (values s) ≡ key → n ≤ length old
     → path ++ drop n old ≡ buffer_after (spelling_of (values s)) old
-written_back {key} {path} {n} old s h read e room =
+written_back {key} {path} {n} old s h read e fits =
     let long = spelled_long s h e in
     ap₂ (λ p k. p ++ drop k old) (read_back key path s read e) long
     ∙ sym (buffer_after-fits (spelling_of (values s)) old (omega (arith, long)))
 
--- the empty key is that of the empty path
+-- the empty key is the key of the empty path
 empty_values : (key : List ℕ) → key ≡ [] → key_of (values []) ≡ key
 empty_values key e = ap key_of values-nil ∙ key_of-nil ∙ sym e
 

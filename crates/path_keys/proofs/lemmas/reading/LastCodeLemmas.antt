@@ -28,13 +28,13 @@ LastIs key us None = us ≡ []
 LastIs key us (Some last) = EndsIn key us last.start (code_value last.code)
     × (last.start ≤ length key) × IsRaised last.code
 
--- `rest` is what is left of the key after the last code
+-- `rest` is the rest of the key after the last code
 pub record WalksTo (key rest : List ℕ) (first : Bool) (last : Option LastCode) : Type 0 where
   pub len : ℕ
   pub reads : ReadsTo key rest first len
   pub last_is : LastIs key reads.us last
 
--- before the first code, all of the key is left
+-- before the first code, the rest is all of the key
 pub walks_none : (key : List ℕ) → WalksTo key key true None
 unfolding reads_none
 walks_none key = record { len = 0; reads = reads_none key; last_is = refl }
@@ -64,7 +64,7 @@ walks_one {key} {rest} {more} {first} {last} next h k raised at e =
       );
     }
 
--- if no code is left, the values that were read are those of each path with the key
+-- if no code follows, the components that were read are the components of each path with the key
 walks_all : {key rest : List ℕ} {first : Bool} {last : Option LastCode}
     (h : WalksTo key rest first last) → HasNoCode first rest → (s : List ℕ)
     → key_of (values s) ≡ key → h.reads.us ≡ values s
@@ -76,7 +76,7 @@ walks_all {key} {rest} h none s e =
     (sym (append-nil (key_of h.reads.us)) ∙ ap (λ r. key_of h.reads.us ++ r) (sym empty)
     ∙ h.reads.whole ∙ sym e)
 
--- if no code is left, the last one is that of the last value of each path with the key
+-- if no code follows, the last one is the code of the last component of each path with the key
 pub walks_some : {key rest : List ℕ} {first : Bool} (last : Option LastCode)
     → WalksTo key rest first last → HasNoCode first rest
     → IfSome last (λ last. (s : List ℕ) → key_of (values s) ≡ key
@@ -98,19 +98,19 @@ pub walks_raised : {key rest : List ℕ} {first : Bool} (last : Option LastCode)
 walks_raised None h = tt
 walks_raised (Some last) h = h.last_is.2
 
--- if no code was read and none is left, each path with the key has no value
+-- if no code was read and none follows, each path with the key has no component
 pub walks_empty : {key rest : List ℕ} {first : Bool} (last : Option LastCode)
     → WalksTo key rest first last → HasNoCode first rest → last ≡ None
     → (s : List ℕ) → key_of (values s) ≡ key → values s ≡ []
 walks_empty None h none is s e = sym (walks_all h none s e) ∙ h.last_is
 walks_empty (Some last) h none is s e = absurd (cc)
 
--- if no code is left but some bytes are, no path has the key
+-- if bytes follow that begin with no code, no path has the key
 pub walks_no_key : {key rest : List ℕ} {first : Bool} (last : Option LastCode)
     → WalksTo key rest first last → HasNoCode first rest → 0 < length rest → IsKey key → ⊥
 walks_no_key last h none some is = reads_no_key h.reads none some is
 
--- if nothing is left, a path has the key: the canonical form of the components that were read
+-- if nothing follows, a path has the key: the canonical form of the components that were read
 pub walks_key : {key rest : List ℕ} {first : Bool} (last : Option LastCode)
     → WalksTo key rest first last → length rest ≡ 0 → IsKey key
 walks_key {key} {rest} last h empty = (
@@ -131,7 +131,7 @@ pub root_parent : (key s : List ℕ) (start : ℕ) → EndsIn key (values s) sta
 root_parent key s start h =
     ap (option_map (λ parent. key_of (values parent))) (parent_of-root s h.front h.is)
 
--- the key before the last code is that of the parent, unless the last value is a root
+-- the key before the last code is the key of the parent, unless the last component is a root
 pub front_parent : (key s : List ℕ) (start : ℕ) (v : Value) → (v ≡ RootDir → ⊥)
     → EndsIn key (values s) start v
     → Some (take start key) ≡ option_map (λ parent. key_of (values parent)) (parent_of s)
@@ -145,7 +145,7 @@ pub no_name : (s : List ℕ) → values s ≡ []
     → None ≡ option_map (λ name. map raised name) (file_name_of (values s))
 no_name s e = ap (option_map (λ name. map raised name)) (file_name_of-none s e)
 
--- the name of the last code is that of the path
+-- the name of the last code is the file name of the path
 pub last_name : (key s : List ℕ) (start : ℕ) (v : Value) (name : Option (Bor (List ℕ)))
     → EndsIn key (values s) start v → option_map (λ name. map lowered name.now) name ≡ name_of v
     → IfSome name (λ name. map raised (map lowered name.now) ≡ name.now)

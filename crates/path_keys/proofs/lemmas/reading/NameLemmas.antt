@@ -29,7 +29,7 @@ pub some_bytes : (p : List ℕ) → bytes_eq p [] ≡ false → 0 < length p
 some_bytes [] e = absurd (let d = e in cc)
 some_bytes (b ∷ p) e = omega arith
 
--- if bytes aren't those of p in a key, they don't read back as p
+-- bytes that are not the raised bytes of p are not read back as p
 not_read : (bytes p : List ℕ) → NoZero bytes → bytes_eq bytes (map raised p) ≡ false
     → bytes_eq (map lowered bytes) p ≡ false
 not_read bytes p h other_bytes = by_test (bytes_eq (map lowered bytes) p)
@@ -96,7 +96,8 @@ pub no_name_first : (s : List ℕ) (n : ℕ) → n ≡ position_or_len is_zero s
 no_name_first s n e none name x h begins =
     let found = finds_name s name x n e h begins in none found.some found.in_range
 
--- no name's code begins these bytes if the first 0 follows those of p, which is no name
+-- if the bytes before the first 0 are the raised bytes of p, which is no name, no name's code
+-- begins these bytes
 pub no_name_read : (s p : List ℕ) (n : ℕ) → n ≡ position_or_len is_zero s
     → bytes_eq (take n s) (map raised p) ≡ true → (IsName p → ⊥)
     → AllByRecursion (λ b. eqb b 47 ≡ false) p

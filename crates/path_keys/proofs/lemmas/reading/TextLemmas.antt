@@ -118,7 +118,7 @@ text_is (ParentDir ∷ vs) h = text_longer ParentDir vs (λ e. cc) (omega arith)
 text_is (Normal name ∷ vs) h =
     text_longer (Normal name) vs (λ e. cc) (value_some (Normal name) h.0) h.1
 
--- what is left of the text without its last byte, and when that is taken
+-- the text without its last byte, if it is longer than 1, and all of it otherwise, is the path
 trimmed_text : {text spelled : List ℕ} → IsText text spelled
     → (1 < length text → take (length text - 1) text ≡ spelled)
     × (length text ≤ 1 → text ≡ spelled)

@@ -1,4 +1,4 @@
--- A path written run by run, where there is no room for a last slash.
+-- A path that is written run by run to a buffer too short for a slash at the end.
 use Rattle.std.proofs.Common.{◌≡◌, ◌≤◌, ◌+◌, ◌-◌, ℕ, List, [], ◌∷◌, ◌++◌}
 use Rattle.std.proofs.Common.{length, take, drop, refl, sym, ap, ap₂, ◌∙◌, arith, subst, ◌<◌}
 use Rattle.std.proofs.Common.{length-append, length-take-le, take_all, append_assoc, append-nil}
@@ -21,27 +21,28 @@ use Rattle.path_keys.specs.declared.runs.Run.TheVariants.{Names}
 use Rattle.path_keys.specs.declared.runs.Run.TheVariants as run_variants
 use Rattle.path_keys.proofs.lemmas.reading.FitLemmas.{values-fit}
 use Rattle.path_keys.proofs.lemmas.reading.KeyReadLemmas.{spelled_read}
-use Rattle.path_keys.proofs.lemmas.spelling.SpellLemmas.{SpellsOn, spells_lead, spells_room}
+use Rattle.path_keys.proofs.lemmas.spelling.SpellLemmas.{SpellsOn, spells_lead, spells_fits}
 use Rattle.path_keys.proofs.lemmas.spelling.SpellLemmas.{spells_one, spells_all}
 use Rattle.path_keys.proofs.lemmas.spelling.SpellLemmas.{spells_long}
 use Rattle.path_keys.proofs.lemmas.reading.TextLemmas.{IsText, lone, longer, text_is}
 
--- bytes that are put in a buffer of which a beginning is kept are put in that, as far as they go
+-- the first at + m bytes of a buffer that is overwritten from `at` on are its first at + m bytes,
+-- overwritten with the first m of the new bytes
 overlay-take : (at m : ℕ) (bytes old : List ℕ) → at + m ≤ length old
     → take (at + m) (overlay at bytes old) ≡ overlay at (take m bytes) (take (at + m) old)
 overlay-take at m bytes old l =
     let before = take at old in
-    let behind = drop (at + length bytes) old in
+    let tail = drop (at + length bytes) old in
     let near : length before ≡ at = length-take-le at old (omega arith) in
     let front : take at (take (at + m) old) ≡ before = take-take at (at + m) old (omega arith) in
-    ap (take (at + m)) (append_assoc before bytes behind)
-    ∙ ap (λ n. take (n + m) (before ++ (bytes ++ behind))) (sym near)
-    ∙ take-append-add before (bytes ++ behind) m
+    ap (take (at + m)) (append_assoc before bytes tail)
+    ∙ ap (λ n. take (n + m) (before ++ (bytes ++ tail))) (sym near)
+    ∙ take-append-add before (bytes ++ tail) m
     ∙ ⊎_elim
     (λ more.
     let cut : length (take m bytes) ≡ m = length-take-le m bytes (omega arith) in
     let whole : length (take (at + m) old) ≡ at + m = length-take-le (at + m) old l in
-    ap (λ xs. before ++ xs) (take-append-le m bytes behind (omega arith))
+    ap (λ xs. before ++ xs) (take-append-le m bytes tail (omega arith))
     ∙ sym (append-nil (before ++ take m bytes))
     ∙ sym (ap₂ (λ xs ys. (xs ++ take m bytes) ++ ys) front
     (drop_all (at + length (take m bytes)) (take (at + m) old) (omega (arith, cut, whole)))))
@@ -49,16 +50,17 @@ overlay-take at m bytes old l =
     let n = m - length bytes in
     let split : m ≡ length bytes + n = omega arith in
     let end : at + m ≡ (at + length bytes) + n = omega arith in
-    ap (λ k. before ++ take k (bytes ++ behind)) split
-    ∙ ap (λ xs. before ++ xs) (take-append-add bytes behind n)
-    ∙ sym (append_assoc before bytes (take n behind))
+    ap (λ k. before ++ take k (bytes ++ tail)) split
+    ∙ ap (λ xs. before ++ xs) (take-append-add bytes tail n)
+    ∙ sym (append_assoc before bytes (take n tail))
     ∙ ap (λ xs. (before ++ bytes) ++ xs) (sym (ap (λ k. drop (at + length bytes) (take k old)) end
     ∙ drop-take (at + length bytes) n old))
     ∙ sym (ap₂ (λ xs ys. (xs ++ ys) ++ drop (at + length ys) (take (at + m) old)) front
     (take_all m bytes few)))
     (cases_lt m (length bytes))
 
--- bytes put first in a buffer of which a beginning is kept are put first in that, as far as they go
+-- the first m bytes of a buffer that is overwritten from its beginning on are its first m bytes,
+-- overwritten with the first m of the new bytes
 cut_first : (m : ℕ) (bytes old : List ℕ) → m ≤ length old
     → take m (overlay 0 bytes old) ≡ overlay 0 (take m bytes) (take m old)
 cut_first m bytes old l =
@@ -67,8 +69,8 @@ cut_first m bytes old l =
     ∙ overlay-take 0 m bytes old (omega arith)
     ∙ ap (λ n. overlay 0 (take m bytes) (take n old)) whole
 
--- the text of some values of the key is written to a buffer that has room for all of it, and of
--- which the beginning is `out`
+-- the text of some components of the key is written to a buffer that is long enough for all of it,
+-- and that begins with `out`
 pub record SpellsCut (key rest old : List ℕ) (at : ℕ) (out : List ℕ) : Type 0 where
   pub wide : List ℕ
   pub wide_out : List ℕ
@@ -77,7 +79,7 @@ pub record SpellsCut (key rest old : List ℕ) (at : ℕ) (out : List ℕ) : Typ
   pub enough : length old ≤ length wide
   pub cut : out ≡ take (length old) wide_out
 
--- the text of the lead is written, as far as there is room
+-- as much of the text of the lead as fits is written
 pub cut_lead : {key rest old out : List ℕ} {lead : Lead} {at : ℕ} → HasPath key (length old)
     → BeginsLead key rest lead → out ≡ overlay 0 (take (length old) (lead_text lead)) old
     → at ≡ length (lead_text lead) → SpellsCut key rest old at out
@@ -123,7 +125,7 @@ cut_lead {key} {rest} {old} {out} {lead} {at} h k is_put ends =
         ))) (omega (arith, long)) (omega (arith, long))
         (sym (take_at old (0 ∷ []) (length old) refl))
 
--- the text of what is left of the key has at most a byte more than there is room
+-- the text of the rest of the key has at most one byte more than fits
 pub cut_leaves : {key rest old out : List ℕ} {at : ℕ}
     → SpellsCut key rest old at out
     → (at ≤ length old + 1) × LeavesText rest (length old + 1 - at)
@@ -134,7 +136,7 @@ cut_leaves {key} {rest} {old} {out} {at} h =
     omega (
       arith,
       h.few,
-      k.room,
+      k.fits,
       w.at_is,
       ap length w.whole_is,
       length-append w.start (text_of k.ws),
@@ -148,18 +150,18 @@ cut_leaves {key} {rest} {old} {out} {at} h =
       },
     )
 
--- there is room for the text of the next run, except a last slash
-pub cut_room : {key rest old out : List ℕ} {at : ℕ} {run : Run}
+-- the text of the next run fits, except for a slash at its end
+pub cut_fits : {key rest old out : List ℕ} {at : ℕ} {run : Run}
     → SpellsCut key rest old at out → TakesRun rest run
     → at + length (run_text run) ≤ length old + 1
-cut_room h k = omega (arith, h.few, spells_room h.spells k)
+cut_fits h k = omega (arith, h.few, spells_fits h.spells k)
 
 -- a run has a byte in a path
 text_some : (run : Run) → 0 < length (run_text run)
 text_some run_variants.ParentDir = omega arith
 text_some (Names bytes) = omega (arith, length-append (map decoded bytes.now) (slash ∷ []))
 
--- the text of one more run is written, as far as there is room
+-- as much of the text of one more run as fits is written
 pub cut_one : {key rest old out more new : List ℕ} {at end : ℕ} {run : Run}
     → SpellsCut key rest old at out → TakesRun rest run
     → more ≡ drop (length (run_code run)) rest
@@ -167,7 +169,7 @@ pub cut_one : {key rest old out more new : List ℕ} {at end : ℕ} {run : Run}
     → end ≡ at + length (run_text run) → SpellsCut key more old end new
 cut_one {key} {rest} {old} {out} {more} {new} {at} {end} {run} h k e is_put ends =
     let n = length old in
-    let in_room : at ≤ n = omega (arith, text_some run, cut_room h k) in
+    let in_room : at ≤ n = omega (arith, text_some run, cut_fits h k) in
     let whole : at + (n - at) ≡ n = omega arith in
     record {
       wide = h.wide;
@@ -182,7 +184,7 @@ cut_one {key} {rest} {old} {out} {more} {new} {at} {end} {run} h k e is_put ends
           ∙ ap (λ k. take k (overlay at (run_text run) h.wide_out)) whole;
     }
 
--- if no run is left, the path is written
+-- if no run follows, the path is written
 pub cut_all : {key rest old out : List ℕ} {at : ℕ}
     → SpellsCut key rest old at out → HoldsNone rest → HasPath key (length old)
     → IsRead key out

@@ -111,7 +111,7 @@ ends_in_mark p (q ∷ ps) =
           ∙ sym (append_assoc (map raised p ++ 0 ∷ []) more.front (0 ∷ []));
     }
 
--- names whose key is all that is left are a run
+-- names whose key is all of the rest are a run
 all_names : (bytes : Bor (List ℕ)) (s : List ℕ) (ws : List Value) → AreNames ws
     → s ≡ key_of ws → 0 < length s → bytes.now ≡ take (length s - 1) s → TakesRun s (Names bytes)
 all_names bytes s ws h e l is = by h.names h.is h.hold
@@ -142,10 +142,10 @@ all_names bytes s ws h e l is = by h.names h.is h.hold
               ∙ append-nil (bytes.now ++ 0 ∷ []));
         }
 
--- what is left, and has as many bytes as there are left for its text, is names
-pub names_remain : (bytes : Bor (List ℕ)) (s : List ℕ) (room : ℕ) → LeavesText s room
-    → length s ≡ room → 0 < length s → bytes.now ≡ take (length s - 1) s
+-- a rest with as many bytes as its text may have is the key of names
+pub names_remain : (bytes : Bor (List ℕ)) (s : List ℕ) (max_len : ℕ) → LeavesText s max_len
+    → length s ≡ max_len → 0 < length s → bytes.now ≡ take (length s - 1) s
     → TakesRun s (Names bytes)
-names_remain bytes s room h long l is =
+names_remain bytes s max_len h long l is =
     all_names bytes s h.ws
     (are_names h.ws h.fit (omega (arith, h.short, long, ap length h.rest_is))) h.rest_is l is

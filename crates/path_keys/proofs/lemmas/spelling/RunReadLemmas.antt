@@ -24,20 +24,20 @@ use Rattle.path_keys.proofs.lemmas.reading.TextLemmas.{length-slashed}
 -- components that may be all of a path, and more that may follow others
 pub fit_all : (us vs : List Value) → AllFit true us → AllFit false vs → AllFit true (us ++ vs)
 fit_all [] vs h k = AllFit-first vs k
-fit_all (u ∷ us) vs h k = (h.0, behind us h.1)
+fit_all (u ∷ us) vs h k = (h.0, after us h.1)
   where
-    behind : (us : List Value) → AllFit false us → AllFit false (us ++ vs)
-    behind [] h = k
-    behind (u ∷ us) h = (h.0, behind us h.1)
+    after : (us : List Value) → AllFit false us → AllFit false (us ++ vs)
+    after [] h = k
+    after (u ∷ us) h = (h.0, after us h.1)
 
 -- the components after some components of a path may follow them
 pub fit_rest : (us ws : List Value) → AllFit true (us ++ ws) → AllFit (starts us) ws
 fit_rest [] ws h = h
-fit_rest (u ∷ us) ws h = behind us h.1
+fit_rest (u ∷ us) ws h = after us h.1
   where
-    behind : (us : List Value) → AllFit false (us ++ ws) → AllFit false ws
-    behind [] h = h
-    behind (u ∷ us) h = behind us h.1
+    after : (us : List Value) → AllFit false (us ++ ws) → AllFit false ws
+    after [] h = h
+    after (u ∷ us) h = after us h.1
 
 -- a list with more components is not empty
 pub starts-more : (us vs : List Value) → 0 < length vs → starts (us ++ vs) ≡ false
@@ -88,8 +88,8 @@ text_short (v ∷ vs) = omega (
   length-append (code v) (key_of vs),
 )
 
--- `rest` is what is left of the key after components that may be a path's, whose text has `len`
--- bytes; in a path's key it is the key of components that may follow others
+-- `rest` is the rest of the key after components that may be a path's, whose text has `len` bytes;
+-- in a path's key it is the key of components that may follow others
 pub record ReadsRuns (key rest : List ℕ) (len : ℕ) : Type 0 where
   pub us : List Value
   pub fit : AllFit true us
@@ -151,7 +151,7 @@ reads_run {key} {rest} {more} {len} {n} {run} h k e count = record {
   );
 }
 
--- if something is left that is the key of no values, no path has the key
+-- if the rest isn't empty and is the key of no components, no path has the key
 pub reads_no_run : {key rest : List ℕ} {len : ℕ} → ReadsRuns key rest len
     → HoldsNone rest → 0 < length rest → IsKey key → ⊥
 reads_no_run {key} {rest} {len} h none some is = by begins.0 begins.1
@@ -160,12 +160,12 @@ reads_no_run {key} {rest} {len} h none some is = by begins.0 begins.1
     begins = key_of-begins h.us (values is.0) (AllFit-coded true h.us h.fit) (values-coded is.0)
         rest (h.whole ∙ sym is.1)
 
-    left : (ws : List Value) → h.us ++ ws ≡ values is.0 → key_of ws ≡ rest
-    left ws e = append_cancel_left (key_of h.us) (key_of ws) rest
+    remain : (ws : List Value) → h.us ++ ws ≡ values is.0 → key_of ws ≡ rest
+    remain ws e = append_cancel_left (key_of h.us) (key_of ws) rest
         (sym (key_of-append h.us ws) ∙ ap key_of e ∙ is.1 ∙ sym h.whole)
 
     by : (ws : List Value) → h.us ++ ws ≡ values is.0 → ⊥
-    by [] e = omega (arith, ap length (left [] e), ap length key_of-nil)
+    by [] e = omega (arith, ap length (remain [] e), ap length key_of-nil)
     by (w ∷ ws) e = none w ws
-        (h.inner (w ∷ ws) (subst (AllFit true) (sym e) (values-fit is.0)) (left (w ∷ ws) e))
-        (left (w ∷ ws) e)
+        (h.inner (w ∷ ws) (subst (AllFit true) (sym e) (values-fit is.0)) (remain (w ∷ ws) e))
+        (remain (w ∷ ws) e)

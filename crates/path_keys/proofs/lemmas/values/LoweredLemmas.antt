@@ -31,7 +31,7 @@ lowered-no_slash b h = grind (arith, nat_tests)
 pub raised-no_zero : (b : ℕ) → is_slash b ≡ false → eqb (raised b) 0 ≡ false
 raised-no_zero b h = grind (arith, nat_tests)
 
--- bytes without a 0 are those of a name in a key
+-- bytes without a 0 are unchanged if they are lowered and raised again
 pub map-raised-lowered : (p : List ℕ) → NoZero p → map raised (map lowered p) ≡ p
 map-raised-lowered [] h = refl
 map-raised-lowered (b ∷ p) h =

@@ -93,7 +93,7 @@ cut_at : (s : List ℕ) (n : ℕ) → FirstStop s n → n < length s
 cut_at s n h l = drop_more s n 0 l
     ∙ ap (λ b. b ∷ drop (n + 1) s) (separator_at_end 47 46 s n h l)
 
--- the pieces of the string begin with those of what comes before its first stop
+-- the pieces of the string begin with the pieces of the bytes before its first stop
 whole_pieces : (s : List ℕ) (n : ℕ) → FirstStop s n → (p : List ℕ) (ps : List (List ℕ))
     → slice_split is_slash (take n s) ≡ p ∷ ps
     → (qs : List (List ℕ)) × (slice_split is_slash s ≡ p ∷ (ps ++ qs))
@@ -116,7 +116,7 @@ whole_pieces s n h p ps e = ⊎_elim
 cons_first : {p q : List ℕ} {ps qs : List (List ℕ)} → p ∷ ps ≡ q ∷ qs → p ≡ q
 cons_first e = cc
 
--- the first piece of the string is that of what comes before its first stop
+-- the first piece of the string is the first piece of the bytes before its first stop
 first_same : (s : List ℕ) (n : ℕ) → FirstStop s n
     → (ps : List (List ℕ)) × (slice_split is_slash (take n s) ≡ first_piece s ∷ ps)
 first_same s n h =
@@ -125,7 +125,8 @@ first_same s n h =
     let same : some.0 ≡ first_piece s = cons_first (sym rest.1 ∙ slice_split-first s) in
     (some.1, some.2 ∙ ap (λ p. p ∷ some.1) same)
 
--- the components of what comes before the first stop, and of what is left
+-- a string has the components of the bytes before its first stop, and then the components of the
+-- rest
 split_at : (s : List ℕ) (n : ℕ) → FirstStop s n
     → inner_values s ≡ inner_values (take n s) ++ inner_values (drop n s)
 split_at s n h = ⊎_elim

@@ -12,7 +12,7 @@ use Rattle.path_keys.specs.Keys.{key_of}
 use Rattle.path_keys.specs.NameBytes.{coded}
 use Rattle.path_keys.specs.PathRuns.{run_key, IsRun}
 
--- to put bytes in a buffer, and then more after them, is to put both there at once
+-- to write bytes to a buffer, and then more after them, is to write both at once
 overlay-overlay : (at : ℕ) (xs ys old : List ℕ) → at ≤ length old
     → overlay (at + length xs) ys (overlay at xs old) ≡ overlay at (xs ++ ys) old
 overlay-overlay at xs ys old l =
@@ -34,11 +34,11 @@ names_len s n l = omega (
   length-take-le n s l,
 )
 
--- names and then an end mark are put in a buffer
+-- names and then an end mark are written to a buffer
 pub names_put : (s : List ℕ) (at n : ℕ) (old out new : List ℕ) → n ≤ length s
     → at + n ≤ length old → out ≡ overlay at (map coded (take n s)) old
     → new ≡ overlay (at + n) (0 ∷ []) out → new ≡ overlay at (map coded (take n s) ++ 0 ∷ []) old
-names_put s at n old out new l room h e =
+names_put s at n old out new l fits h e =
     let xs = map coded (take n s) in
     let size : length xs ≡ n = length-map (take n s) coded ∙ length-take-le n s l in
     e ∙ ap₂ (λ k o. overlay k (0 ∷ []) o) {x = at + n} {y = at + length xs} (omega (arith, size)) h
@@ -53,7 +53,7 @@ pub names_run : (s : List ℕ) (n : ℕ) → starts_with_parent_dir s ≡ false
     → run_key s n ≡ map coded (take n s) ++ 0 ∷ []
 names_run s n e = ap (λ up. cond up (0 ∷ 3 ∷ []) (map coded (take n s) ++ 0 ∷ [])) e
 
--- there is room for the next run
+-- the next run fits
 pub run_fits : {whole old out : List ℕ} {at n : ℕ} (s : List ℕ)
     → WritesOn whole old at out (key_of (inner_values s)) → IsRun s n → length whole ≤ length old
     → at + length (run_key s n) ≤ length old
@@ -61,10 +61,10 @@ run_fits {whole} {old} {out} {at} {n} s h run fits =
     writes_room (run_key s n) (key_of (inner_values (drop n s))) h run.split fits
 
 -- the next run is written
-pub written_run : {whole old out new : List ℕ} {at n end : ℕ} (s left : List ℕ)
+pub written_run : {whole old out new : List ℕ} {at n end : ℕ} (s later : List ℕ)
     → WritesOn whole old at out (key_of (inner_values s)) → IsRun s n
-    → new ≡ overlay at (run_key s n) out → inner_values (drop n s) ≡ inner_values left
-    → end ≡ at + length (run_key s n) → WritesOn whole old end new (key_of (inner_values left))
-written_run {whole} {old} {out} {new} {at} {n} {end} s left h run is_put same ends =
-    writes_stretch (run_key s n) (key_of (inner_values left)) h
+    → new ≡ overlay at (run_key s n) out → inner_values (drop n s) ≡ inner_values later
+    → end ≡ at + length (run_key s n) → WritesOn whole old end new (key_of (inner_values later))
+written_run {whole} {old} {out} {new} {at} {n} {end} s later h run is_put same ends =
+    writes_stretch (run_key s n) (key_of (inner_values later)) h
     (run.split ∙ ap (λ vs. run_key s n ++ key_of vs) same) is_put ends

@@ -65,7 +65,7 @@ key_of-own key own = sym (own-is key own) ∙ ap key_of (own-values key own)
 pub IsKey-own : (key : List ℕ) → is_own key ≡ true → ∥ IsKey key ∥₁
 IsKey-own key own = ∣ (spelling_of (key_values key), own-is key own) ∣₁
 
--- the components that a key represents may be those of a path
+-- the components that a key represents may be the components of a path
 pub fit-own : (key : List ℕ) → is_own key ≡ true → AllFit true (key_values key)
 fit-own key own =
     subst (AllFit true) (own-values key own) (values-fit (spelling_of (key_values key)))
@@ -125,7 +125,7 @@ pub record GoesOn (base key : List ℕ) : Type 0 where
 
 module _ (base key : List ℕ) (own : is_own key ≡ true) (base_own : is_own base ≡ true)
     (begins : IsPrefixOf base key) (longer : length base < length key) where
-  -- `goes_on`, by the components that follow those of the base
+  -- `goes_on`, by the components after the components of the base
   with_more : (ws : List Value) → key_values base ++ ws ≡ key_values key → GoesOn base key
   with_more [] is =
       let same : length key ≡ length base =

@@ -45,7 +45,7 @@ digit-or_left a b k is = digit-or a b k ∙ or-one (digit a k) (digit b k) is (d
 digit-or_right : (a b k : ℕ) → digit b k ≡ 1 → digit (bit_or a b) k ≡ 1
 digit-or_right a b k is = ap (λ n. digit n k) (or_comm a b) ∙ digit-or_left b a k is
 
--- the word with the bit k alone
+-- a word with only the bit k has the bit k
 digit-one : (k : ℕ) → k < 64 → digit (1 * 2 ^ k % 2 ^ 64) k ≡ 1
 digit-one k below =
     ap (λ n. digit n k) (one_shl k 64 below ∙ sym (one-mul (2 ^ k))) ∙ ap (λ n. n % 2) (shl-shr 1 k)
@@ -126,7 +126,7 @@ has_bit-none mask hash words none =
     has_bit-outside mask hash words
     (subst (λ l. length l ≤ bit_and hash mask) (sym none) (omega arith))
 
--- nothing stands at a key that fails a test which all keys pass
+-- a key that fails a test which all keys pass has no value
 module _ {K V : Type 0} (bytes_of : K → List ℕ) (test : List ℕ → Bool) (key : List ℕ)
     (fails : test key ≡ false) where
   -- `lookup-filtered`, by recursion on the entries
@@ -135,10 +135,10 @@ module _ {K V : Type 0} (bytes_of : K → List ℕ) (test : List ℕ → Bool) (
       → lookup (is_it bytes_of key) entries ≡ None
   lookup-fails [] all = refl
   lookup-fails (e ∷ entries) all =
-      let left = lookup (is_it bytes_of key) entries in
+      let found = lookup (is_it bytes_of key) entries in
       let rest = lookup-fails entries all.1 in
       elim (bytes_cmp key (bytes_of e.0)) as (λ o. bytes_cmp key (bytes_of e.0) ≡ o
-      → cond (is_eq o) (Some e.1) left ≡ None) [
+      → cond (is_eq o) (Some e.1) found ≡ None) [
         | Less ↦ λ _. rest
         | Equal ↦ λ same. absurd (let clash : false ≡ true =
             sym fails ∙ ap test (exact_bytes key (bytes_of e.0) same) ∙ all.0 in cc)
@@ -151,20 +151,20 @@ module _ {K V : Type 0} (bytes_of : K → List ℕ) (test : List ℕ → Bool) (
   lookup-filtered entries all =
       lookup-fails entries (recursion_from_All (λ k. test (bytes_of k) ≡ true) _ all)
 
--- a walk that marks each key has come so far: marks that keep those made, and have those of the
--- entries left, have all
+-- how far a walk has come that sets the bit of each key: a filter that has the bits set so far, and
+-- the bits of the remaining entries, has the bits of all entries
 abbrev pub FiltersRest : {K V : Type 0} → (K → List ℕ) → (List ℕ → Bool) → List (K × V)
     → List (K × V) → Type 0
-FiltersRest bytes_of marked left all = (more : List ℕ → Bool)
+FiltersRest bytes_of marked remaining all = (more : List ℕ → Bool)
     → ((key : List ℕ) → marked key ≡ true → more key ≡ true)
-    → AllKeys bytes_of more left → AllKeys bytes_of more all
+    → AllKeys bytes_of more remaining → AllKeys bytes_of more all
 
 -- one more key is marked
 pub filters_more : {K V : Type 0} (bytes_of : K → List ℕ) (old new : List ℕ → Bool) (e : K × V)
-    (left all : List (K × V)) → FiltersRest bytes_of old (e ∷ left) all
+    (remaining all : List (K × V)) → FiltersRest bytes_of old (e ∷ remaining) all
     → new (bytes_of e.0) ≡ true → ((key : List ℕ) → old key ≡ true → new key ≡ true)
-    → FiltersRest bytes_of new left all
-filters_more bytes_of old new e left all before marked kept =
+    → FiltersRest bytes_of new remaining all
+filters_more bytes_of old new e remaining all before marked kept =
     λ more wider rest. before more (λ key is. wider key (kept key is))
-    (All-cons (λ k. more (bytes_of k) ≡ true) e.0 (keys_of left)
+    (All-cons (λ k. more (bytes_of k) ≡ true) e.0 (keys_of remaining)
     (wider (bytes_of e.0) marked) rest)

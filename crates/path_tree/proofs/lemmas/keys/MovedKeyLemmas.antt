@@ -1,4 +1,4 @@
--- A key with another base's bytes in the place of those that begin it.
+-- A key whose prefix, the bytes of a base, is replaced by the bytes of another base.
 use Rattle.std.proofs.Common.{◌≡◌, ◌∙◌, ◌<◌, ℕ, Bool, true, false, List, [], ◌∷◌, ◌++◌, ap, arith}
 use Rattle.std.proofs.Common.{drop, length, refl, subst, sym}
 use Rattle.std.proofs.lemmas.List.{drop_at}
@@ -12,7 +12,7 @@ use Rattle.path_tree.proofs.lemmas.keys.ChildKeyLemmas.{fit-own, key_of-own, own
 use Rattle.path_tree.proofs.lemmas.keys.ReadLemmas.{key_values-key_of}
 use Rattle.path_tree.proofs.lemmas.keys.UnderLemmas.{values_begin}
 
--- what may stand behind a first value may stand at any place
+-- a component that may follow others may be at any index
 fits_anywhere : (first : Bool) (v : Value) → Fits false v → Fits first v
 fits_anywhere first RootDir h = absurd (let e = h in cc)
 fits_anywhere first CurDir h = absurd (let e = h in cc)
@@ -30,11 +30,11 @@ fit-append : (first : Bool) (us ws : List Value) → AllFit first us → AllFit 
 fit-append first [] ws h k = all_fit_anywhere first ws k
 fit-append first (u ∷ us) ws h k = (h.0, fit-append false us ws h.1 k)
 
--- what stands behind some first values may stand behind a first
-fit-behind : (first : Bool) (v : Value) (us ws : List Value) → AllFit first (v ∷ (us ++ ws))
+-- components after some first components may follow a first component
+fit-after : (first : Bool) (v : Value) (us ws : List Value) → AllFit first (v ∷ (us ++ ws))
     → AllFit false ws
-fit-behind first v [] ws h = h.1
-fit-behind first v (u ∷ us) ws h = fit-behind false u us ws h.1
+fit-after first v [] ws h = h.1
+fit-after first v (u ∷ us) ws h = fit-after false u us ws h.1
 
 module _ (key from to : List ℕ) (own : is_own key ≡ true) (from_own : is_own from ≡ true)
     (to_own : is_own to ≡ true) (some : 0 < length from) (begins : IsPrefixOf from key) where
@@ -51,7 +51,7 @@ module _ (key from to : List ℕ) (own : is_own key ≡ true) (from_own : is_own
       let empty = ap length (key_of-own from from_own ∙ ap key_of none ∙ key_of-nil) in
       absurd (omega (arith, empty))
   follows-by (f ∷ fs) ws same is =
-      fit-behind true f fs ws (subst (AllFit true) (sym is) (fit-own key own))
+      fit-after true f fs ws (subst (AllFit true) (sym is) (fit-own key own))
 
   -- what follows the base's components in the key fits after others
   pub follows : Follows

@@ -27,7 +27,7 @@ module _ {K V : Type 0} (bytes_of : K → List ℕ) (test : List ℕ → Bool) (
 
 module _ {K V : Type 0} (bytes_of : K → List ℕ) (test : List ℕ → Bool) (old new : List (K × V))
     (all : AllKeys bytes_of test old) where
-  -- after an insertion, whether it succeeded or not
+  -- it holds after an insertion, if that succeeded and if it failed
   pub AllKeys-insert : {A E : Type 0} (cmp : K → K → Ordering) (key : K) (x : V)
       → test (bytes_of key) ≡ true → (r : Result A E)
       → OnOk r (new ≡ insert_entry cmp old key x) → OnErr r (new ≡ old)

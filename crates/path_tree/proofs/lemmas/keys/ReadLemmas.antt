@@ -1,4 +1,4 @@
--- A key stands for the values of each path that has it.
+-- A key represents the components of each path that has it.
 use Rattle.std.proofs.Common.{◌≡◌, ℕ, Bool, true, false, List, [], ◌∷◌, ◌++◌, map, Some}
 use Rattle.std.proofs.Common.{refl, sym, ap, ap₂, ◌∙◌, subst, append_assoc, append-nil}
 use Rattle.std.proofs.lemmas.Slice.Eq.{bytes_eq-Decides}
@@ -19,7 +19,7 @@ use Rattle.path_keys.proofs.lemmas.values.LoweredLemmas.{raised-no_zero, lowered
 use Rattle.path_keys.proofs.lemmas.values.OrderLemmas.{bytes_cmp-keys}
 use Rattle.path_tree.specs.Read.{is_own, key_values, values_from}
 
--- behind the first bytes of a name the rest of the name is read, up to its end mark
+-- after the first bytes of a name the rest of the name is read, up to its end mark
 values_from-name : (n : List ℕ) (a : ℕ) (name key : List ℕ) → NoSlash n
     → values_from (Some (a ∷ name)) ((map raised n ++ 0 ∷ []) ++ key)
     ≡ Normal (a ∷ (name ++ n)) ∷ values_from (Some []) key
@@ -43,7 +43,7 @@ values_from-code first (Normal (b ∷ n)) h key =
     rw (raised-no_zero b h.no_slash.0, lowered-raised b h.no_slash.0)
     (values_from-name n b [] key h.no_slash.1)
 
--- the key of values that may be a path's stands for these
+-- the key of components that may be a path's represents these components
 pub key_values-key_of : (first : Bool) (vs : List Value) → AllFit first vs
     → key_values (key_of vs) ≡ vs
 unfolding values_from
@@ -52,11 +52,11 @@ key_values-key_of first (v ∷ vs) h =
     ap key_values (key_of-cons v vs) ∙ values_from-code first v h.0 (key_of vs)
     ∙ ap (λ us. v ∷ us) (key_values-key_of false vs h.1)
 
--- the key of a path stands for its values
+-- the key of a path represents the path's components
 pub key_values-values : (s : List ℕ) → key_values (key_of (values s)) ≡ values s
 key_values-values s = key_values-key_of true (values s) (values-fit s)
 
--- the key of a path is that of the path that spells its values
+-- the key of a path passes the test
 pub own-key_of : (s : List ℕ) → is_own (key_of (values s)) ≡ true
 own-key_of s =
     let key = key_of (values s) in
@@ -64,7 +64,7 @@ own-key_of s =
     (ap (λ vs. key_of (values (spelling_of vs))) (key_values-values s)
     ∙ ap key_of (values-spelling_of s))
 
--- bytes that are a key are that of a path with the values that they stand for
+-- bytes that pass the test are the key of the path that spells the components that they represent
 pub own-is : (key : List ℕ) → is_own key ≡ true
     → key_of (values (spelling_of (key_values key))) ≡ key
 own-is key own = (bytes_eq-Decides (key_of (values (spelling_of (key_values key)))) key).0 own
@@ -75,7 +75,7 @@ pub own-values : (key : List ℕ) → is_own key ≡ true
 own-values key own =
     sym (key_values-values (spelling_of (key_values key))) ∙ ap key_values (own-is key own)
 
--- keys are in the order of the values that they stand for
+-- keys are in the order of the components that they represent
 pub bytes_cmp-own : (k l : List ℕ) → is_own k ≡ true → is_own l ≡ true
     → bytes_cmp k l ≡ values_cmp (key_values k) (key_values l)
 bytes_cmp-own k l own other =
@@ -85,19 +85,19 @@ bytes_cmp-own k l own other =
     ∙ bytes_cmp-keys (values s) (values t) (values-coded s) (values-coded t)
     ∙ ap₂ values_cmp (own-values k own) (own-values l other)
 
--- the bytes are a path's key, and stand for the values v
-pub record StandsFor (key : List ℕ) (v : List Value) : Type 0 where
+-- the bytes are a path's key, and represent the components v
+pub record Represents (key : List ℕ) (v : List Value) : Type 0 where
   pub own : is_own key ≡ true
   pub is : key_values key ≡ v
 
--- a path's key stands for its values
-pub own-stands : (key : List ℕ) → is_own key ≡ true → StandsFor key (key_values key)
-own-stands key own = record { own = own; is = refl }
+-- a path's key represents its components
+pub own-represents : (key : List ℕ) → is_own key ≡ true → Represents key (key_values key)
+own-represents key own = record { own = own; is = refl }
 
 -- such a key is in the order of its values
-pub bytes_cmp-stands : (key : List ℕ) (v : List Value) → StandsFor key v → (l : List ℕ)
+pub bytes_cmp-represents : (key : List ℕ) (v : List Value) → Represents key v → (l : List ℕ)
     → is_own l ≡ true → bytes_cmp key l ≡ values_cmp v (key_values l)
-bytes_cmp-stands key v h l other =
+bytes_cmp-represents key v h l other =
     bytes_cmp-own key l h.own other ∙ ap (λ w. values_cmp w (key_values l)) h.is
 
 -- a key that is kept is a path's
@@ -109,6 +109,6 @@ own-IsKey key held same is = ap is_own same
 pub own-of : (key s : List ℕ) → key ≡ key_of (values s) → is_own key ≡ true
 own-of key s is = ap is_own is ∙ own-key_of s
 
--- and stands for the path's values
+-- and represents the path's components
 pub values-of : (key s : List ℕ) → key ≡ key_of (values s) → key_values key ≡ values s
 values-of key s is = ap key_values is ∙ key_values-values s

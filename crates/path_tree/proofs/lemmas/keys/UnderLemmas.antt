@@ -18,7 +18,7 @@ use Rattle.path_tree.specs.Read.{is_own, key_values}
 use Rattle.path_tree.proofs.lemmas.keys.ReadLemmas.{bytes_cmp-own, own-is, own-values}
 use Rattle.path_tree.proofs.lemmas.keys.RowLemmas.{AllOwn, Own, all_own, keys_cmp, rows_by}
 
--- a key begins another exactly if its values begin the other's
+-- a key is a prefix of another if and only if its components are a prefix of the other's
 module _ (k l : List ℕ) (own : is_own k ≡ true) (other : is_own l ≡ true) where
   -- if the components begin the other's, so do the bytes
   pub key_begins : IsPrefixOf (key_values k) (key_values l) → IsPrefixOf k l
@@ -95,15 +95,15 @@ module _ {K V : Type 0} (bytes_of : K → List ℕ) (test : K → Bool) (keep : 
 
 module _ {K V : Type 0} (bytes_of : K → List ℕ) where
   -- what is greater by its bytes is greater by its components
-  behind-all_own : (k : K) (entries : List (K × V)) → is_own (bytes_of k) ≡ true
+  greater-all_own : (k : K) (entries : List (K × V)) → is_own (bytes_of k) ≡ true
       → AllOwn bytes_of entries
       → AllByRecursion (λ l. keys_cmp bytes_of k l ≡ Less) (keys_of entries)
       → AllByRecursion (λ w. values_cmp (key_values (bytes_of k)) w ≡ Less)
       (keys_of (rows_by bytes_of entries))
-  behind-all_own k [] own all behind = tt
-  behind-all_own k (e ∷ entries) own all behind = (
-    sym (bytes_cmp-own (bytes_of k) (bytes_of e.0) own all.0) ∙ behind.0,
-    behind-all_own k entries own all.1 behind.1,
+  greater-all_own k [] own all greater = tt
+  greater-all_own k (e ∷ entries) own all greater = (
+    sym (bytes_cmp-own (bytes_of k) (bytes_of e.0) own all.0) ∙ greater.0,
+    greater-all_own k entries own all.1 greater.1,
   )
 
   -- `sorted-rows_by`, by recursion on the entries
@@ -113,7 +113,7 @@ module _ {K V : Type 0} (bytes_of : K → List ℕ) where
   unfolding IsStrictlySortedBy
   sorted-all_own [] all sorted = tt
   sorted-all_own (e ∷ entries) all sorted =
-      (behind-all_own e.0 entries all.0 all.1 sorted.0, sorted-all_own entries all.1 sorted.1)
+      (greater-all_own e.0 entries all.0 all.1 sorted.0, sorted-all_own entries all.1 sorted.1)
 
   -- if the keys ascend, so do the rows
   pub sorted-rows_by : (entries : List (K × V)) → Own bytes_of entries

@@ -1,5 +1,5 @@
--- The entries of a tree by the bytes of their keys: all keys are keys of paths, and those of a
--- range are those that start with its base.
+-- The entries of a tree by the bytes of their keys: all keys are keys of paths, and the keys in a
+-- range are the keys that start with its base.
 use Rattle.std.proofs.Common.{◌≡◌, ◌∙◌, ◌&&◌, ℕ, Bool, true, false, cond, List, [], ◌∷◌, Some, None}
 use Rattle.std.proofs.Common.{zero, suc, arith, length, IfSome, Less, ap, eqb, is_le, map, not}
 use Rattle.std.proofs.Common.{refl, subst, sym}

@@ -24,7 +24,7 @@ inserted_all_snoc rows [] item = refl
 inserted_all_snoc rows (x ∷ items) item =
     inserted_all_snoc (insert_entry values_cmp rows (values x.0.bytes.now) x.1) items item
 
--- a key's bytes begin another's exactly if its values begin the other's
+-- a key is a prefix of another if and only if its components are a prefix of the other's
 pub starts_with-under : (base key : List ℕ) → is_own base ≡ true → is_own key ≡ true
     → starts_with eqb key base ≡ is_under (key_values base) (key_values key)
 starts_with-under base key own other =

@@ -1,4 +1,4 @@
--- Rows that are put under another base, and those that are removed again.
+-- Rows that are moved to another base, and rows that are removed again.
 use Rattle.std.proofs.Common.{◌≡◌, ◌∙◌, ◌⊎◌, inl, inr, Bool, true, false, cond, List, [], ◌∷◌, ◌++◌}
 use Rattle.std.proofs.Common.{ap, ap₂, append_assoc, drop, length, map, not, refl, sym}
 use Rattle.std.proofs.Common.{Ordering, Less, Equal, Greater}
@@ -20,7 +20,7 @@ use Rattle.path_tree.specs.Rows.{rows_outside, rows_under}
 use Rattle.path_tree.proofs.lemmas.rows.WalkLemmas.{all_kept}
 
 module _ {V : Type 0} (v : List Value) (x : V) where
-  -- before rows that are all greater, an insertion puts a row in front
+  -- if all rows are greater than a row, the row is inserted before them
   insert_first : (rows : List (List Value × V))
       → AllByRecursion (λ w. values_cmp v w ≡ Less) (keys_of rows)
       → insert_entry values_cmp rows v x ≡ (v, x) ∷ rows

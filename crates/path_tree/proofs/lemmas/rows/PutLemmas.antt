@@ -1,4 +1,4 @@
--- Entries that are put into rows, the last one first.
+-- Entries that are inserted into rows, the last one first.
 use Rattle.std.proofs.Common.{◌≡◌, ◌∙◌, true, List, [], ◌∷◌, ◌++◌, ap, append_assoc, append-nil}
 use Rattle.std.proofs.Common.{refl, subst, sym}
 use Rattle.std.specs.List.{AllByRecursion}
@@ -16,20 +16,20 @@ pub key_rows-append : {V : Type 0} (es fs : List (Key × V))
 key_rows-append [] fs = refl
 key_rows-append (e ∷ es) fs = ap (λ l. (key_values e.0.items, e.1) ∷ l) (key_rows-append es fs)
 
--- the last of these entries were put into the rows, and the others are left
+-- the last of these entries were inserted into the rows, and the others remain
 pub record PutsLast {V : Type 0} (all : List (Key × V)) (old : List (List Value × V))
-    (left : List (Key × V)) (new : List (List Value × V)) : Type 0 where
+    (remaining : List (Key × V)) (new : List (List Value × V)) : Type 0 where
   pub done : List (Key × V)
-  pub split : all ≡ left ++ done
+  pub split : all ≡ remaining ++ done
   pub rows : new ≡ rows_with old (key_rows done)
 
 module _ {V : Type 0} (all : List (Key × V)) (old : List (List Value × V)) where
-  -- at first none was put
+  -- at first no entry was inserted
   pub puts_none : PutsLast all old all old
   puts_none = record { done = []; split = sym (append-nil all); rows = refl }
 
-  module _ (left : List (Key × V)) (new : List (List Value × V)) (h : PutsLast all old left new)
-      (others : List (Key × V)) (k : Key) (x : V) (is : left ≡ others ++ (k, x) ∷ []) where
+  module _ (remaining : List (Key × V)) (new : List (List Value × V)) (h : PutsLast all old remaining new)
+      (others : List (Key × V)) (k : Key) (x : V) (is : remaining ≡ others ++ (k, x) ∷ []) where
     -- the last of the others has the key of a path
     pub one_own : Own (λ (k : Key). k.items) all → is_own k.items ≡ true
     one_own own = (all_rest (λ (k : Key). is_own k.items ≡ true) others ((k, x) ∷ h.done)
@@ -37,16 +37,16 @@ module _ {V : Type 0} (all : List (Key × V)) (old : List (List Value × V)) whe
         (h.split ∙ ap (λ l. l ++ h.done) is ∙ append_assoc others ((k, x) ∷ []) h.done)
         (all_own (λ k. k.items) all own))).0
 
-  -- what was put is the end of the rows
-  pub puts_end : (left : List (Key × V)) (new : List (List Value × V)) → PutsLast all old left new
+  -- the entries that were inserted are the last ones
+  pub puts_end : (remaining : List (Key × V)) (new : List (List Value × V)) → PutsLast all old remaining new
       → (front : List (List Value × V)) × ((last : List (List Value × V))
       × (key_rows all ≡ front ++ last) × (new ≡ rows_with old last))
-  puts_end left new h = (
-    key_rows left,
-    (key_rows h.done, ap key_rows h.split ∙ key_rows-append left h.done, h.rows),
+  puts_end remaining new h = (
+    key_rows remaining,
+    (key_rows h.done, ap key_rows h.split ∙ key_rows-append remaining h.done, h.rows),
   )
 
-  -- at the end all were put
+  -- at the end all entries were inserted
   pub puts_all : (new : List (List Value × V)) → PutsLast all old [] new
       → new ≡ rows_with old (key_rows all)
   puts_all new h = h.rows ∙ ap (λ l. rows_with old (key_rows l)) (sym h.split)

@@ -22,12 +22,12 @@ use Rattle.path_tree.proofs.lemmas.keys.RowLemmas.{AllOwn, keys_cmp, rows_by}
 pub last_of : {A : Type 0} (xs : List A) → (xs ≡ [])
     ⊎ ((front : List A) × ((last : A) × (xs ≡ front ++ last ∷ [])))
 last_of [] = inl refl
-last_of (x ∷ xs) = inr (behind (last_of xs))
+last_of (x ∷ xs) = inr (in_rest (last_of xs))
   where
-    behind : (xs ≡ []) ⊎ ((front : List _) × ((last : _) × (xs ≡ front ++ last ∷ [])))
+    in_rest : (xs ≡ []) ⊎ ((front : List _) × ((last : _) × (xs ≡ front ++ last ∷ [])))
         → (front : List _) × ((last : _) × (x ∷ xs ≡ front ++ last ∷ []))
-    behind (inl none) = ([], (x, ap (λ l. x ∷ l) none))
-    behind (inr some) = (x ∷ some.0, (some.1.0, ap (λ l. x ∷ l) some.1.1))
+    in_rest (inl none) = ([], (x, ap (λ l. x ∷ l) none))
+    in_rest (inr some) = (x ∷ some.0, (some.1.0, ap (λ l. x ∷ l) some.1.1))
 
 module _ {K V : Type 0} (cmp : K → K → Ordering) (total : IsTotalOrder cmp) (k : K) (x : V) where
   -- what is less than all keys, and than one more, is less than all of these
@@ -112,11 +112,11 @@ module _ {K V : Type 0} (bytes_of : K → List ℕ) where
       (tied_itself nat_list_cmp_total (bytes_of e.0))
 
   -- the first of sorted entries isn't found in others that begin with a greater one
-  not_behind : (e f : K × V) (es fs : List (K × V))
+  not_after : (e f : K × V) (es fs : List (K × V))
       → AllByRecursion (λ l. keys_cmp bytes_of f.0 l ≡ Less) (keys_of fs)
       → keys_cmp bytes_of e.0 f.0 ≡ Less
       → finds_at e.0 (e ∷ es) ≡ finds_at e.0 (f ∷ fs) → ⊥
-  not_behind e f es fs sorted less same =
+  not_after e f es fs sorted less same =
       let none = none_greater e.0 (f ∷ fs)
       (less, less_all bytes_of e.0 f.0 less (keys_of fs) sorted) in
       let some = itself e es in
@@ -149,9 +149,9 @@ module _ {K V : Type 0} (bytes_of : K → List ℕ) where
       → (((q : K) → finds_at q es ≡ finds_at q fs) → map bare es ≡ map bare fs)
       → (o : Ordering) → keys_cmp bytes_of e.0 f.0 ≡ o → map bare (e ∷ es) ≡ map bare (f ∷ fs)
   same_by e f es fs less other same rest Less is =
-      absurd (not_behind e f es fs other is (same e.0))
+      absurd (not_after e f es fs other is (same e.0))
   same_by e f es fs less other same rest Greater is =
-      absurd (not_behind f e fs es less
+      absurd (not_after f e fs es less
       (nat_list_cmp_total.antisymm (bytes_of f.0) (bytes_of e.0)
       ∙ ap ordering_reverse is) (sym (same f.0)))
   same_by e f es fs less other same rest Equal is =
@@ -179,7 +179,7 @@ module _ {K V : Type 0} (bytes_of : K → List ℕ) where
       same_by e f es fs sorted.0 other.0 same
       (λ rest. same_entries es fs sorted.1 other.1 rest) (keys_cmp bytes_of e.0 f.0) refl
 
-  -- the rows of entries, and whether all keys are those of paths, are told by the bytes
+  -- entries with the same bytes have the same rows
   pub rows-bare : (es fs : List (K × V)) → map bare es ≡ map bare fs
       → rows_by bytes_of es ≡ rows_by bytes_of fs
   rows-bare es fs same = told es ∙ ap (map (λ p. (key_values p.0, p.1))) same ∙ sym (told fs)

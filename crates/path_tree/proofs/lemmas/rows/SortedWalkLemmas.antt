@@ -1,4 +1,4 @@
--- Entries that are listed for items that rise, and the map that is made of them.
+-- Entries that are listed for strictly increasing items, and the map that is created from them.
 use Rattle.std.proofs.Common.{◌≡◌, ◌∙◌, ⊎_elim, ℕ, Bool, true, false, List, [], ◌∷◌, ◌++◌, ap, ap₂}
 use Rattle.std.proofs.Common.{map, refl, subst, sym, Option, Some, Ordering, Less, Equal, Greater}
 use Rattle.std.proofs.lemmas.Cmp.{eq_by_cmp_equiv, nat_list_cmp_total, on_total}
@@ -27,7 +27,7 @@ use Rattle.path_tree.proofs.lemmas.keys.UnderLemmas.{sorted-rows_by}
 abbrev items_of : Key → List ℕ
 items_of k = k.items
 
--- the entries' keys rise, and their rows are these items'
+-- the keys of the entries are strictly increasing, and the rows are the rows of these items
 pub record Listed {V : Type 0} (entries : List (Key × V)) (items : List (Path × V)) : Type 0 where
   pub own : AllOwn items_of entries
   pub sorted : IsStrictlySortedBy (keys_cmp items_of) (keys_of entries)
@@ -44,7 +44,7 @@ less_is Less is = refl
 less_is Equal is = absurd (let e = is in cc)
 less_is Greater is = absurd (let e = is in cc)
 
--- the keys are those of paths, as a tree knows it
+-- all keys are keys of paths, in the form of the tree's invariant
 own_all : {V : Type 0} (es : List (Key × V)) → AllOwn items_of es → Own items_of es
 own_all es own = All-from_recursion (λ k. is_own k.items ≡ true) (keys_of es) own
 
@@ -75,7 +75,7 @@ items_more path x (item ∷ items) =
 
 module _ {V : Type 0} (entries : List (Key × V)) (items : List (Path × V))
     (h : Listed entries items) (k : Key) (path : Path) (own : is_own k.items ≡ true)
-    (stands : key_values k.items ≡ values path.bytes.now) where
+    (represents : key_values k.items ≡ values path.bytes.now) where
   -- one more whose key is greater than the last
   pub listed_more : (x : V)
       → ((front : List (Key × V)) (last : Key × V) → entries ≡ front ++ last ∷ []
@@ -87,17 +87,17 @@ module _ {V : Type 0} (entries : List (Key × V)) (items : List (Path × V))
         h.sorted (λ front last is. less_is _ (greater front last is));
     rows = rows_more k x entries
         ∙ ap (λ l. l ++ (key_values k.items, x) ∷ []) h.rows
-        ∙ ap (λ v. rows_in items ++ (v, x) ∷ []) stands ∙ sym (items_more path x items);
+        ∙ ap (λ v. rows_in items ++ (v, x) ∷ []) represents ∙ sym (items_more path x items);
   }
 
   -- one whose key isn't greater
-  pub stops : {S : Type 0} (steps : S → Option (Path × V) → S → Type 0) (all : S) (x : V) (left : S)
-      → YieldsThen steps all items (Some (path, x)) left → (t : Bool) → t ≡ false
+  pub stops : {S : Type 0} (steps : S → Option (Path × V) → S → Type 0) (all : S) (x : V) (after : S)
+      → YieldsThen steps all items (Some (path, x)) after → (t : Bool) → t ≡ false
       → (entries ≡ [] → t ≡ true)
       → ((front : List (Key × V)) (last : Key × V) → entries ≡ front ++ last ∷ []
       → t ≡ is_lt (bytes_cmp last.0.items k.items))
       → StopsRising steps all
-  stops steps all x left before t fails first others = ⊎_elim
+  stops steps all x after before t fails first others = ⊎_elim
       (λ none. absurd (let e = sym fails ∙ first none in cc))
       (λ some.
       let front = some.0 in
@@ -110,8 +110,8 @@ module _ {V : Type 0} (entries : List (Key × V)) (items : List (Path × V))
         entries = known;
         last = item;
         next = (path, x);
-        left = left;
-        items_before = subst (λ l. YieldsThen steps all l (Some (path, x)) left) is before;
+        after = after;
+        items_before = subst (λ l. YieldsThen steps all l (Some (path, x)) after) is before;
         rise = subst (λ l. IsStrictlySortedBy values_cmp (keys_of l))
             (h.rows ∙ ap rows_in is)
             (sorted-rows_by items_of entries (own_all entries h.own) h.sorted);
@@ -120,7 +120,7 @@ module _ {V : Type 0} (entries : List (Key × V)) (items : List (Path × V))
             (subst (AllOwn items_of) some.1.1 h.own) in
             let compared : bytes_cmp last.0.items k.items ≡ Less =
             bytes_cmp-own last.0.items k.items last_own own
-            ∙ ap₂ values_cmp row.1.1.1 stands ∙ less in
+            ∙ ap₂ values_cmp row.1.1.1 represents ∙ less in
             let e = sym fails ∙ others front last some.1.1 ∙ ap is_lt compared in cc;
       })
       (last_of entries)
@@ -132,7 +132,7 @@ module _ {V : Type 0} (entries : List (Key × V)) (items : List (Path × V))
 
 module _ {V : Type 0} (entries : List (Key × V)) (items : List (Path × V))
     (h : Listed entries items) where
-  -- the items' paths rise
+  -- the paths of the items are strictly increasing
   pub rise : IsStrictlySortedBy values_cmp (keys_of (rows_in items))
   rise = subst (λ l. IsStrictlySortedBy values_cmp (keys_of l)) h.rows
       (sorted-rows_by items_of entries (own_all entries h.own) h.sorted)
@@ -152,6 +152,6 @@ module _ {V : Type 0} (entries : List (Key × V)) (items : List (Path × V))
     pub made_own : Own items_of made.entries
     made_own = own_all made.entries (own-bare items_of made.entries entries same h.own)
 
-    -- and its rows are those of the items
+    -- and its rows are the rows of the items
     pub made_rows : key_rows made.entries ≡ rows_in items
     made_rows = rows-bare items_of made.entries entries same ∙ h.rows

@@ -7,7 +7,7 @@ use Rattle.std.specs.Map.{keys_of}
 use Rattle.unix_bytes.proofs.lemmas.lists.ListLemmas.{by_test}
 
 module _ {K V : Type 0} (P : K → Type 0) where
-  -- what holds of all keys holds of those of the rest
+  -- what holds of all keys holds of the keys of the rest
   pub all_rest : (before rest : List (K × V)) → AllByRecursion P (keys_of (before ++ rest))
       → AllByRecursion P (keys_of rest)
   all_rest [] rest all = all
@@ -93,14 +93,14 @@ module _ {K V : Type 0} (keep : K × V → Bool) where
       (all_filter (λ l. cmp e.0 l ≡ Less) es sorted.0, sorted-filter cmp es sorted.1))
       (λ fails. rw fails (sorted-filter cmp es sorted.1))
 
--- a test that holds from some place on in the order
+-- a test that holds of all keys that are greater than a key of which it holds
 module _ {K : Type 0} (cmp : K → K → Ordering) (p : K → Bool)
     (goes_on : (k l : K) → p k ≡ true → cmp k l ≡ Less → p l ≡ true) where
   -- if it holds of a key, it holds of all that are greater
-  all_behind : (k : K) (ls : List K) → p k ≡ true → AllByRecursion (λ l. cmp k l ≡ Less) ls
+  all_after : (k : K) (ls : List K) → p k ≡ true → AllByRecursion (λ l. cmp k l ≡ Less) ls
       → AllByRecursion (λ l. p l ≡ true) ls
-  all_behind k [] is less = tt
-  all_behind k (l ∷ ls) is less = (goes_on k l is less.0, all_behind k ls is less.1)
+  all_after k [] is less = tt
+  all_after k (l ∷ ls) is less = (goes_on k l is less.0, all_after k ls is less.1)
 
 module _ {K V : Type 0} (cmp : K → K → Ordering) (p : K → Bool)
     (goes_on : (k l : K) → p k ≡ true → cmp k l ≡ Less → p l ≡ true) where
@@ -109,7 +109,7 @@ module _ {K V : Type 0} (cmp : K → K → Ordering) (p : K → Bool)
       → IsStrictlySortedBy cmp (keys_of (e ∷ es)) → p e.0 ≡ true
       → AllByRecursion (λ l. p l ≡ true) (keys_of (e ∷ es))
   all_from_first e es sorted is =
-      (is, all_behind cmp p goes_on e.0 (keys_of es) is (sorted_first cmp e es sorted))
+      (is, all_after cmp p goes_on e.0 (keys_of es) is (sorted_first cmp e es sorted))
 
   -- the entries of which it holds are the rest of all
   pub suffix-filter : (es : List (K × V)) → IsStrictlySortedBy cmp (keys_of es)

@@ -15,7 +15,7 @@ returns-then-is_empty-clause-covers c =
     let none : length (key_bytes c.args.self.now) ≡ 0 = grind (arith, nat_tests) in
     range_end-none (key_bytes c.args.self.now) none
 
--- the copy has the key's bytes, its last place is the key's, and the byte there is the key's last
+-- the copy has the bytes of the key, so its last index and its last byte are those of the key
 last_is : (key items : List ℕ) (n b : ℕ) → items ≡ key → n ≡ length key → 0 < length key
     → b ≡ get_or items (n - 1) b → b ≡ get_or key (length key - 1) 0
 last_is key items n b same long some is =

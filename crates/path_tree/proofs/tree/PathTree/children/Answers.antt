@@ -3,7 +3,7 @@ use Rattle.std.proofs.Common.{arith, eqb, length, map, option_map, Bor, List, []
 use Rattle.std.proofs.Common.{Option, IfSome, false, rules, subst, subst₂, sym, ℕ}
 use Rattle.std.specs.List.{starts_with}
 use Rattle.unix_path.specs.Prefixes.{IsPrefixOf}
-use Rattle.path_tree.specs.Children.{child_entry, child_of, children_of, lent_child}
+use Rattle.path_tree.specs.Children.{child_entry, child_of, children_of, borrowed_child}
 use Rattle.path_tree.specs.Read.{is_own}
 use Rattle.path_tree.specs.Rows.{Key}
 use Rattle.path_tree.specs.Tree.{entries_of}
@@ -30,7 +30,7 @@ pub loop-key-init : goal.loop-key-init
 loop-key-init g c =
     let tree = c.args.self.now in
     let base = c.vec_of-base.result.now.items in
-    subst (λ l. FindsChildren base tree.entries.entries _ c.range-rest.result (map lent_child l))
+    subst (λ l. FindsChildren base tree.entries.entries _ c.range-rest.result (map borrowed_child l))
     (sym c.new-found.ensures.items)
     (starts base tree.entries.entries c.range-rest.ensures.ordered c.range-rest.result
     (c.range-rest.ensures.between tt))
@@ -57,7 +57,7 @@ returns-in_err-set_end-clause-succeeds g c = λ none.
     let base = c.vec_of-base.result.now.items in
     let is = c.in-Some-begun_by.ensures.some in
     absurd (not_none_found base tree.entries.entries c.range-rest.ensures.ordered _
-    c.in-Some-begun_by.child.now c.loop-key.rest (map lent_child c.loop-key.found.items)
+    c.in-Some-begun_by.child.now c.loop-key.rest (map borrowed_child c.loop-key.found.items)
     c.loop-key.invariant is.0
     (ap (λ b. children_of b (entries_of tree)) c.vec_of-base.ensures.bytes ∙ none))
 
@@ -67,7 +67,7 @@ loop-key-smaller-in-Some-begun_by g c =
     let base = c.vec_of-base.result.now.items in
     let e : Key × g.row.V.Denot = (c.in-Some.key.now, c.in-Some.value.now) in
     let es = c.next.new.self in
-    let found = map lent_child c.loop-key.found.items in
+    let found = map borrowed_child c.loop-key.found.items in
     let last : Option (List ℕ) = option_map (λ (b : Bor (List ℕ)). b.now) c.loop-key.last in
     let is = c.in-Some-begun_by.ensures.some in
     let child = c.in-Some-begun_by.child.now in
@@ -86,7 +86,7 @@ loop-key-preserved-in-Some-begun_by g c =
     let base = c.vec_of-base.result.now.items in
     let e : Key × g.row.V.Denot = (c.in-Some.key.now, c.in-Some.value.now) in
     let es = c.next.new.self in
-    let found = map lent_child c.loop-key.found.items in
+    let found = map borrowed_child c.loop-key.found.items in
     let last : Option (List ℕ) = option_map (λ (b : Bor (List ℕ)). b.now) c.loop-key.last in
     let is = c.in-Some-begun_by.ensures.some in
     let child = c.in-Some-begun_by.child.now in
@@ -106,7 +106,7 @@ child_key-child-requires-clause-own g c =
     let base = c.vec_of-base.result.now.items in
     let e : Key × g.row.V.Denot = (c.in-Some.key.now, c.in-Some.value.now) in
     let es = c.next.new.self in
-    let found = map lent_child c.loop-key.found.items in
+    let found = map borrowed_child c.loop-key.found.items in
     let last : Option (List ℕ) = option_map (λ (b : Bor (List ℕ)). b.now) c.loop-key.last in
     let steps : c.loop-key.rest ≡ e ∷ es = search rules in
     let h : FindsChildren base entries last (e ∷ es) found =
@@ -129,7 +129,7 @@ child_key-child-requires-clause-longer g c =
     let base = c.vec_of-base.result.now.items in
     let e : Key × g.row.V.Denot = (c.in-Some.key.now, c.in-Some.value.now) in
     let es = c.next.new.self in
-    let found = map lent_child c.loop-key.found.items in
+    let found = map borrowed_child c.loop-key.found.items in
     let last : Option (List ℕ) = option_map (λ (b : Bor (List ℕ)). b.now) c.loop-key.last in
     let steps : c.loop-key.rest ≡ e ∷ es = search rules in
     let h : FindsChildren base entries last (e ∷ es) found =
@@ -152,7 +152,7 @@ returns-in_err-push-clause-succeeds g c = λ none.
     let base = c.vec_of-base.result.now.items in
     let e : Key × g.row.V.Denot = (c.in-Some.key.now, c.in-Some.value.now) in
     let es = c.next.new.self in
-    let found = map lent_child c.loop-key.found.items in
+    let found = map borrowed_child c.loop-key.found.items in
     let last : Option (List ℕ) = option_map (λ (b : Bor (List ℕ)). b.now) c.loop-key.last in
     let steps : c.loop-key.rest ≡ e ∷ es = search rules in
     let h : FindsChildren base entries last (e ∷ es) found =
@@ -177,7 +177,7 @@ loop-key-preserved g c =
     let base = c.vec_of-base.result.now.items in
     let e : Key × g.row.V.Denot = (c.in-Some.key.now, c.in-Some.value.now) in
     let es = c.next.new.self in
-    let found = map lent_child c.loop-key.found.items in
+    let found = map borrowed_child c.loop-key.found.items in
     let last : Option (List ℕ) = option_map (λ (b : Bor (List ℕ)). b.now) c.loop-key.last in
     let steps : c.loop-key.rest ≡ e ∷ es = search rules in
     let h : FindsChildren base entries last (e ∷ es) found =
@@ -193,20 +193,20 @@ loop-key-preserved g c =
     c.child_key-child.ensures
     ∙ ap₂ child_of c.deref-in-Some-3.ensures.value c.deref-in-Some-2.ensures.value in
     let x = c.in-Some.value.now in
-    let entry : lent_child c.with_value.result ≡ child_entry base (key, x) =
+    let entry : borrowed_child c.with_value.result ≡ child_entry base (key, x) =
     c.with_value.ensures
     ∙ ap₂ (λ (k l : List ℕ). (k, if length k == length l then Some x else None)) is
     c.deref-in-Some-4.ensures.value in
-    subst (λ k. FindsChildren base entries (Some k) es (map lent_child c.push.new.self.items))
+    subst (λ k. FindsChildren base entries (Some k) es (map borrowed_child c.push.new.self.items))
     (sym is)
     (finds base entries c.range-rest.ensures.ordered last e es found h begins
     (child_is_key base key own c.vec_of-base.ensures.own begins more)
     (child_begins base key own c.vec_of-base.ensures.own begins more)
     (without c.loop-key.last c.deref.result.now key (search rules) c.deref.ensures.value)
-    (map lent_child c.push.new.self.items)
-    (ap (map lent_child) c.in_ok-push.ensures.items
+    (map borrowed_child c.push.new.self.items)
+    (ap (map borrowed_child) c.in_ok-push.ensures.items
     ∙ sym (append-nil _)
-    ∙ map_push-append lent_child c.loop-key.found.items c.with_value.result []
+    ∙ map_push-append borrowed_child c.loop-key.found.items c.with_value.result []
     ∙ ap (λ r. found ++ r ∷ []) entry))
 
 pub returns-clause-entries : goal.returns-clause-entries
@@ -214,7 +214,7 @@ returns-clause-entries g c =
     let tree = c.args.self.now in
     let entries = tree.entries.entries in
     let base = c.vec_of-base.result.now.items in
-    let found = map lent_child c.loop-key.found.items in
+    let found = map borrowed_child c.loop-key.found.items in
     let last : Option (List ℕ) = option_map (λ (b : Bor (List ℕ)). b.now) c.loop-key.last in
     let all : found ≡ children_of base (entries_of tree) =
     elim c.match-next.branch [

@@ -4,7 +4,7 @@ use Rattle.path_tree.specs.Read.{is_own, key_values}
 use Rattle.path_tree.proofs.lemmas.keys.MovedKeyLemmas.{moved_own, moved_values}
 use Rattle.path_tree.proofs.tree.move_under.moved_key.Goals as goal
 
--- what follows some first bytes is all of what is left
+-- a slice from an index on is the rest after the bytes before it
 whole_rest : (key from : List ℕ)
     → take (length key - length from) (drop (length from) key) ≡ drop (length from) key
 whole_rest key from = take_all (length key - length from) (drop (length from) key)
