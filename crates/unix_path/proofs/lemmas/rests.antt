@@ -2,6 +2,6 @@
 pub mod MiddleLemmas
 pub mod RestLemmas
 pub mod RootLemmas
+pub mod SourceLemmas
 -- Only for this crate.
 pub mod SplitLemmas
-pub mod SourceLemmas
