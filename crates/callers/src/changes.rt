@@ -1,7 +1,7 @@
 //! The changes from one manifest to another.
 ghost use Rattle.std.specs.Prelude.{◌≡◌, IfOk, map};
-ghost use Rattle.path_tree.specs.Changed.{entries_changed, lent_both};
-ghost use Rattle.path_tree.specs.Difference.{entries_lacking, lent_entry};
+ghost use Rattle.path_tree.specs.Changed.{entries_changed, borrowed_both};
+ghost use Rattle.path_tree.specs.Difference.{entries_lacking, borrowed_entry};
 ghost use Rattle.path_tree.specs.Tree.{entries_of};
 
 use path_tree::PathTree;
@@ -32,11 +32,11 @@ pub fn changes_from<'a, 'b, V: PartialEq>(
     before: &'b PathTree<V>,
     after: &'a PathTree<V>,
 ) -> Result<Changes<'a, 'b, V>, AllocError>
-    ensures new { IfOk result (λ changes. map lent_entry changes.new.items
+    ensures new { IfOk result (λ changes. map borrowed_entry changes.new.items
         ≡ entries_lacking (entries_of before.entry.now) (entries_of after.entry.now)) }
-    ensures gone { IfOk result (λ changes. map lent_entry changes.gone.items
+    ensures gone { IfOk result (λ changes. map borrowed_entry changes.gone.items
         ≡ entries_lacking (entries_of after.entry.now) (entries_of before.entry.now)) }
-    ensures different { IfOk result (λ changes. map lent_both changes.different.items
+    ensures different { IfOk result (λ changes. map borrowed_both changes.different.items
         ≡ entries_changed V.eq (entries_of before.entry.now) (entries_of after.entry.now)) }
 {
     Ok(Changes {

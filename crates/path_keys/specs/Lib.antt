@@ -5,6 +5,6 @@ pub mod Codes
 pub mod Errors
 pub mod Lasts
 pub mod NameBytes
-pub mod Stretches
+pub mod PathRuns
 pub mod Runs
 pub mod Laws

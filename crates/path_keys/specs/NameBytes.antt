@@ -15,5 +15,5 @@ decoded b = if b == 0 then slash else lowered b
 
 -- the byte b, changed in the way `how`
 abbrev pub recoded : Recoding → ℕ → ℕ
-recoded how b = if b == how.mark then how.other
-    else (if nat_lt b how.limit then (b + how.step) % 256 else b)
+recoded how b = if b == how.separator then how.new_separator
+    else (if nat_lt b how.below then (b + how.shift) % 256 else b)

@@ -50,9 +50,9 @@ abbrev pub HoldsNone : List ℕ → Type 0
 HoldsNone s = (v : Value) (vs : List Value) → AllFit false (v ∷ vs) → key_of (v ∷ vs) ≡ s → ⊥
 
 -- these bytes are the key of components that may follow others, whose bytes before other components
--- in a path are at most `room` bytes
-pub record LeavesText (s : List ℕ) (room : ℕ) : Type 0 where
+-- in a path are at most `max_len` bytes
+pub record LeavesText (s : List ℕ) (max_len : ℕ) : Type 0 where
   pub ws : List Value
   pub fit : AllFit false ws
   pub rest_is : s ≡ key_of ws
-  pub short : length (text_of ws) ≤ room
+  pub short : length (text_of ws) ≤ max_len

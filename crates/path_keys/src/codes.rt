@@ -9,6 +9,13 @@ ghost use Rattle.path_keys.specs.Codes.{IsRaised, TakesCode};
 
 use unix_bytes::search::find_byte;
 
+// The byte after the 0 in the code of a root, of a leading `.`, and of a `..`.
+pub(crate) const ROOT_MARK: u8 = 1;
+
+pub(crate) const CUR_DIR_MARK: u8 = 2;
+
+pub(crate) const PARENT_DIR_MARK: u8 = 3;
+
 // The code of a component in a key.
 #[derive(Clone, Copy)]
 pub(crate) enum Code<'a> {
@@ -100,16 +107,16 @@ fn mark_code<'a>(mark: u8, first: bool) -> Option<Code<'a>>
     ensures none { result ≡ None → ((v : Value) (x y : List ℕ) → Fits first v
         → code v ++ x ≡ 0 ∷ mark ∷ y → ⊥) }
 {
-    if mark == 3 {
+    if mark == PARENT_DIR_MARK {
         return Some(Code::Up);
     }
     if !first {
         return None;
     }
-    if mark == 1 {
+    if mark == ROOT_MARK {
         return Some(Code::Root);
     }
-    if mark == 2 {
+    if mark == CUR_DIR_MARK {
         return Some(Code::Dot);
     }
     None

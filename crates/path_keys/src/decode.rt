@@ -65,22 +65,22 @@ pub(crate) fn write_text(key: &[u8], out: &mut [u8])
 }
 
 // Overwrites the first bytes of `out` with those of the lead in a path before other components,
-// except a slash for which there is no room.
+// except a slash that doesn't fit.
 #[inline(always)]
 fn write_lead(out: &mut [u8], lead: Lead)
     ensures { out.new ≡ overlay 0 (take (length out.old) (lead_text lead)) out.old }
 {
-    let room = out.len();
+    let len = out.len();
     match lead {
-        Lead::Root if room > 0 => write_at(out, 0, b"/"),
-        Lead::Dot if room > 1 => write_at(out, 0, b"./"),
-        Lead::Dot if room > 0 => write_at(out, 0, b"."),
+        Lead::Root if len > 0 => write_at(out, 0, b"/"),
+        Lead::Dot if len > 1 => write_at(out, 0, b"./"),
+        Lead::Dot if len > 0 => write_at(out, 0, b"."),
         _ => {}
     }
 }
 
 // Overwrites the bytes of `out` from `at` on with those of the run in a path before other
-// components, except a slash for which there is no room.
+// components, except a slash that doesn't fit.
 #[inline(always)]
 fn write_run(out: &mut [u8], at: usize, run: Run<'_>)
     requires { at + length (run_text run) ≤ length out.old + 1 }
@@ -92,7 +92,7 @@ fn write_run(out: &mut [u8], at: usize, run: Run<'_>)
     }
 }
 
-// Overwrites the bytes of `out` from `at` on with `..` and, if there is room for it, a slash.
+// Overwrites the bytes of `out` from `at` on with `..` and, if it fits, a slash.
 #[inline(always)]
 fn write_parent_dir(out: &mut [u8], at: usize)
     requires { at + 2 ≤ length out.old }
@@ -106,7 +106,7 @@ fn write_parent_dir(out: &mut [u8], at: usize)
 }
 
 // Overwrites the bytes of `out` from `at` on with those that names of a key have in a path and, if
-// there is room for it, a slash.
+// it fits, a slash.
 #[inline(always)]
 fn write_names(out: &mut [u8], at: usize, names: &[u8])
     requires { at + length names.now ≤ length out.old }

@@ -7,8 +7,9 @@ ghost use Rattle.unix_path.specs.Scan.{is_filler};
 ghost use Rattle.path_runs.specs.Buffer.{buffer_after};
 ghost use Rattle.path_runs.specs.Overlay.{overlay};
 ghost use Rattle.path_keys.specs.Keys.{key_of};
-ghost use Rattle.path_keys.specs.Stretches.{run_key, BeginsKey, IsRun};
+ghost use Rattle.path_keys.specs.PathRuns.{run_key, BeginsKey, IsRun};
 
+use crate::codes::{CUR_DIR_MARK, PARENT_DIR_MARK, ROOT_MARK};
 use crate::recode::names_to_key;
 use unix_path::Path;
 use unix_path::filler::{after_filler, is_filler};
@@ -36,36 +37,37 @@ pub fn write_key(path: Path<'_>, out: &mut [u8]) -> usize
     ensures out { out.new ≡ buffer_after (key_of (values path.entry.bytes.now)) out.old }
     ensures length { result ≡ length (key_of (values path.entry.bytes.now)) }
 {
-    let room = room_for_key(path, out.len());
-    if room > out.len() {
-        return room;
+    let needed = sufficient_len(path, out.len());
+    if needed > out.len() {
+        return needed;
     }
-    write_path(path.as_unix_str().as_bytes(), out)
+    write_key_unchecked(path.as_unix_str().as_bytes(), out)
 }
 
-// Returns how long a buffer has to be for the key of a path. If it can hold the key of any path of
-// the same length, that is enough, and the key isn't counted.
+// Returns a length that is enough for a buffer with the key of a path. If it is more than the
+// available length, it is the length of the key. If the key of any path of the same length would
+// fit, the key isn't counted.
 #[inline]
-pub(crate) fn room_for_key(path: Path<'_>, capacity: usize) -> usize
+pub(crate) fn sufficient_len(path: Path<'_>, available: usize) -> usize
     ensures enough { length (key_of (values path.entry.bytes.now)) ≤ result }
-    ensures fits { length (key_of (values path.entry.bytes.now)) ≤ capacity → result ≤ capacity }
-    ensures exact { capacity < result → result ≡ length (key_of (values path.entry.bytes.now)) }
+    ensures fits { length (key_of (values path.entry.bytes.now)) ≤ available → result ≤ available }
+    ensures exact { available < result → result ≡ length (key_of (values path.entry.bytes.now)) }
 {
     let most = path.as_unix_str().len() + 2;
-    if most <= capacity {
+    if most <= available {
         return most;
     }
     key_len(path)
 }
 
-// Makes the vector the key of a path.
+// Overwrites the bytes of the vector with the key of a path, and truncates the vector to the key.
 #[inline]
-pub(crate) fn fill_key(key: &mut Vec<u8>, path: &[u8])
+pub(crate) fn overwrite_and_truncate(key: &mut Vec<u8>, path: &[u8])
     requires { length (key_of (values path.now)) ≤ vec_len key.old }
     ensures bytes { key.new.items ≡ key_of (values path.now) }
     ensures capacity { vec_capacity key.new ≡ vec_capacity key.old }
 {
-    let len = write_path(path, key);
+    let len = write_key_unchecked(path, key);
     key.truncate(len);
 }
 
@@ -84,8 +86,9 @@ fn key_len_of(path: &[u8]) -> usize
     len
 }
 
-// Writes the key of a path to the beginning of `out`. Returns its length.
-fn write_path(path: &[u8], out: &mut [u8]) -> usize
+// Writes the key of a path to the beginning of `out`, which the caller knows to be long enough.
+// Returns the length of the key.
+fn write_key_unchecked(path: &[u8], out: &mut [u8]) -> usize
     requires { length (key_of (values path.now)) ≤ length out.old }
     ensures out { out.new ≡ buffer_after (key_of (values path.now)) out.old }
     ensures len { result ≡ length (key_of (values path.now)) }
@@ -111,7 +114,7 @@ fn write_lead(path: &[u8], out: &mut [u8]) -> usize
     let Some(mark) = lead_mark(path) else {
         return 0;
     };
-    write_mark(out, 0, mark);
+    write_marked_code(out, 0, mark);
     2
 }
 
@@ -129,9 +132,9 @@ fn lead_mark(path: &[u8]) -> Option<u8>
         return None;
     }
     if path[0] == b'/' {
-        return Some(1);
+        return Some(ROOT_MARK);
     }
-    Some(2)
+    Some(CUR_DIR_MARK)
 }
 
 // Returns the length of the first run: of a `..`, or of names separated by single slashes.
@@ -166,31 +169,31 @@ fn run_key_len(bytes: &[u8], len: usize) -> usize
 fn write_run(out: &mut [u8], at: usize, bytes: &[u8], len: usize) -> usize
     requires some { 0 < length bytes.now }
     requires in_range { len ≤ length bytes.now }
-    requires room { at + length (run_key bytes.now len) ≤ length out.old }
+    requires fits { at + length (run_key bytes.now len) ≤ length out.old }
     ensures out { out.new ≡ overlay at (run_key bytes.now len) out.old }
     ensures len { result ≡ length (run_key bytes.now len) }
 {
     if starts_with_parent_dir(bytes) {
-        write_mark(out, at, 3);
+        write_marked_code(out, at, PARENT_DIR_MARK);
         return 2;
     }
     names_to_key(out, at, &bytes[..len]);
-    write_end(out, at + len);
+    write_end_mark(out, at + len);
     len + 1
 }
 
-// Overwrites two bytes of `out` from `at` on with 0 and `mark`.
+// Overwrites the two bytes of `out` from `at` on with the code that is 0 and `mark`.
 #[inline]
-fn write_mark(out: &mut [u8], at: usize, mark: u8)
+fn write_marked_code(out: &mut [u8], at: usize, mark: u8)
     requires { at + 2 ≤ length out.old }
     ensures { out.new ≡ overlay at (0 ∷ mark ∷ []) out.old }
 {
     out[at..at + 2].copy_from_slice(&[0, mark]);
 }
 
-// Overwrites the byte of `out` at `at` with the end mark of a name.
+// Overwrites the byte of `out` at `at` with 0, the end mark of a name.
 #[inline(always)]
-fn write_end(out: &mut [u8], at: usize)
+fn write_end_mark(out: &mut [u8], at: usize)
     requires { at < length out.old }
     ensures { out.new ≡ overlay at (0 ∷ []) out.old }
 {

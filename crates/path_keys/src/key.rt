@@ -14,7 +14,7 @@ ghost use Rattle.path_keys.specs.Keys.{key_of, raised, IsKey};
 
 mod range;
 
-use crate::encode::{fill_key, room_for_key};
+use crate::encode::{overwrite_and_truncate, sufficient_len};
 use crate::parent::{key_name, key_parent, key_starts_with};
 use crate::read::{KeyError, is_key};
 pub use range::KeyRange;
@@ -66,7 +66,7 @@ impl PathKey {
         if len == 0 {
             return Ok(key);
         }
-        // With this room a key needn't be counted.
+        // With this capacity the key needn't be counted.
         key.bytes.reserve_exact(len + 2)?;
         key.set(path)?;
         Ok(key)
@@ -107,9 +107,9 @@ impl PathKey {
             → IsOk result }
         ensures capacity { key_capacity self.old ≤ key_capacity self.new }
     {
-        let room = room_for_key(path, self.bytes.capacity());
-        self.bytes.resize(room, 0)?;
-        fill_key(&mut self.bytes, path.as_unix_str().as_bytes());
+        let len = sufficient_len(path, self.bytes.capacity());
+        self.bytes.resize(len, 0)?;
+        overwrite_and_truncate(&mut self.bytes, path.as_unix_str().as_bytes());
         Ok(())
     }
 

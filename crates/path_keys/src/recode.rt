@@ -6,30 +6,30 @@ ghost use Rattle.path_keys.specs.NameBytes.{coded, decoded, recoded};
 
 use std::simd::prelude::*;
 
-// A change of bytes: `mark` becomes `other`, and of the remaining bytes those less than `limit` are
-// raised by `step`, modulo 256.
+// A change of bytes: `separator` becomes `new_separator`, and of the other bytes those less than
+// `below` are raised by `shift`, modulo 256.
 #[derive(Clone, Copy)]
 struct Recoding {
-    mark: u8,
-    other: u8,
-    limit: u8,
-    step: u8,
+    separator: u8,
+    new_separator: u8,
+    below: u8,
+    shift: u8,
 }
 
 // From a path to a key: a slash becomes the end mark, and lesser bytes are raised by one.
 const TO_KEY: Recoding = Recoding {
-    mark: b'/',
-    other: 0,
-    limit: b'/',
-    step: 1,
+    separator: b'/',
+    new_separator: 0,
+    below: b'/',
+    shift: 1,
 };
 
 // From a key to a path: an end mark becomes a slash, and bytes up to 2F are lowered by one.
 const TO_PATH: Recoding = Recoding {
-    mark: 0,
-    other: b'/',
-    limit: b'0',
-    step: 255,
+    separator: 0,
+    new_separator: b'/',
+    below: b'0',
+    shift: 255,
 };
 
 // Overwrites the bytes of `out` from `at` on with those of names, separated by single slashes, in a
@@ -52,8 +52,8 @@ pub(crate) fn names_to_path(out: &mut [u8], at: usize, names: &[u8])
     recode(TO_PATH, out, at, names);
 }
 
-// Overwrites the bytes of `out` from `at` on with these bytes, changed. Changes 16 at a time, the
-// last ones twice if need be.
+// Overwrites the bytes of `out` from `at` on with these bytes, changed. Works in chunks of 16 bytes;
+// the last chunk may overlap the chunk before it. Fewer than 16 bytes are changed one by one.
 #[inline(always)]
 fn recode(how: Recoding, out: &mut [u8], at: usize, bytes: &[u8])
     requires { at + length bytes.now ≤ length out.old }
@@ -75,15 +75,16 @@ fn recode(how: Recoding, out: &mut [u8], at: usize, bytes: &[u8])
 // Overwrites 16 bytes of `out` from `to` on with those of `bytes` from `from` on, changed.
 #[inline(always)]
 fn recode_lanes(how: Recoding, out: &mut [u8], to: usize, bytes: &[u8], from: usize)
-    requires room { to + 16 ≤ length out.old }
+    requires fits { to + 16 ≤ length out.old }
     requires some { from + 16 ≤ length bytes.now }
     ensures { out.new ≡ put_chunk to out.old (map (recoded how) (take 16 (drop from bytes.now))) }
 {
-    let here = u8x16::from_slice(&bytes[from..]);
-    let is_less = here.simd_lt(u8x16::splat(how.limit));
-    let raised = is_less.select(here + u8x16::splat(how.step), here);
-    here.simd_eq(u8x16::splat(how.mark))
-        .select(u8x16::splat(how.other), raised)
+    let chunk = u8x16::from_slice(&bytes[from..]);
+    let is_below = chunk.simd_lt(u8x16::splat(how.below));
+    let shifted = is_below.select(chunk + u8x16::splat(how.shift), chunk);
+    chunk
+        .simd_eq(u8x16::splat(how.separator))
+        .select(u8x16::splat(how.new_separator), shifted)
         .copy_to_slice(&mut out[to..]);
 }
 
@@ -103,11 +104,11 @@ fn recode_few(how: Recoding, out: &mut [u8], at: usize, bytes: &[u8])
 fn recode_byte(how: Recoding, b: u8) -> u8
     ensures { result ≡ recoded how b }
 {
-    if b == how.mark {
-        return how.other;
+    if b == how.separator {
+        return how.new_separator;
     }
-    if b < how.limit {
-        b.wrapping_add(how.step)
+    if b < how.below {
+        b.wrapping_add(how.shift)
     } else {
         b
     }

@@ -7,6 +7,7 @@ ghost use Rattle.path_keys.specs.Keys.{code};
 ghost use Rattle.path_keys.specs.Runs.{lead_text, run_code, run_text, BeginsLead, HoldsNone};
 ghost use Rattle.path_keys.specs.Runs.{LeavesText, TakesRun};
 
+use crate::codes::{CUR_DIR_MARK, PARENT_DIR_MARK, ROOT_MARK};
 use unix_path::name_run_ends::{name_run_end, no_name_starts_at};
 
 // The root or the `.` with which a path begins, if it begins with one.
@@ -54,13 +55,13 @@ pub(crate) fn past_lead(key: &[u8]) -> Started<'_>
     if key[0] != 0 {
         return absent;
     }
-    if key[1] == 1 {
+    if key[1] == ROOT_MARK {
         return Started {
             lead: Lead::Root,
             rest: &key[2..],
         };
     }
-    if key[1] == 2 {
+    if key[1] == CUR_DIR_MARK {
         return Started {
             lead: Lead::Dot,
             rest: &key[2..],
@@ -104,17 +105,17 @@ impl<'a> Run<'a> {
     }
 }
 
-// Does the same as `run_in`, for the rest of a key whose text has at most `room` bytes. Bytes that
-// are as many as that are only names, since each `..` has more bytes in a path than in a key. They
-// needn't be searched, and most keys have no others.
+// Does the same as `run_in`, for the rest of a key whose text has at most `max_len` bytes. If the
+// rest has as many bytes, it has only names, since each `..` has more bytes in a path than in a
+// key. It then needn't be searched. The rest of most keys is such a rest.
 #[inline(always)]
-pub(crate) fn next_run(bytes: &[u8], room: usize) -> Option<Run<'_>>
-    requires { LeavesText bytes.now room }
+pub(crate) fn next_run(bytes: &[u8], max_len: usize) -> Option<Run<'_>>
+    requires { LeavesText bytes.now max_len }
     ensures some { IfSome result (λ run. TakesRun bytes.now run) }
     ensures none { result ≡ None → HoldsNone bytes.now }
 {
-    if bytes.len() == room && room > 0 {
-        return Some(Run::Names(&bytes[..room - 1]));
+    if bytes.len() == max_len && max_len > 0 {
+        return Some(Run::Names(&bytes[..max_len - 1]));
     }
     run_in(bytes)
 }
@@ -126,7 +127,7 @@ pub(crate) fn run_in(bytes: &[u8]) -> Option<Run<'_>>
     ensures some { IfSome result (λ run. TakesRun bytes.now run) }
     ensures none { result ≡ None → HoldsNone bytes.now }
 {
-    if bytes.starts_with(&[0, 3]) {
+    if bytes.starts_with(&[0, PARENT_DIR_MARK]) {
         return Some(Run::ParentDir);
     }
     names_in(bytes)

@@ -6,8 +6,8 @@ use Rattle.std.specs.Option.{option_map}
 use Rattle.path_tree.specs.Rows.{entry_at}
 
 -- the bytes of a borrowed key, with the two values that are borrowed with it
-abbrev pub lent_both : {V W : Type 0} → Bor (List ℕ) × Bor V × Bor W → List ℕ × V × W
-lent_both entry = (entry.0.now, entry.1.now, entry.2.now)
+abbrev pub borrowed_both : {V W : Type 0} → Bor (List ℕ) × Bor V × Bor W → List ℕ × V × W
+borrowed_both entry = (entry.0.now, entry.1.now, entry.2.now)
 
 -- the entries whose keys the other entries have too, each with its value and then the other value,
 -- in their order

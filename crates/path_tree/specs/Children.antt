@@ -1,42 +1,45 @@
--- The children of a base: the paths in a tree that are one component longer.
-use Rattle.std.specs.Prelude.{ℕ, ◌+◌, ◌==◌, ◌&&◌, Bool, List, filter, length, map, nat_lt, take}
-use Rattle.std.specs.Prelude.{Option, Some, None, if◌then◌else◌}
+-- The children of a base: the keys that have one code more than the key of the base, and with which
+-- keys of a tree start.
+use Rattle.std.specs.Prelude.{ℕ, ◌+◌, ◌==◌, ◌&&◌, ◌++◌, Bool, List, drop, eqb, filter, length, map}
+use Rattle.std.specs.Prelude.{nat_lt, take, Option, Some, None, if◌then◌else◌}
 use Rattle.std.specs.Borrow.{Bor}
-use Rattle.std.specs.List.{dedup}
+use Rattle.std.specs.List.{dedup, position_or_len, starts_with}
 use Rattle.std.specs.Option.{option_copied}
 use Rattle.std.specs.Ordering.{is_eq}
-use Rattle.unix_path.specs.Order.{values_cmp}
-use Rattle.unix_path.specs.Parts.{Value}
-use Rattle.path_runs.specs.Rows.{is_under}
-use Rattle.path_keys.specs.Keys.{key_of}
+use Rattle.path_keys.specs.Ranges.{bytes_cmp}
 
--- v starts with base, and is longer
-abbrev pub is_below : List Value → List Value → Bool
-is_below base v = is_under base v && nat_lt (length base) (length v)
+-- the length of the first of these codes: 2 if it begins with 0, and else up to its first 0
+abbrev pub first_code_len : List ℕ → ℕ
+first_code_len codes =
+    let n = position_or_len (λ b. b == 0) codes in if n == 0 then 2 else n + 1
 
--- a row cut after one component more than base has, with its value if nothing was cut off
-abbrev pub child_row : {V : Type 0} → List Value → List Value × V → List Value × Option V
-child_row base row = (
-  take (length base + 1) row.0,
-  if length row.0 == length base + 1 then Some row.1 else None,
-)
+-- the bytes of base, and the first code that follows them in the key
+abbrev pub child_of : List ℕ → List ℕ → List ℕ
+child_of base key =
+    let codes = drop (length base) key in base ++ take (first_code_len codes) codes
 
--- both rows have the same components
-abbrev pub are_same : {A : Type 0} → List Value × A → List Value × A → Bool
-are_same row other = is_eq (values_cmp other.0 row.0)
+-- the key starts with base, and is longer
+abbrev pub is_below : List ℕ → List ℕ → Bool
+is_below base key = starts_with eqb key base && nat_lt (length base) (length key)
 
--- the rows below base, in their order, each cut after one component more than base has; of adjacent
--- rows with the same components only the first stays, which in path order is the row that was not
--- cut, if there is one
-abbrev pub children_of : {V : Type 0} → List Value → List (List Value × V)
-    → List (List Value × Option V)
-children_of base rows =
-    dedup are_same (map (child_row base) (filter (λ row. is_below base row.0) rows))
+-- an entry with the key of the child that its key starts with, and with its value if that is all of
+-- its key
+abbrev pub child_entry : {V : Type 0} → List ℕ → List ℕ × V → List ℕ × Option V
+child_entry base e =
+    let child = child_of base e.0 in
+    (child, if length child == length e.0 then Some e.1 else None)
 
--- the key of each row's components, with the row's value
-abbrev pub keyed : {A : Type 0} → List (List Value × A) → List (List ℕ × A)
-keyed rows = map (λ row. (key_of row.0, row.1)) rows
+-- both entries have the same key
+abbrev pub have_same_key : {A : Type 0} → List ℕ × A → List ℕ × A → Bool
+have_same_key e other = is_eq (bytes_cmp other.0 e.0)
+
+-- the entries below base, in their order, each with the key of its child; of adjacent entries with
+-- the same key only the first stays, which in path order is the entry that has all of its key, if
+-- there is one
+abbrev pub children_of : {V : Type 0} → List ℕ → List (List ℕ × V) → List (List ℕ × Option V)
+children_of base entries =
+    dedup have_same_key (map (child_entry base) (filter (λ e. is_below base e.0) entries))
 
 -- the bytes of a borrowed key, with the value that is borrowed with it, if any
-abbrev pub lent_child : {V : Type 0} → Bor (List ℕ) × Option (Bor V) → List ℕ × Option V
-lent_child child = (child.0.now, option_copied child.1)
+abbrev pub borrowed_child : {V : Type 0} → Bor (List ℕ) × Option (Bor V) → List ℕ × Option V
+borrowed_child child = (child.0.now, option_copied child.1)

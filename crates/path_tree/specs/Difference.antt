@@ -4,8 +4,8 @@ use Rattle.std.specs.Borrow.{Bor}
 use Rattle.path_tree.specs.Rows.{entry_at}
 
 -- the bytes of a borrowed key, with the value that is borrowed with it
-abbrev pub lent_entry : {V : Type 0} → Bor (List ℕ) × Bor V → List ℕ × V
-lent_entry entry = (entry.0.now, entry.1.now)
+abbrev pub borrowed_entry : {V : Type 0} → Bor (List ℕ) × Bor V → List ℕ × V
+borrowed_entry entry = (entry.0.now, entry.1.now)
 
 -- the entries whose keys the other entries do not have, in their order
 abbrev pub entries_lacking : {V W : Type 0} → List (List ℕ × W) → List (List ℕ × V)

@@ -5,7 +5,7 @@ pub mod Hashed
 pub mod KeyFilter
 pub mod Tree
 pub mod Cursor
-pub mod Lent
+pub mod Borrowed
 pub mod Nearest
 pub mod Many
 pub mod Difference

@@ -25,6 +25,6 @@ pub record InsertsBeginning {V S : Type 0} (steps : S → Option (Path × V) →
     (items : S) (old new : List (List Value × V)) : Type 0 where
   pub entries : List (Path × V)
   pub next : Path × V
-  pub left : S
-  pub items_before : YieldsThen steps items entries (Some next) left
+  pub after : S
+  pub items_before : YieldsThen steps items entries (Some next) after
   pub rows : new ≡ inserted_all old entries

@@ -5,11 +5,11 @@ use Rattle.unix_path.specs.Parts.{Value, values}
 use Rattle.unix_path.specs.Rest.{rest}
 use Rattle.path_runs.specs.Rows.{value_at}
 
--- x is the value of the row with the longest components that the path s starts with, and `left` is
--- what follows them in s
-pub record IsNearest {V : Type 0} (s : List ℕ) (rows : List (List Value × V)) (left : List ℕ)
+-- x is the value of the row with the longest components that the path s starts with, and
+-- `rest_bytes` is the rest of s after them
+pub record IsNearest {V : Type 0} (s : List ℕ) (rows : List (List Value × V)) (rest_bytes : List ℕ)
     (x : V) : Type 0 where
   pub base : List Value
   pub value_is : value_at base rows ≡ Some x
   pub longest : IsLongest (λ v. IsSome (value_at v rows)) base (values s)
-  pub rest_is : left ≡ rest s (length base) 0
+  pub rest_is : rest_bytes ≡ rest s (length base) 0

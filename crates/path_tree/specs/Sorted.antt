@@ -27,7 +27,7 @@ pub record StopsRising {V S : Type 0} (steps : S → Option (Path × V) → S �
   pub entries : List (Path × V)
   pub last : Path × V
   pub next : Path × V
-  pub left : S
-  pub items_before : YieldsThen steps items (entries ++ last ∷ []) (Some next) left
+  pub after : S
+  pub items_before : YieldsThen steps items (entries ++ last ∷ []) (Some next) after
   pub rise : IsStrictlySortedBy values_cmp (keys_of (rows_in (entries ++ last ∷ [])))
   pub falls : values_cmp (values last.0.bytes.now) (values next.0.bytes.now) ≡ Less → ⊥

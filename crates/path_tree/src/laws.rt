@@ -6,7 +6,7 @@ ghost use Rattle.std.specs.Map.{keys_of};
 ghost use Rattle.unix_path.specs.Order.{values_cmp};
 ghost use Rattle.path_keys.specs.Keys.{IsKey};
 ghost use Rattle.path_keys.specs.Ranges.{bytes_cmp};
-ghost use Rattle.path_tree.specs.Laws.{KeysStandFor};
+ghost use Rattle.path_tree.specs.Laws.{ChildHasOneMore, KeysRepresent};
 ghost use Rattle.path_tree.specs.Read.{key_values};
 ghost use Rattle.path_tree.specs.Tree.{entries_of, table_of};
 
@@ -17,8 +17,18 @@ use crate::tree::PathTree;
 /// What a tree has at a key is therefore what it has at each path that has the key.
 ///
 /// 61 00 62 00, the key of `a//b`, represents `a` and `b`.
-pub fn keys_stand_for()
-    ensures { KeysStandFor }
+pub fn keys_represent_values()
+    ensures { KeysRepresent }
+{}
+
+/// If a path has more components than a base that it starts with, the child of the base's key with
+/// which its key starts is the key of the base and the next component.
+///
+/// So the keys that `children` returns are the keys of paths with one component more than the base.
+///
+/// The child of 61 00 with which 61 00 62 00 63 00 starts is 61 00 62 00.
+pub fn child_has_one_more()
+    ensures { ChildHasOneMore }
 {}
 
 /// The keys of a tree are keys of paths, in strictly increasing order of their bytes, and their

@@ -59,7 +59,7 @@ pub struct PathTree<V> {
 }
 
 impl<V> PathTree<V> {
-    ghost use Rattle.path_tree.specs.Lent.{lends_value};
+    ghost use Rattle.path_tree.specs.Borrowed.{borrows_value};
     ghost use Rattle.path_tree.specs.Tree.{table_of};
 
     /// Returns a tree without entries. Does not allocate.
@@ -134,7 +134,7 @@ impl<V> PathTree<V> {
     ///
     /// With 1 at `a/b`, writing 2 through the reference for the key of `a//b` leaves 2 at `a/b`.
     pub fn get_mut(&mut self, key: &PathKey) -> Option<&mut V>
-        ensures* writes_back { sem 𝓛 (lends_value V.row self.entry
+        ensures* writes_back { sem 𝓛 (borrows_value V.row self.entry
             (key_values (key_bytes key.now)) result) }
         ensures value { option_copied_mut result
             ≡ value_at (key_values (key_bytes key.now)) (table_of self.old) }

@@ -5,5 +5,5 @@ pub mod RunReadLemmas
 mod SpellLemmas
 pub mod KeyStopLemmas
 pub mod KeyRunLemmas
-pub mod NamesLeftLemmas
+pub mod LastNamesLemmas
 pub mod CutLemmas

@@ -1,5 +1,5 @@
 -- Keys written run by run.
-pub mod StretchLemmas
+pub mod PieceCodeLemmas
 pub mod LeadLemmas
 pub mod RunLemmas
 pub mod WrittenLemmas

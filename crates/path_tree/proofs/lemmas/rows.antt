@@ -6,6 +6,7 @@ pub mod MovedLemmas
 pub mod PutLemmas
 pub mod ManyLemmas
 pub mod EntryLemmas
+pub mod FirstUnderLemmas
 pub mod DifferenceLemmas
 pub mod ChangedLemmas
 pub mod CursorLemmas

@@ -2,7 +2,7 @@
 ghost use Rattle.std.specs.Prelude.{◌≡◌, [], IfOk, IsOk, map};
 ghost use Rattle.std.specs.List.Sorted.{IsStrictlySortedBy};
 ghost use Rattle.path_keys.specs.Ranges.{bytes_cmp};
-ghost use Rattle.path_tree.specs.Changed.{entries_changed, lent_both};
+ghost use Rattle.path_tree.specs.Changed.{entries_changed, borrowed_both};
 
 use super::PathTree;
 use std::alloc::AllocError;
@@ -26,7 +26,7 @@ impl<V> PathTree<V> {
     ) -> Result<Vec<(&'a [u8], &'a V, &'b V)>, AllocError>
     where
         V: PartialEq,
-        ensures entries { IfOk result (λ found. map lent_both found.items
+        ensures entries { IfOk result (λ found. map borrowed_both found.items
             ≡ entries_changed V.eq (entries_of other.entry.now) (entries_of self.entry.now)) }
         ensures ordered { IfOk result (λ found.
             IsStrictlySortedBy bytes_cmp (map (λ both. both.0.now) found.items)) }

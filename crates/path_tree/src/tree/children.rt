@@ -1,18 +1,15 @@
 //! The children of a base: the paths in a tree that are one component longer.
-ghost use Rattle.std.specs.Prelude.{◌≡◌, ◌==◌, ◌<◌, ◌+◌, ℕ, true, Bool, List, [], ◌++◌};
-ghost use Rattle.std.specs.Prelude.{IfOk, IfSome, IsOk, OnOk, None, Some, false, length, map, take};
+ghost use Rattle.std.specs.Prelude.{◌≡◌, ◌==◌, ◌<◌, true, [], length, map};
+ghost use Rattle.std.specs.Prelude.{IfOk, IfSome, IsOk, OnOk, None, Some, false};
 ghost use Rattle.std.specs.Prelude.{if◌then◌else◌, eqb, option_map};
 ghost use Rattle.std.specs.List.{starts_with};
 ghost use Rattle.std.specs.List.Sorted.{IsStrictlySortedBy};
 ghost use Rattle.std.specs.Map.{keys_of};
-ghost use Rattle.unix_path.specs.Parts.{Value};
 ghost use Rattle.unix_path.specs.Prefixes.{IsPrefixOf};
-ghost use Rattle.path_keys.specs.Codes.{Fits};
 ghost use Rattle.path_keys.specs.Held.{key_bytes};
-ghost use Rattle.path_keys.specs.Keys.{code};
 ghost use Rattle.path_keys.specs.Ranges.{bytes_cmp, end_of};
-ghost use Rattle.path_tree.specs.Children.{children_of, keyed, lent_child};
-ghost use Rattle.path_tree.specs.Read.{is_own, key_values};
+ghost use Rattle.path_tree.specs.Children.{child_of, children_of, first_code_len, borrowed_child};
+ghost use Rattle.path_tree.specs.Read.{is_own};
 
 use super::PathTree;
 use crate::lookup_key::vec_of;
@@ -24,8 +21,7 @@ use unix_bytes::search::find_byte;
 // Returns the length of the first of the codes that end a key.
 #[inline]
 fn first_code_len(codes: &[u8]) -> usize
-    ensures { (first : Bool) (v : Value) (rest : List ℕ) → Fits first v
-        → codes.now ≡ code v ++ rest → result ≡ length (code v) }
+    ensures { result ≡ first_code_len codes.now }
 {
     let len = find_byte(codes, 0);
     if len == 0 { 2 } else { len + 1 }
@@ -38,15 +34,7 @@ fn child_key<'a>(key: &'a [u8], base: &[u8]) -> &'a [u8]
     requires base_own { is_own base.now ≡ true }
     requires below { IsPrefixOf base.now key.now }
     requires longer { length base.now < length key.now }
-    ensures own { is_own result.now ≡ true }
-    ensures values { key_values result.now
-        ≡ take (length (key_values base.entry.now) + 1) (key_values key.entry.now) }
-    ensures one_more { length (key_values result.now)
-        ≡ length (key_values base.entry.now) + 1 }
-    ensures whole { (length result.now == length key.entry.now)
-        ≡ (length (key_values key.entry.now) == length (key_values base.entry.now) + 1) }
-    ensures some { 0 < length result.now }
-    ensures begins { IsPrefixOf result.now key.now }
+    ensures { result.now ≡ child_of base.entry.now key.entry.now }
 {
     let len = base.len() + first_code_len(&key[base.len()..]);
     &key[..len]
@@ -82,7 +70,7 @@ fn begun_by<'a>(last: Option<&'a [u8]>, key: &[u8]) -> Option<&'a [u8]>
 // Returns the child with the value of an entry whose key starts with it, if it is the whole key.
 #[inline]
 fn with_value<'a, V>(child: &'a [u8], key: &[u8], value: &'a V) -> (&'a [u8], Option<&'a V>)
-    ensures { lent_child result ≡ (
+    ensures { borrowed_child result ≡ (
       child.entry.now,
       if length child.entry.now == length key.now then Some value.entry.now else None,
     ) }
@@ -96,7 +84,7 @@ fn with_value<'a, V>(child: &'a [u8], key: &[u8], value: &'a V) -> (&'a [u8], Op
 }
 
 impl<V> PathTree<V> {
-    ghost use Rattle.path_tree.specs.Tree.{table_of};
+    ghost use Rattle.path_tree.specs.Tree.{entries_of};
 
     /// Returns the keys of the children of the base in path order, each once, with the value at
     /// that path if there is one.
@@ -114,12 +102,12 @@ impl<V> PathTree<V> {
         &'a self,
         base: &PathKey,
     ) -> Result<Vec<(&'a [u8], Option<&'a V>)>, AllocError>
-        ensures entries { IfOk result (λ found. map lent_child found.items
-            ≡ keyed (children_of (key_values (key_bytes base.now)) (table_of self.entry.now))) }
+        ensures entries { IfOk result (λ found. map borrowed_child found.items
+            ≡ children_of (key_bytes base.now) (entries_of self.entry.now)) }
         ensures ordered { IfOk result (λ found.
-            IsStrictlySortedBy bytes_cmp (keys_of (map lent_child found.items))) }
-        ensures succeeds { children_of (key_values (key_bytes base.now)) (table_of self.entry.now)
-            ≡ [] → IsOk result }
+            IsStrictlySortedBy bytes_cmp (keys_of (map borrowed_child found.items))) }
+        ensures succeeds { children_of (key_bytes base.now) (entries_of self.entry.now) ≡ []
+            → IsOk result }
     {
         let base = vec_of(base);
         let mut found = Vec::new(self.alloc);

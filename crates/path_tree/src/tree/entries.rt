@@ -13,7 +13,7 @@ use crate::key_filter::KeyFilter;
 use std::alloc::AllocError;
 
 impl<V> PathTree<V> {
-    ghost use Rattle.path_tree.specs.Lent.{lends_value};
+    ghost use Rattle.path_tree.specs.Borrowed.{borrows_value};
     ghost use Rattle.path_tree.specs.Tree.{table_of};
 
     // Returns the value at the path of this key; `None` if there is none.
@@ -42,7 +42,7 @@ impl<V> PathTree<V> {
     #[inline]
     pub(super) fn find_mut(&mut self, key: &[u8]) -> Option<&mut V>
         requires { is_own key.now ≡ true }
-        ensures* writes_back { sem 𝓛 (lends_value V.row self.entry (key_values key.now) result) }
+        ensures* writes_back { sem 𝓛 (borrows_value V.row self.entry (key_values key.now) result) }
         ensures value { option_copied_mut result
             ≡ value_at (key_values key.now) (table_of self.old) }
     {

@@ -1,8 +1,9 @@
 //! The entry whose path is the longest prefix of a path.
-ghost use Rattle.std.specs.Prelude.{◌≡◌, ◌≤◌, ◌<◌, ◌^◌, true, List, length};
+ghost use Rattle.std.specs.Prelude.{◌≡◌, ◌≤◌, ◌<◌, ◌^◌, ℕ, true, List, length};
 ghost use Rattle.std.specs.Prelude.{IfOk, IfSome, IsOk, None};
 ghost use Rattle.unix_path.specs.Parts.{Value, values};
-ghost use Rattle.unix_path.specs.Slices.{LiesIn};
+ghost use Rattle.unix_path.specs.Rest.{rest};
+ghost use Rattle.unix_path.specs.Slices.{EndsAt, IsTail, LiesIn};
 ghost use Rattle.unix_path.specs.Prefixes.{IsPrefixOf, stripped_of};
 ghost use Rattle.unix_path.specs.Views.{value_of};
 ghost use Rattle.path_runs.specs.Rows.{value_at};
@@ -13,6 +14,7 @@ ghost use Rattle.path_tree.specs.Read.{is_own, key_values};
 use super::PathTree;
 use crate::lookup_key::{LookupKey, STACK_LEN};
 use std::alloc::AllocError;
+use unix_path::filler::after_filler;
 use unix_path::{Component, Path};
 
 // Returns the length of the code of the component in a key.
@@ -27,14 +29,20 @@ fn code_len(part: Component<'_>) -> usize
     }
 }
 
-// Returns the rest of the path after a base that it starts with.
+// Returns the rest of a path, which ends where its last component does, after a base, which is the
+// path without some of its last components.
 #[inline]
 fn rest_after<'a>(path: Path<'a>, base: Path<'_>) -> Path<'a>
-    requires { IsPrefixOf (values base.bytes.now) (values path.bytes.now) }
+    requires trimmed { rest path.bytes.now 0 0 ≡ path.bytes.now }
+    requires base { (m : ℕ) × (base.bytes.now ≡ rest path.bytes.now 0 m) }
     ensures bytes { result.bytes.now ≡ stripped_of path.entry.bytes.now base.entry.bytes.now }
-    ensures place { LiesIn result.bytes path.entry.bytes }
+    ensures tail { IsTail result.bytes path.entry.bytes }
 {
-    path.strip_prefix(base).unwrap()
+    let len = base.as_unix_str().len();
+    if len == 0 {
+        return path;
+    }
+    Path::from_bytes(after_filler(&path.as_unix_str().as_bytes()[len..]))
 }
 
 impl<V> PathTree<V> {
@@ -50,12 +58,15 @@ impl<V> PathTree<V> {
             → IsPrefixOf base (values path.entry.bytes.now)
             → value_at base (table_of self.now) ≡ None }
         ensures place { IfSome result (λ found. LiesIn found.0.bytes path.entry.bytes) }
+        ensures end { IfSome result (λ found.
+            EndsAt found.0.bytes path.entry.bytes (length (rest path.entry.bytes.now 0 0))) }
     {
         let mut parts = path.components();
+        let whole = parts.as_path();
         let mut end = key.len();
         loop {
             if let Some(value) = self.find_filtered(&key[..end]) {
-                return Some((rest_after(path, parts.as_path()), value));
+                return Some((rest_after(whole, parts.as_path()), value));
             }
             let Some(part) = parts.next_back() else {
                 return None;
@@ -66,7 +77,8 @@ impl<V> PathTree<V> {
 
     /// Finds the entry whose path is the longest prefix of `path`, component by component. Returns
     /// the rest of `path`, as a slice of its bytes, and the entry's value; `None` if no entry's
-    /// path is a prefix of `path`.
+    /// path is a prefix of `path`. The slice ends where the last component of `path` ends, even if
+    /// it is empty.
     ///
     /// An entry at the empty path matches every path. The tree is searched for `path`, then for its
     /// parent, and so on. With more than 64 entries, a Bloom filter saves most look-ups of paths
@@ -82,6 +94,8 @@ impl<V> PathTree<V> {
             → value_at base (table_of self.now) ≡ None) }
         ensures place { IfOk result (λ found. IfSome found (λ near.
             LiesIn near.0.bytes path.entry.bytes)) }
+        ensures end { IfOk result (λ found. IfSome found (λ near.
+            EndsAt near.0.bytes path.entry.bytes (length (rest path.entry.bytes.now 0 0)))) }
         ensures succeeds { length (key_of (values path.entry.bytes.now)) ≤ 512 → IsOk result }
     {
         let mut buffer = [0u8; STACK_LEN];

@@ -59,7 +59,7 @@ impl From<AllocError> for LookupError {
 }
 
 impl<V> PathTree<V> {
-    ghost use Rattle.path_tree.specs.Lent.{lends_found};
+    ghost use Rattle.path_tree.specs.Borrowed.{borrows_found};
     ghost use Rattle.path_tree.specs.Tree.{table_of};
 
     /// Returns a mutable reference to the value at the path that is equal to this one.
@@ -70,12 +70,15 @@ impl<V> PathTree<V> {
     ///
     /// With 1 at `a/b`, writing 2 through the reference for `a//b` leaves 2 at `a/b`.
     pub fn get_mut_path(&mut self, path: Path<'_>) -> Result<&mut V, LookupError>
-        ensures* writes_back { sem 𝓛 (lends_found V.row self.entry
+        ensures* writes_back { sem 𝓛 (borrows_found V.row self.entry
             (values path.entry.bytes.now) result) }
         ensures value { IfOk result (λ value. Some value.now
             ≡ value_at (values path.entry.bytes.now) (table_of self.old)) }
         ensures absent { IsErrOf result LookupError.Absent
             → value_at (values path.entry.bytes.now) (table_of self.old) ≡ None }
+        ensures absent_short { length (key_of (values path.entry.bytes.now)) ≤ 512
+            → value_at (values path.entry.bytes.now) (table_of self.old) ≡ None
+            → IsErrOf result LookupError.Absent }
         ensures succeeds { length (key_of (values path.entry.bytes.now)) ≤ 512
             → IsSome (value_at (values path.entry.bytes.now) (table_of self.old)) → IsOk result }
     {

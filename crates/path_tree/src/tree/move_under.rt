@@ -134,13 +134,13 @@ impl<V> PathTree<V> {
     ///
     /// - `Inside` if and only if `to` starts with `from`. So nothing can be moved from the empty
     ///   path, which is a prefix of every path.
-    /// - `Occupied` if an entry is already under `to`, and `to` doesn't start with `from`. So a
-    ///   move to the empty path succeeds only if there are no entries.
+    /// - `Occupied` if and only if an entry is already under `to`, and `to` doesn't start with
+    ///   `from`. So a move to the empty path succeeds only if there are no entries.
     /// - `Memory` if an allocation fails.
     ///
     /// The values are copied, because the new entries are inserted before the old ones are removed.
     /// Visits every entry. Allocates for a list of what is moved, for each new key and its entry,
-    /// for the end of the target's range, and for the Bloom filter as `insert` does.
+    /// and for the Bloom filter as `insert` does.
     ///
     /// With 1 at `a/b`, 2 at `a` and 3 at `a.b`, a move from `a` to `c/d` moves 2 entries. The tree
     /// then has 1 at `c/d/b`, 2 at `c/d` and 3 at `a.b`.
@@ -158,13 +158,14 @@ impl<V> PathTree<V> {
         ensures inside { IsErrOf result MoveError.Inside
             ↔ IsPrefixOf (key_bytes from.now) (key_bytes to.now) }
         ensures occupied { IsErrOf result MoveError.Occupied
-            → ¬ (rows_under (key_values (key_bytes to.now)) (table_of self.old) ≡ []) }
+            ↔ ((IsPrefixOf (key_bytes from.now) (key_bytes to.now) → ⊥)
+            × ¬ (rows_under (key_values (key_bytes to.now)) (table_of self.old) ≡ [])) }
         ensures err { OnErr result (table_of self.new ≡ table_of self.old) }
     {
         if to.starts_with(from) {
             return Err(MoveError::Inside);
         }
-        if self.under(to)?.next().is_some() {
+        if self.has_under(to) {
             return Err(MoveError::Occupied);
         }
         let moved = self.moved(bytes_of(from), bytes_of(to))?;

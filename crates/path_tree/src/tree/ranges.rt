@@ -1,5 +1,5 @@
 //! The entries of a tree in path order: all entries, and the entries under a base.
-ghost use Rattle.std.specs.Prelude.{◌≡◌, ◌<◌, ◌^◌, ◌-◌, [], IfOk, IfSome, IsOk, Some};
+ghost use Rattle.std.specs.Prelude.{◌≡◌, ◌<◌, ◌^◌, ◌-◌, [], IfOk, IfSome, IsOk, IsTrue, Some, false};
 ghost use Rattle.std.specs.Prelude.{length, map, option_map, slice_get};
 ghost use Rattle.std.specs.List.{All};
 ghost use Rattle.std.specs.List.Sorted.{IsStrictlySortedBy};
@@ -9,7 +9,7 @@ ghost use Rattle.unix_path.specs.Order.{values_cmp};
 ghost use Rattle.path_keys.specs.Held.{key_bytes};
 ghost use Rattle.path_keys.specs.Keys.{IsKey};
 ghost use Rattle.path_keys.specs.Ranges.{bytes_cmp, end_of};
-ghost use Rattle.path_tree.specs.Difference.{lent_entry};
+ghost use Rattle.path_tree.specs.Difference.{borrowed_entry};
 ghost use Rattle.path_tree.specs.Read.{key_values};
 ghost use Rattle.path_tree.specs.Rows.{Key, entries_under, key_entries};
 
@@ -80,6 +80,20 @@ impl<V> PathTree<V> {
         self.entries.range(first..end)
     }
 
+    // Returns true if a key starts with the key of the base.
+    pub(super) fn has_under(&self, base: &PathKey) -> bool
+        ensures some { IsTrue result
+            → entries_under (key_bytes base.now) (entries_of self.now) ≡ [] → ⊥ }
+        ensures none { result ≡ false
+            → entries_under (key_bytes base.now) (entries_of self.now) ≡ [] }
+    {
+        let base = vec_of(base);
+        match self.entries.range(base..).next() {
+            Some((key, _)) => key.as_slice().starts_with(base),
+            None => false,
+        }
+    }
+
     // Does nothing. Its contract states what the tree's invariant says of the entries.
     #[inline]
     pub(crate) fn show_entries(&self)
@@ -97,7 +111,7 @@ impl<V> PathTree<V> {
     ///
     /// With 1 at `a.b` and 2 at `a/b` it is 61 00 62 00 with 2.
     pub fn first(&self) -> Option<(&[u8], &V)>
-        ensures entry { option_map lent_entry result ≡ slice_get (entries_of self.now) 0 }
+        ensures entry { option_map borrowed_entry result ≡ slice_get (entries_of self.now) 0 }
         ensures key { IfSome result (λ entry. IsKey entry.0.now) }
     {
         let Some((key, value)) = self.entries.first_key_value() else {
@@ -111,7 +125,7 @@ impl<V> PathTree<V> {
     ///
     /// With 1 at `a.b` and 2 at `a/b` it is 61 2F 62 00 with 1.
     pub fn last(&self) -> Option<(&[u8], &V)>
-        ensures entry { option_map lent_entry result
+        ensures entry { option_map borrowed_entry result
             ≡ slice_get (entries_of self.now) (length (entries_of self.now) - 1) }
         ensures key { IfSome result (λ entry. IsKey entry.0.now) }
     {

@@ -2,6 +2,6 @@
 pub mod MiddleLemmas
 pub mod RestLemmas
 pub mod RootLemmas
--- The modules below are only for this crate.
-pub mod SplitLemmas
 pub mod SourceLemmas
+-- Only for this crate.
+pub mod SplitLemmas

@@ -5,11 +5,11 @@ use Rattle.path_keys.proofs.codes.mark_code.Goals as goal
 
 pub returns-then-not-first-clause-none : goal.returns-then-not-first-clause-none
 returns-then-not-first-clause-none c = λ _.
-    no_mark c.args.first c.args.mark c.if-mark-eq3.false
+    no_mark c.args.first c.args.mark c.if-mark-eq-PARENT_DIR_MARK.false
     (λ yes m. true≢false (sym yes ∙ c.if-not-first.true))
     (λ yes m. true≢false (sym yes ∙ c.if-not-first.true))
 
 pub returns-clause-none : goal.returns-clause-none
 returns-clause-none c = λ _.
-    no_mark c.args.first c.args.mark c.if-mark-eq3.false (λ yes. c.if-mark-eq1.false)
-    (λ yes. c.if-mark-eq2.false)
+    no_mark c.args.first c.args.mark c.if-mark-eq-PARENT_DIR_MARK.false (λ yes. c.if-mark-eq-ROOT_MARK.false)
+    (λ yes. c.if-mark-eq-CUR_DIR_MARK.false)

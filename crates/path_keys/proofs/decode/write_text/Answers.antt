@@ -3,7 +3,7 @@ use Rattle.std.proofs.Common.{drop, length-drop, refl, ap, ◌∙◌, arith}
 use Rattle.std.proofs.lemmas.List.{take_rest}
 use Rattle.path_runs.specs.Overlay.{overlay}
 use Rattle.path_keys.specs.Runs.{run_text, LeavesText}
-use Rattle.path_keys.proofs.lemmas.spelling.CutLemmas.{cut_leaves, cut_lead, cut_room, cut_one}
+use Rattle.path_keys.proofs.lemmas.spelling.CutLemmas.{cut_leaves, cut_lead, cut_fits, cut_one}
 use Rattle.path_keys.proofs.lemmas.spelling.CutLemmas.{cut_all}
 use Rattle.path_keys.proofs.lemmas.spelling.RunReadLemmas.{code_small, run_small, run_within}
 use Rattle.path_keys.proofs.decode.write_text.Goals as goal
@@ -23,7 +23,7 @@ write_run-requires c =
       arith,
       c.loop-run.auto.out,
       c.write_lead.auto.out,
-      cut_room c.loop-run.invariant c.in-Some.ensures.some,
+      cut_fits c.loop-run.invariant c.in-Some.ensures.some,
     )
 
 pub text_len-at-requires : goal.text_len-at-requires
@@ -32,7 +32,7 @@ text_len-at-requires c =
       arith,
       c.loop-run.auto.out,
       c.write_lead.auto.out,
-      cut_room c.loop-run.invariant c.in-Some.ensures.some,
+      cut_fits c.loop-run.invariant c.in-Some.ensures.some,
     )
 
 pub len-requires : goal.len-requires
@@ -40,7 +40,7 @@ len-requires c = omega (
   arith,
   c.loop-run.auto.out,
   c.write_lead.auto.out,
-  cut_room c.loop-run.invariant c.in-Some.ensures.some,
+  cut_fits c.loop-run.invariant c.in-Some.ensures.some,
   code_small c.in-Some.run',
 )
 
@@ -61,7 +61,7 @@ overflow_add-at c =
       c.loop-run.auto.out,
       c.write_lead.auto.out,
       c.write_lead.auto.out,
-      cut_room c.loop-run.invariant c.in-Some.ensures.some,
+      cut_fits c.loop-run.invariant c.in-Some.ensures.some,
       c.text_len-at.ensures,
     )
 

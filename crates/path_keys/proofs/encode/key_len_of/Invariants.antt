@@ -5,7 +5,7 @@ use Rattle.unix_path.specs.Scan.{is_filler}
 use Rattle.path_keys.specs.Keys.{key_of}
 use Rattle.path_keys.proofs.encode.key_len_of.Given as goal
 
--- the bytes that are counted, and those of what is left
+-- the length that was counted and the length of the key of the rest are the length of the key
 abbrev pub invariant-loop-rest : goal.invariant-loop-rest
 invariant-loop-rest l = record {
   not_filler : is_filler l.rest 0 ≡ false;

@@ -18,14 +18,14 @@ use Rattle.path_runs.specs.Overlay.{overlay}
 pub record PutTo (f : ℕ → ℕ) (bytes old : List ℕ) (at i : ℕ) (out : List ℕ) : Type 0 where
   pub long : length out ≡ length old
   pub before : take (at + i) out ≡ take at old ++ map f (take i bytes)
-  pub behind : drop (at + length bytes) out ≡ drop (at + length bytes) old
+  pub after : drop (at + length bytes) out ≡ drop (at + length bytes) old
 
 -- before the first byte is written, the buffer is `old`
 pub put_none : (f : ℕ → ℕ) (bytes old : List ℕ) (at : ℕ) → PutTo f bytes old at 0 old
 put_none f bytes old at = record {
   long = refl;
   before = ap (λ n. take n old) {x = at + 0} {y = at} (omega arith) ∙ sym (append-nil _);
-  behind = refl;
+  after = refl;
 }
 
 -- if the first i bytes are written, writing the byte at index i, changed by f, writes the first i +
@@ -43,15 +43,15 @@ put_one f bytes old at i out new b h l m is e =
           ∙ ap₂ (λ xs c. xs ++ c ∷ []) h.before is
           ∙ append_assoc (take at old) (map f (take i bytes)) (f (get_or bytes i 0) ∷ [])
           ∙ ap (λ xs. take at old ++ xs) (sym (map_more f bytes i 0 l));
-      behind = ap (drop (at + length bytes)) e
-          ∙ drop-set-lt (at + length bytes) out (at + i) b low ∙ h.behind;
+      after = ap (drop (at + length bytes)) e
+          ∙ drop-set-lt (at + length bytes) out (at + i) b low ∙ h.after;
     }
 
 -- if the first i bytes are written, and k is at most i, the first k bytes are written
 pub put_fewer : (f : ℕ → ℕ) (bytes old : List ℕ) (at i k : ℕ) (out : List ℕ)
     → PutTo f bytes old at i out → k ≤ i → i ≤ length bytes → at + length bytes ≤ length old
     → PutTo f bytes old at k out
-put_fewer f bytes old at i k out h l m room = record {
+put_fewer f bytes old at i k out h l m fits = record {
   long = h.long;
   before =
       let near : length (take at old) ≡ at = length-take-le at old (omega arith) in
@@ -73,7 +73,7 @@ put_fewer f bytes old at i k out h l m room = record {
       ∙ ap (λ xs. take at old ++ xs) (map-append f (take k bytes) (drop k (take i bytes)))
       ∙ sym (append_assoc (take at old) (map f (take k bytes)) (map f (drop k (take i bytes)))))
       ∙ take_at front (map f (drop k (take i bytes))) (at + k) size;
-  behind = h.behind;
+  after = h.after;
 }
 
 -- if the chunk ys, written at index i, ends at index n or before it, the bytes from n on are
@@ -91,7 +91,7 @@ pub put_many : (n : ℕ) (f : ℕ → ℕ) (bytes old : List ℕ) (at i : ℕ) (
     → PutTo f bytes old at i out → i + n ≤ length bytes → at + length bytes ≤ length old
     → new ≡ put_chunk (at + i) out (map f (take n (drop i bytes)))
     → PutTo f bytes old at (i + n) new
-put_many n f bytes old at i out new h l room e =
+put_many n f bytes old at i out new h l fits e =
     let block = map f (take n (drop i bytes)) in
     let size : length block ≡ n =
     length-map (take n (drop i bytes)) f ∙ length-chunk i n bytes l in
@@ -105,8 +105,8 @@ put_many n f bytes old at i out new h l room e =
           ∙ ap (λ xs. take at old ++ xs)
           (sym (ap (map f) (take-add i n bytes)
           ∙ map-append f (take i bytes) (take n (drop i bytes))));
-      behind = ap (drop (at + length bytes)) e
-          ∙ drop-put_chunk (at + length bytes) (at + i) out block (omega arith) ∙ h.behind;
+      after = ap (drop (at + length bytes)) e
+          ∙ drop-put_chunk (at + length bytes) (at + i) out block (omega arith) ∙ h.after;
     }
 
 -- if all of `bytes` are written, `out` is `old` overwritten from `at` on with `bytes`, changed by f
@@ -117,4 +117,4 @@ put_all f bytes old at i out h e =
     sym (take-append-drop (at + i) out)
     ∙ ap₂ (λ xs ys. xs ++ ys)
     (h.before ∙ ap (λ xs. take at old ++ map f xs) (take_all i bytes (omega arith)))
-    (ap (λ n. drop (at + n) out) e ∙ h.behind ∙ ap (λ n. drop (at + n) old) count)
+    (ap (λ n. drop (at + n) out) e ∙ h.after ∙ ap (λ n. drop (at + n) old) count)

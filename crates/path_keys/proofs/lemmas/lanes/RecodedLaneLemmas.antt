@@ -14,36 +14,36 @@ use Rattle.path_keys.specs.declared.recode.Recoding.{Recoding}
 
 -- in the lane of the byte x, the code computes the byte x, recoded
 lane_recoded : (how : Recoding) (x : ℕ)
-    → cond (top 7 (lane (eqb x how.mark))) how.other
-    (cond (top 7 (lane (ltb x how.limit))) ((x + how.step) % 256) x) ≡ recoded how x
+    → cond (top 7 (lane (eqb x how.separator))) how.new_separator
+    (cond (top 7 (lane (ltb x how.below))) ((x + how.shift) % 256) x) ≡ recoded how x
 lane_recoded how x =
-    ap₂ (λ a b. cond a how.other (cond b ((x + how.step) % 256) x)) (top_lane (eqb x how.mark))
-    (top_lane (ltb x how.limit))
+    ap₂ (λ a b. cond a how.new_separator (cond b ((x + how.shift) % 256) x)) (top_lane (eqb x how.separator))
+    (top_lane (ltb x how.below))
 
 -- in the lanes of the bytes xs, the code computes the bytes xs, recoded
 selected : (how : Recoding) (xs : List ℕ)
-    → sel_l (map (top 7) (map (λ x. lane (eqb x how.mark)) xs)) (map (λ _. how.other) xs)
-    (sel_l (map (top 7) (map (λ x. lane (ltb x how.limit)) xs))
-    (map (λ x. (x + how.step) % 256) xs) xs)
+    → sel_l (map (top 7) (map (λ x. lane (eqb x how.separator)) xs)) (map (λ _. how.new_separator) xs)
+    (sel_l (map (top 7) (map (λ x. lane (ltb x how.below)) xs))
+    (map (λ x. (x + how.shift) % 256) xs) xs)
     ≡ map (recoded how) xs
 selected how [] = refl
 selected how (x ∷ xs) = ap₂ (λ c cs. c ∷ cs) (lane_recoded how x) (selected how xs)
 
 -- if xs has n bytes, the n lanes that the code computes are the bytes xs, recoded
 pub recoded_lanes : (how : Recoding) (n : ℕ) (xs : List ℕ) → length xs ≡ n
-    → sel_l (map (top 7) (zip2 (λ a b. lane (eqb a b)) xs (replicate n how.mark)))
-    (replicate n how.other)
-    (sel_l (map (top 7) (zip2 (λ a b. lane (ltb a b)) xs (replicate n how.limit)))
-    (zip2 (λ a b. (a + b) % 256) xs (replicate n how.step)) xs)
+    → sel_l (map (top 7) (zip2 (λ a b. lane (eqb a b)) xs (replicate n how.separator)))
+    (replicate n how.new_separator)
+    (sel_l (map (top 7) (zip2 (λ a b. lane (ltb a b)) xs (replicate n how.below)))
+    (zip2 (λ a b. (a + b) % 256) xs (replicate n how.shift)) xs)
     ≡ map (recoded how) xs
 recoded_lanes how n xs l =
-    ap₂ (λ es ls. sel_l (map (top 7) es) (replicate n how.other)
-    (sel_l (map (top 7) ls) (zip2 (λ a b. (a + b) % 256) xs (replicate n how.step)) xs))
-    (zip2_splat (λ a b. lane (eqb a b)) xs n how.mark l)
-    (zip2_splat (λ a b. lane (ltb a b)) xs n how.limit l)
-    ∙ ap₂ (λ zs ss. sel_l (map (top 7) (map (λ x. lane (eqb x how.mark)) xs)) zs
-    (sel_l (map (top 7) (map (λ x. lane (ltb x how.limit)) xs)) ss xs))
-    (splat_is_map xs n how.other l) (zip2_splat (λ a b. (a + b) % 256) xs n how.step l)
+    ap₂ (λ es ls. sel_l (map (top 7) es) (replicate n how.new_separator)
+    (sel_l (map (top 7) ls) (zip2 (λ a b. (a + b) % 256) xs (replicate n how.shift)) xs))
+    (zip2_splat (λ a b. lane (eqb a b)) xs n how.separator l)
+    (zip2_splat (λ a b. lane (ltb a b)) xs n how.below l)
+    ∙ ap₂ (λ zs ss. sel_l (map (top 7) (map (λ x. lane (eqb x how.separator)) xs)) zs
+    (sel_l (map (top 7) (map (λ x. lane (ltb x how.below)) xs)) ss xs))
+    (splat_is_map xs n how.new_separator l) (zip2_splat (λ a b. (a + b) % 256) xs n how.shift l)
     ∙ selected how xs
 
 -- if f and g change each byte the same way, they change the bytes of a list the same way
@@ -53,11 +53,11 @@ same_map f g e (x ∷ xs) = ap₂ (λ c cs. c ∷ cs) (e x) (same_map f g e xs)
 
 -- the way of recoding bytes of names from a path to a key
 abbrev pub to_key : Recoding
-to_key = record { mark = 47; other = 0; limit = 47; step = 1 }
+to_key = record { separator = 47; new_separator = 0; below = 47; shift = 1 }
 
 -- the way of recoding bytes of names from a key to a path
 abbrev pub to_path : Recoding
-to_path = record { mark = 0; other = 47; limit = 48; step = 255 }
+to_path = record { separator = 0; new_separator = 47; below = 48; shift = 255 }
 
 -- recoding the byte x from a path to a key leads to `coded x`
 recoded-to_key : (x : ℕ) → recoded to_key x ≡ coded x

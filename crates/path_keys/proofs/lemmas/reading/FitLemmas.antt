@@ -60,10 +60,10 @@ AllFit-first (v ∷ vs) h = (Fits-first v h.0, h.1)
 -- the components of the pieces of any string s may follow other components
 names-fit : (s : List ℕ) → AllFit false (names_of (slice_split is_slash s))
 names-fit s =
-    let behind = values-hold_rooted (Fits false) piece_fits (slash ∷ s) refl in
-    let same : names_of (slice_split is_slash s) ≡ behind.0 =
-    (let e = sym (values-rooted s) ∙ behind.1 in cc) in
-    subst (AllFit false) (sym same) (all_fit behind.0 behind.2)
+    let after = values-hold_rooted (Fits false) piece_fits (slash ∷ s) refl in
+    let same : names_of (slice_split is_slash s) ≡ after.0 =
+    (let e = sym (values-rooted s) ∙ after.1 in cc) in
+    subst (AllFit false) (sym same) (all_fit after.0 after.2)
 
 -- if vs may follow other components, then vs, after a leading `.` if `dot` is true, may be all
 -- components of a path
@@ -76,8 +76,8 @@ lead-fit false vs h = AllFit-first vs h
 pub values-fit : (s : List ℕ) → AllFit true (values s)
 values-fit s = by_test (is_rooted s)
     (λ r.
-    let behind = values-hold_rooted (Fits false) piece_fits s r in
-    subst (AllFit true) (sym behind.1) (refl, all_fit behind.0 behind.2))
+    let after = values-hold_rooted (Fits false) piece_fits s r in
+    subst (AllFit true) (sym after.1) (refl, all_fit after.0 after.2))
     (λ r.
     let ps = slice_split is_slash s in
     subst (AllFit true) (sym (values-rootless s ps r refl))

@@ -95,7 +95,7 @@ kept_back {key} {old} {n} s h e few =
 pub written_back : {key path : List ℕ} {n : ℕ} (old s : List ℕ) → HasPath key n
     → IsRead key path → key_of (values s) ≡ key → n ≤ length old
     → path ++ drop n old ≡ buffer_after (spelling_of (values s)) old
-written_back {key} {path} {n} old s h read e room =
+written_back {key} {path} {n} old s h read e fits =
     let long = spelled_long s h e in
     ap₂ (λ p k. p ++ drop k old) (read_back key path s read e) long
     ∙ sym (buffer_after-fits (spelling_of (values s)) old (omega (arith, long)))

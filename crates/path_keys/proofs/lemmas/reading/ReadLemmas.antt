@@ -23,21 +23,21 @@ starts (v ∷ vs) = false
 pub fit_more : (us : List Value) (v : Value) → AllFit true us → Fits (starts us) v
     → AllFit true (us ++ v ∷ [])
 fit_more [] v h k = (k, tt)
-fit_more (u ∷ us) v h k = (h.0, behind us h.1)
+fit_more (u ∷ us) v h k = (h.0, after us h.1)
   where
-    behind : (us : List Value) → AllFit false us → AllFit false (us ++ v ∷ [])
-    behind [] h = (k, tt)
-    behind (u ∷ us) h = (h.0, behind us h.1)
+    after : (us : List Value) → AllFit false us → AllFit false (us ++ v ∷ [])
+    after [] h = (k, tt)
+    after (u ∷ us) h = (h.0, after us h.1)
 
 -- if us, w and ws may be all components of a path, w may come after us
 pub fit_next : (us : List Value) (w : Value) (ws : List Value) → AllFit true (us ++ w ∷ ws)
     → Fits (starts us) w
 fit_next [] w ws h = h.0
-fit_next (u ∷ us) w ws h = behind us h.1
+fit_next (u ∷ us) w ws h = after us h.1
   where
-    behind : (us : List Value) → AllFit false (us ++ w ∷ ws) → Fits false w
-    behind [] h = h.0
-    behind (u ∷ us) h = behind us h.1
+    after : (us : List Value) → AllFit false (us ++ w ∷ ws) → Fits false w
+    after [] h = h.0
+    after (u ∷ us) h = after us h.1
 
 -- after us and v, the next component is not the first
 pub starts-push : (us : List Value) (v : Value) → starts (us ++ v ∷ []) ≡ false
@@ -118,13 +118,13 @@ reads_no_key {key} {rest} {first} {len} h none some is = by begins.0 begins.1
     begins = key_of-begins h.us (values is.0) (AllFit-coded true h.us h.fit) (values-coded is.0)
         rest (h.whole ∙ sym is.1)
 
-    left : (ws : List Value) → h.us ++ ws ≡ values is.0 → key_of ws ≡ rest
-    left ws e = append_cancel_left (key_of h.us) (key_of ws) rest
+    remain : (ws : List Value) → h.us ++ ws ≡ values is.0 → key_of ws ≡ rest
+    remain ws e = append_cancel_left (key_of h.us) (key_of ws) rest
         (sym (key_of-append h.us ws) ∙ ap key_of e ∙ is.1 ∙ sym h.whole)
 
     by : (ws : List Value) → h.us ++ ws ≡ values is.0 → ⊥
-    by [] e = omega (arith, ap length (left [] e), ap length key_of-nil)
+    by [] e = omega (arith, ap length (remain [] e), ap length key_of-nil)
     by (w ∷ ws) e = none w (key_of ws)
         (subst (λ b. Fits b w) (sym h.first_is) (fit_next h.us w ws
         (subst (AllFit true) (sym e) (values-fit is.0))))
-        (sym (key_of-cons w ws) ∙ left (w ∷ ws) e)
+        (sym (key_of-cons w ws) ∙ remain (w ∷ ws) e)

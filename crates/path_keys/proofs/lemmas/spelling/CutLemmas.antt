@@ -21,7 +21,7 @@ use Rattle.path_keys.specs.declared.runs.Run.TheVariants.{Names}
 use Rattle.path_keys.specs.declared.runs.Run.TheVariants as run_variants
 use Rattle.path_keys.proofs.lemmas.reading.FitLemmas.{values-fit}
 use Rattle.path_keys.proofs.lemmas.reading.KeyReadLemmas.{spelled_read}
-use Rattle.path_keys.proofs.lemmas.spelling.SpellLemmas.{SpellsOn, spells_lead, spells_room}
+use Rattle.path_keys.proofs.lemmas.spelling.SpellLemmas.{SpellsOn, spells_lead, spells_fits}
 use Rattle.path_keys.proofs.lemmas.spelling.SpellLemmas.{spells_one, spells_all}
 use Rattle.path_keys.proofs.lemmas.spelling.SpellLemmas.{spells_long}
 use Rattle.path_keys.proofs.lemmas.reading.TextLemmas.{IsText, lone, longer, text_is}
@@ -33,17 +33,17 @@ overlay-take : (at m : ℕ) (bytes old : List ℕ) → at + m ≤ length old
     → take (at + m) (overlay at bytes old) ≡ overlay at (take m bytes) (take (at + m) old)
 overlay-take at m bytes old l =
     let before = take at old in
-    let behind = drop (at + length bytes) old in
+    let tail = drop (at + length bytes) old in
     let near : length before ≡ at = length-take-le at old (omega arith) in
     let front : take at (take (at + m) old) ≡ before = take-take at (at + m) old (omega arith) in
-    ap (take (at + m)) (append_assoc before bytes behind)
-    ∙ ap (λ n. take (n + m) (before ++ (bytes ++ behind))) (sym near)
-    ∙ take-append-add before (bytes ++ behind) m
+    ap (take (at + m)) (append_assoc before bytes tail)
+    ∙ ap (λ n. take (n + m) (before ++ (bytes ++ tail))) (sym near)
+    ∙ take-append-add before (bytes ++ tail) m
     ∙ ⊎_elim
     (λ more.
     let cut : length (take m bytes) ≡ m = length-take-le m bytes (omega arith) in
     let whole : length (take (at + m) old) ≡ at + m = length-take-le (at + m) old l in
-    ap (λ xs. before ++ xs) (take-append-le m bytes behind (omega arith))
+    ap (λ xs. before ++ xs) (take-append-le m bytes tail (omega arith))
     ∙ sym (append-nil (before ++ take m bytes))
     ∙ sym (ap₂ (λ xs ys. (xs ++ take m bytes) ++ ys) front
     (drop_all (at + length (take m bytes)) (take (at + m) old) (omega (arith, cut, whole)))))
@@ -51,9 +51,9 @@ overlay-take at m bytes old l =
     let n = m - length bytes in
     let split : m ≡ length bytes + n = omega arith in
     let end : at + m ≡ (at + length bytes) + n = omega arith in
-    ap (λ k. before ++ take k (bytes ++ behind)) split
-    ∙ ap (λ xs. before ++ xs) (take-append-add bytes behind n)
-    ∙ sym (append_assoc before bytes (take n behind))
+    ap (λ k. before ++ take k (bytes ++ tail)) split
+    ∙ ap (λ xs. before ++ xs) (take-append-add bytes tail n)
+    ∙ sym (append_assoc before bytes (take n tail))
     ∙ ap (λ xs. (before ++ bytes) ++ xs) (sym (ap (λ k. drop (at + length bytes) (take k old)) end
     ∙ drop-take (at + length bytes) n old))
     ∙ sym (ap₂ (λ xs ys. (xs ++ ys) ++ drop (at + length ys) (take (at + m) old)) front
@@ -139,7 +139,7 @@ cut_leaves {key} {rest} {old} {out} {at} h =
     omega (
       arith,
       h.few,
-      k.room,
+      k.fits,
       w.at_is,
       ap length w.whole_is,
       length-append w.start (text_of k.ws),
@@ -153,11 +153,11 @@ cut_leaves {key} {rest} {old} {out} {at} h =
       },
     )
 
--- if `rest` begins with `run`, the text of `run` ends at most one byte after the end of the buffer
-pub cut_room : {key rest old out : List ℕ} {at : ℕ} {run : Run}
+-- the text of the next run fits, except for a slash at its end
+pub cut_fits : {key rest old out : List ℕ} {at : ℕ} {run : Run}
     → SpellsCut key rest old at out → TakesRun rest run
     → at + length (run_text run) ≤ length old + 1
-cut_room h k = omega (arith, h.few, spells_room h.spells k)
+cut_fits h k = omega (arith, h.few, spells_fits h.spells k)
 
 -- the text of a run has at least one byte
 text_some : (run : Run) → 0 < length (run_text run)
@@ -173,7 +173,7 @@ pub cut_one : {key rest old out more new : List ℕ} {at end : ℕ} {run : Run}
     → end ≡ at + length (run_text run) → SpellsCut key more old end new
 cut_one {key} {rest} {old} {out} {more} {new} {at} {end} {run} h k e is_put ends =
     let n = length old in
-    let in_room : at ≤ n = omega (arith, text_some run, cut_room h k) in
+    let in_room : at ≤ n = omega (arith, text_some run, cut_fits h k) in
     let whole : at + (n - at) ≡ n = omega arith in
     record {
       wide = h.wide;

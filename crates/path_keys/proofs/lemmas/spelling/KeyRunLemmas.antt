@@ -21,14 +21,14 @@ use Rattle.path_keys.specs.NameBytes.{coded, decoded}
 use Rattle.path_keys.specs.Runs.{TakesRun}
 use Rattle.path_keys.specs.declared.runs.Run.TheVariants.{Names}
 use Rattle.unix_path.specs.NameRunEnds.{ends_name_run_of, no_name_starts_at, IsNameRunEnd}
-use Rattle.path_keys.specs.Stretches.{ends_name_run}
+use Rattle.path_keys.specs.PathRuns.{ends_name_run}
 use Rattle.unix_path.proofs.lemmas.name_run_ends.NameRunEndLemmas.{no_name, no_name-same}
 use Rattle.unix_path.proofs.lemmas.name_run_ends.NameRunEndLemmas.{no_name_starts_at-take}
 use Rattle.unix_path.proofs.lemmas.name_run_ends.NameRunEndLemmas.{separator_or_no_byte}
 use Rattle.unix_path.proofs.lemmas.name_run_ends.NameRunEndLemmas.{separator_at_end, no_end_before}
-use Rattle.path_keys.proofs.lemmas.writing.StretchLemmas.{all_pieces_names, names_of-names}
-use Rattle.path_keys.proofs.lemmas.writing.StretchLemmas.{some_piece}
-use Rattle.path_keys.proofs.lemmas.writing.StretchLemmas.{stretch_key}
+use Rattle.path_keys.proofs.lemmas.writing.PieceCodeLemmas.{all_pieces_names, names_of-names}
+use Rattle.path_keys.proofs.lemmas.writing.PieceCodeLemmas.{some_piece}
+use Rattle.path_keys.proofs.lemmas.writing.PieceCodeLemmas.{stretch_key}
 use Rattle.path_keys.proofs.lemmas.reading.TextLemmas.{text_of-slashed}
 
 -- decoding a byte of a key and coding the result leads back to the byte

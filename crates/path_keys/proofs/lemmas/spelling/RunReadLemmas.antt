@@ -25,20 +25,20 @@ use Rattle.path_keys.proofs.lemmas.reading.TextLemmas.{length-slashed}
 -- be all components of a path
 pub fit_all : (us vs : List Value) → AllFit true us → AllFit false vs → AllFit true (us ++ vs)
 fit_all [] vs h k = AllFit-first vs k
-fit_all (u ∷ us) vs h k = (h.0, behind us h.1)
+fit_all (u ∷ us) vs h k = (h.0, after us h.1)
   where
-    behind : (us : List Value) → AllFit false us → AllFit false (us ++ vs)
-    behind [] h = k
-    behind (u ∷ us) h = (h.0, behind us h.1)
+    after : (us : List Value) → AllFit false us → AllFit false (us ++ vs)
+    after [] h = k
+    after (u ∷ us) h = (h.0, after us h.1)
 
 -- if us and ws together may be all components of a path, ws may come after us
 pub fit_rest : (us ws : List Value) → AllFit true (us ++ ws) → AllFit (starts us) ws
 fit_rest [] ws h = h
-fit_rest (u ∷ us) ws h = behind us h.1
+fit_rest (u ∷ us) ws h = after us h.1
   where
-    behind : (us : List Value) → AllFit false (us ++ ws) → AllFit false ws
-    behind [] h = h
-    behind (u ∷ us) h = behind us h.1
+    after : (us : List Value) → AllFit false (us ++ ws) → AllFit false ws
+    after [] h = h
+    after (u ∷ us) h = after us h.1
 
 -- if vs is not empty, the next component after us and vs is not the first
 pub starts-more : (us vs : List Value) → 0 < length vs → starts (us ++ vs) ≡ false
@@ -165,12 +165,12 @@ reads_no_run {key} {rest} {len} h none some is = by begins.0 begins.1
     begins = key_of-begins h.us (values is.0) (AllFit-coded true h.us h.fit) (values-coded is.0)
         rest (h.whole ∙ sym is.1)
 
-    left : (ws : List Value) → h.us ++ ws ≡ values is.0 → key_of ws ≡ rest
-    left ws e = append_cancel_left (key_of h.us) (key_of ws) rest
+    remain : (ws : List Value) → h.us ++ ws ≡ values is.0 → key_of ws ≡ rest
+    remain ws e = append_cancel_left (key_of h.us) (key_of ws) rest
         (sym (key_of-append h.us ws) ∙ ap key_of e ∙ is.1 ∙ sym h.whole)
 
     by : (ws : List Value) → h.us ++ ws ≡ values is.0 → ⊥
-    by [] e = omega (arith, ap length (left [] e), ap length key_of-nil)
+    by [] e = omega (arith, ap length (remain [] e), ap length key_of-nil)
     by (w ∷ ws) e = none w ws
-        (h.inner (w ∷ ws) (subst (AllFit true) (sym e) (values-fit is.0)) (left (w ∷ ws) e))
-        (left (w ∷ ws) e)
+        (h.inner (w ∷ ws) (subst (AllFit true) (sym e) (values-fit is.0)) (remain (w ∷ ws) e))
+        (remain (w ∷ ws) e)

@@ -29,7 +29,7 @@ pub record SpellsOn (key rest old : List ℕ) (at : ℕ) (out : List ℕ) : Type
   pub inner : AllFit false ws
   pub key_is : key_of (us ++ ws) ≡ key
   pub rest_is : rest ≡ key_of ws
-  pub room : length (text_of (us ++ ws)) ≡ length old
+  pub fits : length (text_of (us ++ ws)) ≡ length old
   pub written : WritesOn (text_of (us ++ ws)) old at out (text_of ws)
 
 -- if the text of the key's components is as long as `old`, and the key begins with `lead`, writing
@@ -46,17 +46,17 @@ spells_lead {key} {rest} {old} {out} {lead} {at} h k is_put ends = by begins.0 b
     by : (ws : List Value) → k.vs ++ ws ≡ h.vs → SpellsOn key rest old at out
     by ws e =
         let fit = subst (AllFit true) (sym e) h.fit in
-        let left : key_of ws ≡ rest =
+        let after : key_of ws ≡ rest =
         append_cancel_left (key_of k.vs) (key_of ws) rest
         (sym (key_of-append k.vs ws) ∙ ap key_of e ∙ h.key_is ∙ sym k.key_is) in
         record {
           us = k.vs;
           ws = ws;
           fit = fit;
-          inner = k.inner ws fit left;
+          inner = k.inner ws fit after;
           key_is = ap key_of e ∙ h.key_is;
-          rest_is = sym left;
-          room = ap (λ vs. length (text_of vs)) e ∙ sym h.len_is;
+          rest_is = sym after;
+          fits = ap (λ vs. length (text_of vs)) e ∙ sym h.len_is;
           written = writes_stretch (lead_text lead) (text_of ws)
               (writes_first (text_of (k.vs ++ ws)) old refl)
               (text_of-append k.vs ws ∙ ap (λ t. t ++ text_of ws) k.text_is) is_put
@@ -73,38 +73,38 @@ fit_later (v ∷ vs) ws h = fit_later vs ws h.1
 record NextIs (rest : List ℕ) (ws vs : List Value) (run : Run) : Type 0 where
   more : List Value
   is : ws ≡ vs ++ more
-  left : drop (length (run_code run)) rest ≡ key_of more
+  after : drop (length (run_code run)) rest ≡ key_of more
 
 -- if `rest` is the key of ws, and begins with `run`, then ws begins with the components of `run`
 next_is : {rest : List ℕ} {run : Run} (ws : List Value) → AllFit false ws
     → rest ≡ key_of ws → (k : TakesRun rest run) → NextIs rest ws k.vs run
 next_is {rest} {run} ws h e k =
-    let left = drop (length (run_code run)) rest in
-    let whole : key_of k.vs ++ left ≡ key_of ws =
-    ap (λ c. c ++ left) k.code_is ∙ sym k.is ∙ e in
+    let after = drop (length (run_code run)) rest in
+    let whole : key_of k.vs ++ after ≡ key_of ws =
+    ap (λ c. c ++ after) k.code_is ∙ sym k.is ∙ e in
     let begins = key_of-begins k.vs ws (AllFit-coded false k.vs k.fit) (AllFit-coded false ws h)
-    left whole in
+    after whole in
     record {
       more = begins.0;
       is = sym begins.1;
-      left = append_cancel_left (key_of k.vs) left (key_of begins.0)
+      after = append_cancel_left (key_of k.vs) after (key_of begins.0)
           (whole ∙ ap key_of (sym begins.1) ∙ key_of-append k.vs begins.0);
     }
 
--- the text of the values that are left begins with that of the next
-text_left : {ws : List Value} (vs more : List Value) (run : Run) → ws ≡ vs ++ more
+-- the text of the remaining components begins with the text of the next run
+text_remains : {ws : List Value} (vs more : List Value) (run : Run) → ws ≡ vs ++ more
     → text_of vs ≡ run_text run → text_of ws ≡ run_text run ++ text_of more
-text_left {ws} vs more run e text =
+text_remains {ws} vs more run e text =
     ap text_of e ∙ text_of-append vs more ∙ ap (λ t. t ++ text_of more) text
 
--- if `rest` begins with `run`, the text of `run` fits in the buffer at index `at`
-pub spells_room : {key rest old out : List ℕ} {at : ℕ} {run : Run}
+-- the text of the next run fits
+pub spells_fits : {key rest old out : List ℕ} {at : ℕ} {run : Run}
     → SpellsOn key rest old at out → TakesRun rest run
     → at + length (run_text run) ≤ length old
-spells_room {key} {rest} {old} {out} {at} {run} h k =
+spells_fits {key} {rest} {old} {out} {at} {run} h k =
     let next = next_is h.ws h.inner h.rest_is k in
     writes_room (run_text run) (text_of next.more) h.written
-    (text_left k.vs next.more run next.is k.text_is) (omega (arith, h.room))
+    (text_remains k.vs next.more run next.is k.text_is) (omega (arith, h.fits))
 
 -- `out` is as long as `old`
 pub spells_long : {key rest old out : List ℕ} {at : ℕ}
@@ -113,7 +113,7 @@ spells_long {key} {rest} {old} {out} {at} h =
     let w = h.written in
     omega (
       arith,
-      h.room,
+      h.fits,
       ap length w.out_is,
       ap length w.whole_is,
       length-append w.start (text_of h.ws),
@@ -137,19 +137,18 @@ spells_one {key} {rest} {old} {out} {more} {new} {at} {end} {run} h k e is_put e
       fit = subst (AllFit true) all h.fit;
       inner = fit_later k.vs next.more (subst (AllFit false) next.is h.inner);
       key_is = ap key_of (sym all) ∙ h.key_is;
-      rest_is = e ∙ next.left;
-      room = ap (λ vs. length (text_of vs)) (sym all) ∙ h.room;
+      rest_is = e ∙ next.after;
+      fits = ap (λ vs. length (text_of vs)) (sym all) ∙ h.fits;
       written = subst (λ vs. WritesOn (text_of vs) old end new (text_of next.more)) all
           (writes_stretch (run_text run) (text_of next.more) h.written
-          (text_left k.vs next.more run next.is k.text_is) is_put ends);
+          (text_remains k.vs next.more run next.is k.text_is) is_put ends);
     }
 
--- if `rest` is the key of ws, but not the key of one or more components that may follow others,
--- then ws is empty
-nothing_left : {rest : List ℕ} (ws : List Value) → AllFit false ws → rest ≡ key_of ws
+-- if the rest is the key of no components, no components remain
+none_of_rest : {rest : List ℕ} (ws : List Value) → AllFit false ws → rest ≡ key_of ws
     → HoldsNone rest → ws ≡ []
-nothing_left [] h e none = refl
-nothing_left (w ∷ ws) h e none = absurd (none w ws h (sym e))
+none_of_rest [] h e none = refl
+none_of_rest (w ∷ ws) h e none = absurd (none w ws h (sym e))
 
 -- if no run is left in `rest`, `out` is the text of vs, the components of the key
 pub spells_all : {key rest old out : List ℕ} {at : ℕ}
@@ -157,11 +156,11 @@ pub spells_all : {key rest old out : List ℕ} {at : ℕ}
     → (vs : List Value) → AllFit true vs → key_of vs ≡ key → out ≡ text_of vs
 spells_all {key} {rest} {old} {out} {at} h none vs fit e =
     let all = h.us ++ h.ws in
-    let empty = nothing_left h.ws h.inner h.rest_is none in
-    let whole = writes_last h.written (ap text_of empty ∙ text_of-nil) (omega (arith, h.room)) in
+    let empty = none_of_rest h.ws h.inner h.rest_is none in
+    let whole = writes_last h.written (ap text_of empty ∙ text_of-nil) (omega (arith, h.fits)) in
     let same : all ≡ vs =
     key_of-same all vs (AllFit-coded true all h.fit) (AllFit-coded true vs fit)
     (h.key_is ∙ sym e) in
-    whole ∙ buffer_after-fits (text_of all) old (omega (arith, h.room))
-    ∙ ap (λ tail. text_of all ++ tail) (drop_all (length (text_of all)) old (omega (arith, h.room)))
+    whole ∙ buffer_after-fits (text_of all) old (omega (arith, h.fits))
+    ∙ ap (λ tail. text_of all ++ tail) (drop_all (length (text_of all)) old (omega (arith, h.fits)))
     ∙ append-nil (text_of all) ∙ ap text_of same

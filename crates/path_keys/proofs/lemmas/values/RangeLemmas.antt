@@ -31,10 +31,9 @@ greater_is a b h = grind (arith, nat_tests)
 equal_is : (a : ℕ) → nat_cmp a a ≡ Equal
 equal_is a = grind (arith, nat_tests)
 
--- if b is less than c, bytes that begin with c are not less than the byte b + 1, the end of the
--- range of b
-behind-not_less : (b c : ℕ) (key : List ℕ) → b < c → bytes_cmp (c ∷ key) ((b + 1) ∷ []) ≡ Less → ⊥
-behind-not_less b c key l h = ⊎_elim
+-- bytes of which the first is greater are not less than the end of a range
+above-not_less : (b c : ℕ) (key : List ℕ) → b < c → bytes_cmp (c ∷ key) ((b + 1) ∷ []) ≡ Less → ⊥
+above-not_less b c key l h = ⊎_elim
     (λ same.
     let tie : nat_cmp c (b + 1) ≡ Equal = ap (nat_cmp c) (sym same) ∙ equal_is c in
     at_end key (rw tie at h))
@@ -62,7 +61,7 @@ lies_in-begins : (b : ℕ) (bs key : List ℕ) → LiesIn b bs key → IsPrefixO
 lies_in-begins b bs [] h = absurd (let d = h.0 in cc)
 lies_in-begins b [] (c ∷ key) h = ⊎_elim
     (λ same. (key, ap (λ x. x ∷ key) same))
-    (λ other. absurd (⊎_elim (λ less. behind-not_less b c key less h.1)
+    (λ other. absurd (⊎_elim (λ less. above-not_less b c key less h.1)
     (λ more. before-not_le b c [] key more h.0) other))
     (cases_order b c)
 lies_in-begins b (d ∷ bs) (c ∷ key) h = ⊎_elim

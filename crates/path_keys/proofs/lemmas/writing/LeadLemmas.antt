@@ -50,6 +50,6 @@ lead-dot (x ∷ s) l filler e =
     ∙ key_of-cons CurDir (inner_values (x ∷ s))
 
 -- the key of nothing
-pub none_left : (s : List ℕ) → length s ≡ 0 → key_of (inner_values s) ≡ []
-none_left s e = ap (λ s. key_of (inner_values s)) (nil_from_length s e)
+pub none_remain : (s : List ℕ) → length s ≡ 0 → key_of (inner_values s) ≡ []
+none_remain s e = ap (λ s. key_of (inner_values s)) (nil_from_length s e)
     ∙ ap key_of inner_values-nil ∙ key_of-nil

@@ -23,13 +23,13 @@ use Rattle.path_runs.proofs.lemmas.spelling.PieceValueLemmas.{inner_values-piece
 use Rattle.path_keys.specs.Keys.{key_of}
 use Rattle.path_keys.specs.Codes.{AllFit, IsName}
 use Rattle.path_keys.specs.NameBytes.{coded}
-use Rattle.path_keys.specs.Stretches.{FirstStop, IsRun}
+use Rattle.path_keys.specs.PathRuns.{FirstStop, IsRun}
 use Rattle.unix_path.proofs.lemmas.name_run_ends.NameRunEndLemmas.{separator_at_end, no_end_before}
 use Rattle.path_keys.proofs.lemmas.reading.FitLemmas.{values-fit}
 use Rattle.path_keys.proofs.lemmas.values.KeyLemmas.{key_of-cons, key_of-append}
 use Rattle.unix_path.proofs.lemmas.filler.FillerLemmas.{values-not_filler}
-use Rattle.path_keys.proofs.lemmas.writing.StretchLemmas.{later, later_names, some_piece}
-use Rattle.path_keys.proofs.lemmas.writing.StretchLemmas.{stretch_key}
+use Rattle.path_keys.proofs.lemmas.writing.PieceCodeLemmas.{later, later_names, some_piece}
+use Rattle.path_keys.proofs.lemmas.writing.PieceCodeLemmas.{stretch_key}
 
 -- if s begins neither with filler nor with `..`, its components are its first piece, which is a
 -- name, and the inner components after this piece

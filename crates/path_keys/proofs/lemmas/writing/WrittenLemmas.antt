@@ -10,7 +10,7 @@ use Rattle.path_runs.proofs.lemmas.lists.OverlayLemmas.{overlay-bytes_over}
 use Rattle.path_runs.proofs.lemmas.lists.WritingLemmas.{WritesOn, writes_room, writes_stretch}
 use Rattle.path_keys.specs.Keys.{key_of}
 use Rattle.path_keys.specs.NameBytes.{coded}
-use Rattle.path_keys.specs.Stretches.{run_key, IsRun}
+use Rattle.path_keys.specs.PathRuns.{run_key, IsRun}
 
 -- if `at` is at most the length of `old`, writing xs at index `at`, and then ys after xs, is the
 -- same as writing xs and ys together at index `at`
@@ -40,7 +40,7 @@ names_len s n l = omega (
 pub names_put : (s : List ℕ) (at n : ℕ) (old out new : List ℕ) → n ≤ length s
     → at + n ≤ length old → out ≡ overlay at (map coded (take n s)) old
     → new ≡ overlay (at + n) (0 ∷ []) out → new ≡ overlay at (map coded (take n s) ++ 0 ∷ []) old
-names_put s at n old out new l room h e =
+names_put s at n old out new l fits h e =
     let xs = map coded (take n s) in
     let size : length xs ≡ n = length-map (take n s) coded ∙ length-take-le n s l in
     e ∙ ap₂ (λ k o. overlay k (0 ∷ []) o) {x = at + n} {y = at + length xs} (omega (arith, size)) h
@@ -64,12 +64,11 @@ pub run_fits : {whole old out : List ℕ} {at n : ℕ} (s : List ℕ)
 run_fits {whole} {old} {out} {at} {n} s h run fits =
     writes_room (run_key s n) (key_of (inner_values (drop n s))) h run.split fits
 
--- if the first n bytes of s are a run, and `left` has the components after it, writing the bytes in
--- a key of this run at index `at` leaves the key of `left` to be written
-pub written_run : {whole old out new : List ℕ} {at n end : ℕ} (s left : List ℕ)
+-- the next run is written
+pub written_run : {whole old out new : List ℕ} {at n end : ℕ} (s later : List ℕ)
     → WritesOn whole old at out (key_of (inner_values s)) → IsRun s n
-    → new ≡ overlay at (run_key s n) out → inner_values (drop n s) ≡ inner_values left
-    → end ≡ at + length (run_key s n) → WritesOn whole old end new (key_of (inner_values left))
-written_run {whole} {old} {out} {new} {at} {n} {end} s left h run is_put same ends =
-    writes_stretch (run_key s n) (key_of (inner_values left)) h
+    → new ≡ overlay at (run_key s n) out → inner_values (drop n s) ≡ inner_values later
+    → end ≡ at + length (run_key s n) → WritesOn whole old end new (key_of (inner_values later))
+written_run {whole} {old} {out} {new} {at} {n} {end} s later h run is_put same ends =
+    writes_stretch (run_key s n) (key_of (inner_values later)) h
     (run.split ∙ ap (λ vs. run_key s n ++ key_of vs) same) is_put ends

@@ -3,7 +3,7 @@ use Rattle.path_keys.specs.NameBytes.{recoded}
 use Rattle.path_keys.proofs.lemmas.lanes.PutLemmas.{PutTo}
 use Rattle.path_keys.proofs.recode.recode.Given as goal
 
--- the bytes before `from` are put there
+-- the bytes before `from` are written
 abbrev pub invariant-loop-from : goal.invariant-loop-from
 invariant-loop-from l = record {
   in_range : l.from < l.last + 16;

@@ -15,19 +15,19 @@ returns-then-key-ne0 c =
     no_lead c.args.key.now (λ r e. c.if-key-ne0.true (sym (ap (λ k. get_or k 0 0) e)))
     (λ r e. c.if-key-ne0.true (sym (ap (λ k. get_or k 0 0) e)))
 
-pub returns-then-key-eq1 : goal.returns-then-key-eq1
-returns-then-key-eq1 c =
+pub returns-then-key-eq-ROOT_MARK : goal.returns-then-key-eq-ROOT_MARK
+returns-then-key-eq-ROOT_MARK c =
     let s = c.args.key.now in
     subst (λ r. BeginsLead s r Root) (sym (take_rest s 2))
-    (root_lead s c.if-key-lt2.false c.if-key-ne0.false c.if-key-eq1.true)
+    (root_lead s c.if-key-lt2.false c.if-key-ne0.false c.if-key-eq-ROOT_MARK.true)
 
-pub returns-then-key-eq2 : goal.returns-then-key-eq2
-returns-then-key-eq2 c =
+pub returns-then-key-eq-CUR_DIR_MARK : goal.returns-then-key-eq-CUR_DIR_MARK
+returns-then-key-eq-CUR_DIR_MARK c =
     let s = c.args.key.now in
     subst (λ r. BeginsLead s r Dot) (sym (take_rest s 2))
-    (dot_lead s c.if-key-lt2.false c.if-key-ne0.false c.if-key-eq2.true)
+    (dot_lead s c.if-key-lt2.false c.if-key-ne0.false c.if-key-eq-CUR_DIR_MARK.true)
 
 pub returns : goal.returns
 returns c =
-    no_lead c.args.key.now (λ r e. c.if-key-eq1.false (sym (ap (λ k. get_or k 1 0) e)))
-    (λ r e. c.if-key-eq2.false (sym (ap (λ k. get_or k 1 0) e)))
+    no_lead c.args.key.now (λ r e. c.if-key-eq-ROOT_MARK.false (sym (ap (λ k. get_or k 1 0) e)))
+    (λ r e. c.if-key-eq-CUR_DIR_MARK.false (sym (ap (λ k. get_or k 1 0) e)))

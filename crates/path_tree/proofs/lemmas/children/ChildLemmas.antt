@@ -1,182 +1,139 @@
--- The children of a base, found in a walk that goes on behind each child.
-use Rattle.std.proofs.Common.{◌≡◌, ◌∙◌, ◌<◌, ◌+◌, ℕ, Bool, true, false, cond, List, [], ◌∷◌, Some}
-use Rattle.std.proofs.Common.{None, Option, Ordering, Less, Equal, Greater, IfSome, length, map}
-use Rattle.std.proofs.Common.{take, ap, refl, sym, is_le}
+-- The children of a base, found in a walk that continues after the range of each child.
+use Rattle.std.proofs.Common.{◌≡◌, ◌∙◌, ℕ, Bool, true, false, cond, eqb, List, [], ◌∷◌}
+use Rattle.std.proofs.Common.{Some, None, Option, Less, map}
+use Rattle.std.proofs.Common.{ap, refl, sym, is_le}
+use Rattle.std.proofs.lemmas.Cmp.{tied_itself}
 use Rattle.std.specs.Cmp.Lexicographic.{nat_list_cmp_total}
-use Rattle.std.specs.List.{AllByRecursion, dedup_from, filter}
+use Rattle.std.specs.List.{AllByRecursion, dedup_from, filter, starts_with}
 use Rattle.std.specs.List.Sorted.{IsStrictlySortedBy}
 use Rattle.std.specs.Map.{keys_of}
 use Rattle.std.specs.Ordering.{is_eq}
 use Rattle.unix_bytes.proofs.lemmas.lists.ListLemmas.{by_test}
-use Rattle.unix_path.specs.Order.{values_cmp}
-use Rattle.unix_path.specs.Parts.{Value}
-use Rattle.path_runs.specs.Rows.{is_under}
-use Rattle.path_runs.proofs.lemmas.rows.UnderLemmas.{begins_from_under, under_from_begins}
 use Rattle.path_keys.specs.Ranges.{bytes_cmp, end_of}
-use Rattle.path_keys.proofs.lemmas.values.RangeLemmas.{begins-lies_under}
-use Rattle.path_tree.specs.Children.{are_same, child_row, children_of, is_below}
-use Rattle.path_tree.specs.Read.{is_own, key_values}
-use Rattle.path_tree.proofs.lemmas.keys.RowLemmas.{AllOwn, keys_cmp, rows_by}
-use Rattle.path_tree.proofs.lemmas.keys.UnderLemmas.{between-under, key_begins, values_begin}
+use Rattle.path_keys.proofs.lemmas.values.BeginLemmas.{begins_told}
+use Rattle.path_tree.specs.Children.{child_entry, child_of, children_of, have_same_key, is_below}
+use Rattle.path_tree.specs.Rows.{Key, key_entries}
+use Rattle.path_tree.proofs.lemmas.keys.ChildKeyLemmas.{ChildKey}
+use Rattle.path_tree.proofs.lemmas.keys.IntervalLemmas.{interval, le_less}
+use Rattle.path_tree.proofs.lemmas.keys.RowLemmas.{keys_cmp}
+use Rattle.path_tree.proofs.lemmas.rows.EntryLemmas.{between-starts}
 use Rattle.path_tree.proofs.lemmas.rows.WalkLemmas.{all_from_first, filter_all, sorted_first}
 use Rattle.path_tree.proofs.lemmas.rows.WalkLemmas.{sorted_others}
 
--- whether the values go on with the child that was found last, if one was
-abbrev pub goes_on_in : List Value → Option (List Value) → List Value → Bool
-goes_on_in base None v = false
-goes_on_in base (Some c) v = is_eq (values_cmp c (take (length base + 1) v))
+-- the key starts with the child that was found last, if one was found
+abbrev pub goes_on_in : List ℕ → Option (List ℕ) → List ℕ → Bool
+goes_on_in base None key = false
+goes_on_in base (Some c) key = is_eq (bytes_cmp c (child_of base key))
 
-module _ {V : Type 0} (base : List Value) where
-  -- the children that rows have beside the one that was found last
-  unfoldable pub fresh : Option (List Value) → List (List Value × V) → List (List Value × Option V)
+module _ {V : Type 0} (base : List ℕ) where
+  -- the children of entries, except the child that was found last
+  unfoldable pub fresh : Option (List ℕ) → List (List ℕ × V) → List (List ℕ × Option V)
   fresh last [] = []
-  fresh last (row ∷ rows) =
-      cond (is_below base row.0)
-      (cond (goes_on_in base last row.0) (fresh last rows)
-      (child_row base row ∷ fresh (Some (take (length base + 1) row.0)) rows))
-      (fresh last rows)
+  fresh last (e ∷ es) =
+      cond (is_below base e.0)
+      (cond (goes_on_in base last e.0) (fresh last es)
+      (child_entry base e ∷ fresh (Some (child_of base e.0)) es))
+      (fresh last es)
 
-  -- after a child, what `dedup` leaves is that child and the fresh children of the later rows
-  dedup_from-fresh : (k : List Value × Option V) (rows : List (List Value × V))
-      → dedup_from are_same k
-      (map (child_row base) (filter (λ row. is_below base row.0) rows))
-      ≡ k ∷ fresh (Some k.0) rows
+  -- after a child, `dedup` leaves that child and the fresh children of the later entries
+  dedup_from-fresh : (k : List ℕ × Option V) (es : List (List ℕ × V))
+      → dedup_from have_same_key k
+      (map (child_entry base) (filter (λ e. is_below base e.0) es))
+      ≡ k ∷ fresh (Some k.0) es
   unfolding fresh
   dedup_from-fresh k [] = refl
-  dedup_from-fresh k (row ∷ rows) = by_test (is_below base row.0)
-      (λ below. by_test (goes_on_in base (Some k.0) row.0)
-      (λ same. rw (below, same) (dedup_from-fresh k rows))
+  dedup_from-fresh k (e ∷ es) = by_test (is_below base e.0)
+      (λ below. by_test (goes_on_in base (Some k.0) e.0)
+      (λ same. rw (below, same) (dedup_from-fresh k es))
       (λ other. rw (below, other)
-      (ap (λ l. k ∷ l) (dedup_from-fresh (child_row base row) rows))))
-      (λ above. rw above (dedup_from-fresh k rows))
+      (ap (λ l. k ∷ l) (dedup_from-fresh (child_entry base e) es))))
+      (λ above. rw above (dedup_from-fresh k es))
 
-  -- before one is found all children are fresh
-  pub children-fresh : (rows : List (List Value × V)) → fresh None rows ≡ children_of base rows
+  -- before a child is found all children are fresh
+  pub children-fresh : (es : List (List ℕ × V)) → fresh None es ≡ children_of base es
   unfolding fresh
   children-fresh [] = refl
-  children-fresh (row ∷ rows) = by_test (is_below base row.0)
-      (λ below. rw below (sym (dedup_from-fresh (child_row base row) rows)))
-      (λ above. rw above (children-fresh rows))
+  children-fresh (e ∷ es) = by_test (is_below base e.0)
+      (λ below. rw below (sym (dedup_from-fresh (child_entry base e) es)))
+      (λ above. rw above (children-fresh es))
 
-  -- a row that goes on in the child that was found last adds none
-  pub same_child : (c : List Value) → length c ≡ length base + 1 → (row : List Value × V)
-      → is_under c row.0 ≡ true → (rows : List (List Value × V))
-      → fresh (Some c) (row ∷ rows) ≡ fresh (Some c) rows
+  -- an entry of the child that was found last adds no child
+  pub same_child : (c : List ℕ) (e : List ℕ × V) → child_of base e.0 ≡ c
+      → (es : List (List ℕ × V)) → fresh (Some c) (e ∷ es) ≡ fresh (Some c) es
   unfolding fresh
-  same_child c long row under rows =
-      let same : goes_on_in base (Some c) row.0 ≡ true =
-      ap (λ n. is_eq (values_cmp c (take n row.0))) (sym long) ∙ under in
-      by_test (is_below base row.0) (λ below. rw (below, same) refl) (λ above. rw above refl)
+  same_child c e is es =
+      let same : goes_on_in base (Some c) e.0 ≡ true =
+      ap (λ k. is_eq (bytes_cmp c k)) is ∙ ap is_eq (tied_itself nat_list_cmp_total c) in
+      by_test (is_below base e.0) (λ below. rw (below, same) refl) (λ above. rw above refl)
 
-  -- a row below base that doesn't go on in that child adds its own
-  pub new_child : (last : Option (List Value)) (row : List Value × V)
-      → is_below base row.0 ≡ true → goes_on_in base last row.0 ≡ false
-      → (rows : List (List Value × V)) → fresh last (row ∷ rows)
-      ≡ child_row base row ∷ fresh (Some (take (length base + 1) row.0)) rows
+  -- an entry below base that is not of that child adds its child
+  pub new_child : (last : Option (List ℕ)) (e : List ℕ × V)
+      → is_below base e.0 ≡ true → goes_on_in base last e.0 ≡ false
+      → (es : List (List ℕ × V)) → fresh last (e ∷ es)
+      ≡ child_entry base e ∷ fresh (Some (child_of base e.0)) es
   unfolding fresh
-  new_child last row below other rows = rw (below, other) refl
+  new_child last e below other es = rw (below, other) refl
 
--- `le_less`, by the order of the first two
-le_less_by : (x y z : List ℕ) (o : Ordering) → bytes_cmp x y ≡ o → is_le o ≡ true
-    → bytes_cmp y z ≡ Less → bytes_cmp x z ≡ Less
-le_less_by x y z Less is le less = nat_list_cmp_total.trans x y z is less
-le_less_by x y z Equal is le less = nat_list_cmp_total.congr x y z is ∙ less
-le_less_by x y z Greater is le less = absurd (let e = le in cc)
+-- a key that starts with a child's key has that child
+pub child-begun : (base c key : List ℕ) → ChildKey base c → starts_with eqb key c ≡ true
+    → child_of base key ≡ c
+child-begun base c key child starts =
+    let begins = (begins_told key c _ refl).0 starts in
+    ap (child_of base) (sym begins.1) ∙ child.child_is begins.0
 
--- what is at most a second, which is less than a third, is less than the third
-pub le_less : (x y z : List ℕ) → is_le (bytes_cmp x y) ≡ true → bytes_cmp y z ≡ Less
-    → bytes_cmp x z ≡ Less
-le_less x y z le less = le_less_by x y z (bytes_cmp x y) refl le less
+-- the key is not less than the end of a range, and so is after the range
+abbrev pub is_after : List ℕ → Key → Bool
+is_after end k = is_le (bytes_cmp end k.items)
 
--- what follows from a fact holds of an option's value if the fact does
-if_some : {A : Type 0} (P Q : A → Type 0) → ((a : A) → P a → Q a) → (o : Option A) → IfSome o P
-    → IfSome o Q
-if_some P Q holds None h = tt
-if_some P Q holds (Some a) h = holds a h
+-- the bytes of a key
+abbrev pub items_of : Key → List ℕ
+items_of k = k.items
 
--- between a base and what begins with it all begins with it
-interval : (base x y : List ℕ) → is_own base ≡ true → is_own x ≡ true → is_own y ≡ true
-    → is_le (bytes_cmp base x) ≡ true → bytes_cmp x y ≡ Less
-    → is_under (key_values base) (key_values y) ≡ true
-    → is_under (key_values base) (key_values x) ≡ true
-interval base x y own own_x own_y le less under =
-    let lies = (begins-lies_under base y).0
-    (key_begins base y own own_y (begins_from_under _ _ under)) in
-    under_from_begins _ _
-    (values_begin base x own own_x
-    ((begins-lies_under base x).1 (
-      le,
-      if_some (λ end. bytes_cmp y end ≡ Less) (λ end. bytes_cmp x end ≡ Less)
-          (λ end before. nat_list_cmp_total.trans x y end less before) (end_of base) lies.1,
-    )))
+-- what follows a key after a range is after the range too
+pub stays_after : (end : List ℕ) (k l : Key) → is_after end k ≡ true
+    → keys_cmp items_of k l ≡ Less → is_after end l ≡ true
+stays_after end k l is less = ap is_le (le_less end k.items l.items is less)
 
--- the bytes are a key with one value more than base's
-pub record ChildKey (base c : List ℕ) : Type 0 where
-  pub own : is_own c ≡ true
-  pub long : length (key_values c) ≡ length (key_values base) + 1
-  pub some : 0 < length c
-
-module _ {K : Type 0} (bytes_of : K → List ℕ) where
-  -- whether a key stands behind all of a range that ends there
-  abbrev pub is_behind : List ℕ → K → Bool
-  is_behind end k = is_le (bytes_cmp end (bytes_of k))
-
-  -- what follows a key after a range is after the range too
-  pub stays_behind : (end : List ℕ) (k l : K) → is_behind end k ≡ true
-      → keys_cmp bytes_of k l ≡ Less → is_behind end l ≡ true
-  stays_behind end k l is less = ap is_le (le_less end (bytes_of k) (bytes_of l) is less)
-
-module _ {K V : Type 0} (bytes_of : K → List ℕ) where
-  -- rows that go on in the child that was found last may be passed over
+module _ {V : Type 0} where
+  -- entries of the child that was found last may be passed over
   pub pass_child : (base c end : List ℕ) → ChildKey base c → end_of c ≡ Some end
-      → (es : List (K × V)) → AllOwn bytes_of es
-      → IsStrictlySortedBy (keys_cmp bytes_of) (keys_of es)
-      → AllByRecursion (λ k. is_le (bytes_cmp c (bytes_of k)) ≡ true) (keys_of es)
-      → fresh (key_values base) (Some (key_values c)) (rows_by bytes_of es)
-      ≡ fresh (key_values base) (Some (key_values c))
-      (rows_by bytes_of (filter (λ e. is_behind bytes_of end e.0) es))
-  pass_child base c end child ends [] own sorted from = refl
-  pass_child base c end child ends (e ∷ es) own sorted from = by_test (is_behind bytes_of end e.0)
-      (λ is. ap (λ l. fresh (key_values base) (Some (key_values c)) (rows_by bytes_of l))
-      (sym (filter_all (is_behind bytes_of end) (e ∷ es)
-      (all_from_first (keys_cmp bytes_of) (is_behind bytes_of end)
-      (stays_behind bytes_of end) e es sorted is))))
+      → (es : List (Key × V)) → IsStrictlySortedBy (keys_cmp items_of) (keys_of es)
+      → AllByRecursion (λ k. is_le (bytes_cmp c k.items) ≡ true) (keys_of es)
+      → fresh base (Some c) (key_entries es)
+      ≡ fresh base (Some c) (key_entries (filter (λ e. is_after end e.0) es))
+  pass_child base c end child ends [] sorted from = refl
+  pass_child base c end child ends (e ∷ es) sorted from = by_test (is_after end e.0)
+      (λ is. ap (λ l. fresh base (Some c) (key_entries l))
+      (sym (filter_all (is_after end) (e ∷ es)
+      (all_from_first (keys_cmp items_of) (is_after end) (stays_after end) e es sorted is))))
       (λ other.
-      let under : is_under (key_values c) (key_values (bytes_of e.0)) ≡ true =
-      sym (between-under c end (bytes_of e.0) ends child.own own.0) ∙ rw (from.0, other) refl in
-      same_child (key_values base) (key_values c) child.long
-      (key_values (bytes_of e.0), e.1) under (rows_by bytes_of es)
-      ∙ pass_child base c end child ends es own.1
-      (sorted_others (keys_cmp bytes_of) e es sorted) from.1
-      ∙ ap (λ b. fresh (key_values base) (Some (key_values c)) (rows_by bytes_of
-      (cond b (e ∷ filter (λ e. is_behind bytes_of end e.0) es)
-      (filter (λ e. is_behind bytes_of end e.0) es))))
+      let starts : starts_with eqb e.0.items c ≡ true =
+      sym (between-starts c end e.0.items ends) ∙ rw (from.0, other) refl in
+      same_child base c (e.0.items, e.1) (child-begun base c e.0.items child starts)
+      (key_entries es)
+      ∙ pass_child base c end child ends es
+      (sorted_others (keys_cmp items_of) e es sorted) from.1
+      ∙ ap (λ b. fresh base (Some c) (key_entries
+      (cond b (e ∷ filter (λ e. is_after end e.0) es) (filter (λ e. is_after end e.0) es))))
       (sym other))
 
-  -- keys behind one that isn't under base aren't under it either
-  none_under : (base : List ℕ) → is_own base ≡ true → (k : K) → is_own (bytes_of k) ≡ true
-      → is_le (bytes_cmp base (bytes_of k)) ≡ true
-      → is_under (key_values base) (key_values (bytes_of k)) ≡ false
-      → (es : List (K × V)) → AllOwn bytes_of es
-      → AllByRecursion (λ l. keys_cmp bytes_of k l ≡ Less) (keys_of es)
-      → (last : Option (List Value)) → fresh (key_values base) last (rows_by bytes_of es) ≡ []
+  -- keys after a key that doesn't start with base don't start with it either
+  none_under : (base : List ℕ) (k : Key) → is_le (bytes_cmp base k.items) ≡ true
+      → starts_with eqb k.items base ≡ false → (es : List (Key × V))
+      → AllByRecursion (λ l. keys_cmp items_of k l ≡ Less) (keys_of es)
+      → (last : Option (List ℕ)) → fresh base last (key_entries es) ≡ []
   unfolding fresh
-  none_under base base_own k own from not_under [] all less last = refl
-  none_under base base_own k own from not_under (e ∷ es) all less last =
-      by_test (is_under (key_values base) (key_values (bytes_of e.0)))
-      (λ under.
-      let too = interval base (bytes_of k) (bytes_of e.0) base_own own all.0 from less.0 under in
-      absurd (cc))
-      (λ other. rw other (none_under base base_own k own from not_under es all.1 less.1 last))
+  none_under base k from other [] less last = refl
+  none_under base k from other (e ∷ es) less last = by_test (starts_with eqb e.0.items base)
+      (λ starts. let too = interval base k.items e.0.items from less.0 starts in absurd (cc))
+      (λ no. rw no (none_under base k from other es less.1 last))
 
-  -- so no children are left
-  pub none_left : (base : List ℕ) → is_own base ≡ true → (e : K × V) (es : List (K × V))
-      → AllOwn bytes_of (e ∷ es) → IsStrictlySortedBy (keys_cmp bytes_of) (keys_of (e ∷ es))
-      → bytes_cmp base (bytes_of e.0) ≡ Less
-      → is_under (key_values base) (key_values (bytes_of e.0)) ≡ false
-      → (last : Option (List Value))
-      → fresh (key_values base) last (rows_by bytes_of (e ∷ es)) ≡ []
+  -- if the first key doesn't start with base, there are no more children
+  pub none_more : (base : List ℕ) (e : Key × V) (es : List (Key × V))
+      → IsStrictlySortedBy (keys_cmp items_of) (keys_of (e ∷ es))
+      → bytes_cmp base e.0.items ≡ Less → starts_with eqb e.0.items base ≡ false
+      → (last : Option (List ℕ)) → fresh base last (key_entries (e ∷ es)) ≡ []
   unfolding fresh
-  none_left base own e es all sorted less other last =
-      rw other (none_under base own e.0 all.0 (ap is_le less) other es all.1
-      (sorted_first (keys_cmp bytes_of) e es sorted) last)
+  none_more base e es sorted less other last =
+      rw other (none_under base e.0 (ap is_le less) other es
+      (sorted_first (keys_cmp items_of) e es sorted) last)

@@ -1,12 +1,14 @@
--- A key that goes on behind a base's: its beginning with one code more is a key too.
-use Rattle.std.proofs.Common.{◌≡◌, ◌≢◌, ◌∙◌, ◌==◌, ◌<◌, ◌+◌, ℕ, Bool, true, false, List, [], ◌∷◌}
-use Rattle.std.proofs.Common.{◌++◌, ap, arith, append_assoc, append-nil, drop, length}
-use Rattle.std.proofs.Common.{length-append, map, refl, subst, sym, take, take_at}
-use Rattle.std.proofs.lemmas.Bool.Decides.{nat_tests}
-use Rattle.std.proofs.lemmas.List.{drop_at, length-map, nil_from_length}
-use Rattle.std.specs.Cmp.{both_ways}
+-- A key that is longer than a base that it starts with: its prefix with one code more than the base
+-- is a key too.
+use Rattle.std.proofs.Common.{◌≡◌, ◌≢◌, ◌∙◌, ◌≤◌, ◌<◌, ◌+◌, ℕ, Bool, true, false, List, [], ◌∷◌}
+use Rattle.std.proofs.Common.{◌++◌, ap, ap₂, arith, append_assoc, append-nil, drop, eqb, eqb-true, length}
+use Rattle.std.proofs.Common.{length-append, length-drop, map, refl, subst, sym, take, take_at}
+use Rattle.std.proofs.Math.Seq.{take-add}
+use Rattle.std.proofs.lemmas.Bool.{eqb-false}
+use Rattle.std.proofs.lemmas.List.{drop_at, length-map}
+use Rattle.unix_bytes.proofs.lemmas.lists.ListLemmas.{by_test}
 use Rattle.std.specs.List.{position_or_len}
-use Rattle.unix_path.specs.Parts.{Value, RootDir, CurDir, ParentDir, Normal}
+use Rattle.unix_path.specs.Parts.{Value, RootDir, CurDir, ParentDir, Normal, values}
 use Rattle.unix_path.specs.Prefixes.{IsPrefixOf}
 use Rattle.path_runs.specs.Spelling.{spelling_of}
 use Rattle.path_keys.specs.Codes.{AllFit, Fits}
@@ -15,12 +17,14 @@ use Rattle.path_keys.proofs.lemmas.values.CodeLemmas.{code-length}
 use Rattle.path_keys.proofs.lemmas.reading.FitLemmas.{values-fit, values-spelled}
 use Rattle.path_keys.proofs.lemmas.values.KeyLemmas.{key_of-append, key_of-cons, key_of-nil}
 use Rattle.path_keys.proofs.lemmas.values.LoweredLemmas.{first_zero, is_zero, raised-NoZero}
+use Rattle.path_tree.specs.Children.{child_of, first_code_len}
 use Rattle.path_tree.specs.Read.{is_own, key_values}
-use Rattle.path_tree.proofs.lemmas.keys.ReadLemmas.{key_values-key_of, own-is, own-key_of}
+use Rattle.path_tree.proofs.lemmas.keys.ReadLemmas.{key_values-values, own-is, own-key_of}
 use Rattle.path_tree.proofs.lemmas.keys.ReadLemmas.{own-values}
 use Rattle.path_tree.proofs.lemmas.keys.UnderLemmas.{values_begin}
+use Rattle.path_keys.proofs.lemmas.values.OrderLemmas.{begins-key_of}
 
--- where the first 0 of a code stands: in front of a mark, or behind a name
+-- the first 0 in the code of a name is after the name
 first_zero-name : (b : ℕ) (n rest : List ℕ) → Fits false (Normal (b ∷ n)) → (place : ℕ)
     → place ≡ position_or_len is_zero (code (Normal (b ∷ n)) ++ rest)
     → (length (code (Normal (b ∷ n))) ≡ length (b ∷ n) + 1) × (place ≡ length (b ∷ n))
@@ -53,7 +57,7 @@ name_long first (Normal []) rest h place is some = absurd (let e = h.some in cc)
 name_long first (Normal (b ∷ n)) rest h place is some =
     let both = first_zero-name b n rest h place is in omega (arith, both.0, both.1)
 
--- a path's key is that of the values that it stands for
+-- a path's key is the key of the components that it represents
 pub key_of-own : (key : List ℕ) → is_own key ≡ true → key ≡ key_of (key_values key)
 key_of-own key own = sym (own-is key own) ∙ ap key_of (own-values key own)
 
@@ -61,7 +65,7 @@ key_of-own key own = sym (own-is key own) ∙ ap key_of (own-values key own)
 pub IsKey-own : (key : List ℕ) → is_own key ≡ true → ∥ IsKey key ∥₁
 IsKey-own key own = ∣ (spelling_of (key_values key), own-is key own) ∣₁
 
--- the components that a key represents may be those of a path
+-- the components that a key represents may be the components of a path
 pub fit-own : (key : List ℕ) → is_own key ≡ true → AllFit true (key_values key)
 fit-own key own =
     subst (AllFit true) (own-values key own) (values-fit (spelling_of (key_values key)))
@@ -83,7 +87,31 @@ fit-front : (first : Bool) (us : List Value) (v : Value) (ws : List Value)
 fit-front first [] v ws h = (h.0, tt)
 fit-front first (u ∷ us) v ws h = (h.0, fit-front false us v ws h.1)
 
--- a key has, behind those of a base, the code of v and then those of more values
+-- the first code of bytes that begin with the code of a component is as long as that code
+first_code_len-code : (first : Bool) (v : Value) (rest : List ℕ) → Fits first v
+    → first_code_len (code v ++ rest) ≡ length (code v)
+first_code_len-code first v rest h =
+    let n = position_or_len is_zero (code v ++ rest) in
+    by_test (eqb n 0)
+    (λ e. rw e (mark_long first v rest h n refl (eqb-true n 0 e)))
+    (λ e. rw e (name_long first v rest h n refl (eqb-false n 0 e)))
+
+-- if the code of a component follows the bytes of base in a key, the child has these bytes and code
+child_of-code : (base : List ℕ) (first : Bool) (v : Value) (rest : List ℕ) → Fits first v
+    → (key : List ℕ) → drop (length base) key ≡ code v ++ rest → child_of base key ≡ base ++ code v
+child_of-code base first v rest h key is =
+    ap (λ codes. base ++ take (first_code_len codes) codes) is
+    ∙ ap (λ n. base ++ take n (code v ++ rest)) (first_code_len-code first v rest h)
+    ∙ ap (λ l. base ++ l) (take_at (code v) rest (length (code v)) refl)
+
+-- the bytes are the key of a child of base: the child of each key that starts with them
+pub record ChildKey (base c : List ℕ) : Type 0 where
+  pub own : is_own c ≡ true
+  pub some : 0 < length c
+  pub child_is : (more : List ℕ) → child_of base (c ++ more) ≡ c
+
+-- after the codes of base's components a key has the code of v, and then the codes of more
+-- components
 pub record GoesOn (base key : List ℕ) : Type 0 where
   pub v : Value
   pub more : List Value
@@ -93,11 +121,11 @@ pub record GoesOn (base key : List ℕ) : Type 0 where
   pub fit : AllFit true (key_values base ++ v ∷ [])
   pub codes : drop (length base) key ≡ code v ++ key_of more
   pub key_is : key ≡ key_of (key_values base ++ v ∷ []) ++ key_of more
-  pub long : length (key_of (key_values base ++ v ∷ [])) ≡ length base + length (code v)
+  pub front : key_of (key_values base ++ v ∷ []) ≡ base ++ code v
 
 module _ (base key : List ℕ) (own : is_own key ≡ true) (base_own : is_own base ≡ true)
     (begins : IsPrefixOf base key) (longer : length base < length key) where
-  -- `goes_on`, by the components that follow those of the base
+  -- `goes_on`, by the components after the components of the base
   with_more : (ws : List Value) → key_values base ++ ws ≡ key_values key → GoesOn base key
   with_more [] is =
       let same : length key ≡ length base =
@@ -128,87 +156,96 @@ module _ (base key : List ℕ) (own : is_own key ≡ true) (base_own : is_own ba
             ∙ append_assoc base (code v) (key_of ws))
             ∙ drop_at base (code v ++ key_of ws) (length base) refl;
         key_is = whole;
-        long = ap length front ∙ length-append base (code v);
+        front = front;
       }
 
-  -- what begins with a base's key, and is longer, goes on behind it
+  -- a key that starts with a base and is longer has a code after the base's
   pub goes_on : GoesOn base key
   goes_on =
       let under = values_begin base key base_own own begins in with_more under.0 under.1
 
-  -- the beginning of the key that has one code more than the base's
-  module _ (n : ℕ) (h : GoesOn base key) (n_is : n ≡ length base + length (code h.v)) where
-    -- these bytes are the key of the base's components and one more
-    pub child_is : take n key ≡ key_of (key_values base ++ h.v ∷ [])
-    child_is = ap (take n) h.key_is
-        ∙ take_at (key_of (key_values base ++ h.v ∷ [])) (key_of h.more) n (h.long ∙ sym n_is)
+  -- after the bytes of base comes the code of the next component
+  child_code : child_of base key ≡ base ++ code goes_on.v
+  child_code = let h = goes_on in child_of-code base h.at h.v (key_of h.more) h.fits key h.codes
 
-    -- the key has at least as many bytes
-    pub child_in_range : n < length key + 1
-    child_in_range = omega (
-      arith,
-      n_is,
-      h.long,
-      ap length h.key_is,
-      length-append (key_of (key_values base ++ h.v ∷ [])) (key_of h.more),
-    )
+  -- the key starts with the key of its child
+  pub child_begins : IsPrefixOf (child_of base key) key
+  child_begins =
+      let h = goes_on in
+      (key_of h.more, ap (λ c. c ++ key_of h.more) (child_code ∙ sym h.front) ∙ sym h.key_is)
 
-    -- they are the key of a path
-    pub child_own : is_own (take n key) ≡ true
-    child_own = ap is_own child_is ∙ own-fit (key_values base ++ h.v ∷ []) h.fit
-
-    -- they represent one component more than the base
-    one_longer : length (key_values base ++ h.v ∷ []) ≡ length (key_values base) + 1
-    one_longer = length-append (key_values base) (h.v ∷ [])
-
-    -- they represent the first components of the key
-    pub child_values : key_values (take n key)
-        ≡ take (length (key_values base) + 1) (key_values key)
-    child_values =
-        let vs = key_values base ++ h.v ∷ [] in
-        ap key_values child_is ∙ key_values-key_of true vs h.fit
-        ∙ sym (take_at vs h.more (length (key_values base) + 1) one_longer)
-        ∙ ap (take (length (key_values base) + 1)) (sym h.is)
-
-    -- of which there is one more than the base has
-    pub child_long : length (key_values (take n key)) ≡ length (key_values base) + 1
-    child_long =
-        ap (λ k. length (key_values k)) child_is
-        ∙ ap length (key_values-key_of true (key_values base ++ h.v ∷ []) h.fit) ∙ one_longer
-
-    -- no components have a key without bytes, except none
-    no_more : length (key_of h.more) ≡ 0 → h.more ≡ []
-    no_more = none h.more
-      where
-        none : (ws : List Value) → length (key_of ws) ≡ 0 → ws ≡ []
-        none [] e = refl
-        none (w ∷ ws) e = absurd (omega (
+  -- the first code after the base's bytes makes them the key of a child
+  pub child_is_key : ChildKey base (child_of base key)
+  child_is_key =
+      let h = goes_on in
+      record {
+        own = ap is_own (child_code ∙ sym h.front)
+            ∙ own-fit (key_values base ++ h.v ∷ []) h.fit;
+        some = omega (
           arith,
-          code-length w,
-          ap length (key_of-cons w ws),
-          length-append (code w) (key_of ws),
-        ))
+          ap length child_code,
+          length-append base (code h.v),
+          code-length h.v,
+        );
+        child_is = λ more.
+            ap (λ c. child_of base (c ++ more)) child_code
+            ∙ child_of-code base h.at h.v more h.fits ((base ++ code h.v) ++ more)
+            (ap (drop (length base)) (append_assoc base (code h.v) more)
+            ∙ drop_at base (code h.v ++ more) (length base) refl)
+            ∙ sym child_code;
+      }
 
-    -- the length of the key, by the components that follow the child
-    key_long : length key ≡ n + length (key_of h.more)
-    key_long = ap length h.key_is
-        ∙ length-append (key_of (key_values base ++ h.v ∷ [])) (key_of h.more)
-        ∙ ap (λ m. m + length (key_of h.more)) (h.long ∙ sym n_is)
+  -- the key has at least the bytes of base and this code
+  pub child_code_fits : length base + first_code_len (drop (length base) key) ≤ length key
+  child_code_fits =
+      let h = goes_on in
+      omega (
+        arith,
+        ap first_code_len h.codes,
+        first_code_len-code h.at h.v (key_of h.more) h.fits,
+        ap length h.codes,
+        length-append (code h.v) (key_of h.more),
+        length-drop (length base) key,
+        longer,
+      )
 
-    -- the number of its components, by those that follow the child
-    values_long : length (key_values key) ≡ length (key_values base) + 1 + length h.more
-    values_long = ap length h.is ∙ length-append (key_values base ++ h.v ∷ []) h.more
-        ∙ ap (λ m. m + length h.more) one_longer
+  -- the child's key is as many of the key's first bytes
+  pub child_of-take : take (length base + first_code_len (drop (length base) key)) key
+      ≡ child_of base key
+  child_of-take =
+      let n = first_code_len (drop (length base) key) in
+      take-add (length base) n key
+      ∙ ap (λ b. b ++ take n (drop (length base) key))
+      (ap (take (length base)) (sym begins.1) ∙ take_at base begins.0 (length base) refl)
 
-    -- it is the whole key exactly if the key has one value more than the base
-    pub child_whole : (m : ℕ) → m ≡ n → (m == length key)
-        ≡ (length (key_values key) == length (key_values base) + 1)
-    child_whole m is = both_ways _ _
-        (λ same.
-        let none : length h.more ≡ 0 = ap length (no_more (grind (arith, nat_tests, key_long))) in
-        grind (arith, nat_tests, values_long))
-        (λ same.
-        let none : length h.more ≡ 0 = grind (arith, nat_tests, values_long) in
-        let short : length (key_of h.more) ≡ 0 =
-        ap (λ ws. length (key_of ws)) (nil_from_length h.more none) ∙ ap length key_of-nil in
-        grind (arith, nat_tests, key_long))
+  -- it is the key of the base's components and the next one
+  pub child_of-own : child_of base key
+      ≡ key_of (take (length (key_values base) + 1) (key_values key))
+  child_of-own =
+      let h = goes_on in
+      let n = length (key_values base) + 1 in
+      child_code ∙ sym h.front
+      ∙ ap key_of (sym (take_at (key_values base ++ h.v ∷ []) h.more n
+      (length-append (key_values base) (h.v ∷ []))))
+      ∙ ap (λ us. key_of (take n us)) (sym h.is)
+
+-- the child of a path's key with which a longer path's key starts is the key of one component more
+pub child_of-values : (base s : List ℕ) → IsPrefixOf (values base) (values s)
+    → length (values base) < length (values s)
+    → child_of (key_of (values base)) (key_of (values s))
+    ≡ key_of (take (length (values base) + 1) (values s))
+child_of-values base s begins longer =
+    let k = key_of (values base) in
+    let l = key_of (values s) in
+    let inside : IsPrefixOf k l = begins-key_of (values base) (values s) begins in
+    child_of-own k l (own-key_of s) (own-key_of base) inside (more inside.0 inside.1)
+    ∙ ap₂ (λ us vs. key_of (take (length us + 1) vs)) (key_values-values base) (key_values-values s)
+  where
+    more : (x : List ℕ) → key_of (values base) ++ x ≡ key_of (values s)
+        → length (key_of (values base)) < length (key_of (values s))
+    more [] is =
+        let same : values base ≡ values s =
+        sym (key_values-values base)
+        ∙ ap key_values (sym (append-nil (key_of (values base))) ∙ is) ∙ key_values-values s in
+        absurd (omega (arith, ap length same, longer))
+    more (b ∷ x) is = omega (arith, ap length is, length-append (key_of (values base)) (b ∷ x))

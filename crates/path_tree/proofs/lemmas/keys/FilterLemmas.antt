@@ -136,10 +136,10 @@ module _ {K V : Type 0} (bytes_of : K → List ℕ) (test : List ℕ → Bool) (
       → lookup (is_it bytes_of key) entries ≡ None
   lookup-fails [] all = refl
   lookup-fails (e ∷ entries) all =
-      let left = lookup (is_it bytes_of key) entries in
+      let found = lookup (is_it bytes_of key) entries in
       let rest = lookup-fails entries all.1 in
       elim (bytes_cmp key (bytes_of e.0)) as (λ o. bytes_cmp key (bytes_of e.0) ≡ o
-      → cond (is_eq o) (Some e.1) left ≡ None) [
+      → cond (is_eq o) (Some e.1) found ≡ None) [
         | Less ↦ λ _. rest
         | Equal ↦ λ same. absurd (let clash : false ≡ true =
             sym fails ∙ ap test (exact_bytes key (bytes_of e.0) same) ∙ all.0 in cc)
@@ -156,17 +156,17 @@ module _ {K V : Type 0} (bytes_of : K → List ℕ) (test : List ℕ → Bool) (
 -- keys of `marked` and the keys of `left` has the keys of all entries
 abbrev pub FiltersRest : {K V : Type 0} → (K → List ℕ) → (List ℕ → Bool) → List (K × V)
     → List (K × V) → Type 0
-FiltersRest bytes_of marked left all = (more : List ℕ → Bool)
+FiltersRest bytes_of marked remaining all = (more : List ℕ → Bool)
     → ((key : List ℕ) → marked key ≡ true → more key ≡ true)
-    → AllKeys bytes_of more left → AllKeys bytes_of more all
+    → AllKeys bytes_of more remaining → AllKeys bytes_of more all
 
 -- if the filter `old` has the keys of all entries before e, and the filter `new` has the key of e
 -- and each key that `old` has, then `new` has the keys of all entries before the rest after e
 pub filters_more : {K V : Type 0} (bytes_of : K → List ℕ) (old new : List ℕ → Bool) (e : K × V)
-    (left all : List (K × V)) → FiltersRest bytes_of old (e ∷ left) all
+    (remaining all : List (K × V)) → FiltersRest bytes_of old (e ∷ remaining) all
     → new (bytes_of e.0) ≡ true → ((key : List ℕ) → old key ≡ true → new key ≡ true)
-    → FiltersRest bytes_of new left all
-filters_more bytes_of old new e left all before marked kept =
+    → FiltersRest bytes_of new remaining all
+filters_more bytes_of old new e remaining all before marked kept =
     λ more wider rest. before more (λ key is. wider key (kept key is))
-    (All-cons (λ k. more (bytes_of k) ≡ true) e.0 (keys_of left)
+    (All-cons (λ k. more (bytes_of k) ≡ true) e.0 (keys_of remaining)
     (wider (bytes_of e.0) marked) rest)

@@ -31,11 +31,11 @@ fit-append : (first : Bool) (us ws : List Value) → AllFit first us → AllFit 
 fit-append first [] ws h k = all_fit_anywhere first ws k
 fit-append first (u ∷ us) ws h k = (h.0, fit-append false us ws h.1 k)
 
--- if v, us and ws together may be components of a path, ws may follow other components
-fit-behind : (first : Bool) (v : Value) (us ws : List Value) → AllFit first (v ∷ (us ++ ws))
+-- components after some first components may follow a first component
+fit-after : (first : Bool) (v : Value) (us ws : List Value) → AllFit first (v ∷ (us ++ ws))
     → AllFit false ws
-fit-behind first v [] ws h = h.1
-fit-behind first v (u ∷ us) ws h = fit-behind false u us ws h.1
+fit-after first v [] ws h = h.1
+fit-after first v (u ∷ us) ws h = fit-after false u us ws h.1
 
 module _ (key from to : List ℕ) (own : is_own key ≡ true) (from_own : is_own from ≡ true)
     (to_own : is_own to ≡ true) (some : 0 < length from) (begins : IsPrefixOf from key) where
@@ -53,7 +53,7 @@ module _ (key from to : List ℕ) (own : is_own key ≡ true) (from_own : is_own
       let empty = ap length (key_of-own from from_own ∙ ap key_of none ∙ key_of-nil) in
       absurd (omega (arith, empty))
   follows-by (f ∷ fs) ws same is =
-      fit-behind true f fs ws (subst (AllFit true) (sym is) (fit-own key own))
+      fit-after true f fs ws (subst (AllFit true) (sym is) (fit-own key own))
 
   -- the components of the key start with those of `from`, and the components after them may follow
   -- other components

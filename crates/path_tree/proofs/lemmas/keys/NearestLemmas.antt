@@ -6,6 +6,8 @@ use Rattle.std.proofs.Common.{take_all, take_at, take-take, true, true≢false}
 use Rattle.std.proofs.lemmas.List.{nil_from_length}
 use Rattle.unix_path.specs.Parts.{Value, values}
 use Rattle.unix_path.specs.Prefixes.{IsPrefixOf, stripped_of}
+use Rattle.unix_path.specs.Rest.{rest}
+use Rattle.unix_path.proofs.lemmas.rests.RestLemmas.{rest-rest}
 use Rattle.path_runs.specs.Spelling.{spelling_of}
 use Rattle.path_runs.proofs.lemmas.spelling.ReadBackLemmas.{values-spelling_of}
 use Rattle.path_runs.specs.Rows.{value_at}
@@ -15,7 +17,7 @@ use Rattle.path_tree.specs.Nearest.{IsNearest}
 use Rattle.path_tree.specs.Read.{is_own, key_values}
 use Rattle.path_tree.proofs.lemmas.keys.ReadLemmas.{own-is}
 
--- a path's key is the key of the values that it stands for
+-- a path's key is the key of the components that it represents
 pub key-is : (key s : List ℕ) → is_own key ≡ true → key_values key ≡ values s
     → key ≡ key_of (values s)
 key-is key s own is =
@@ -40,20 +42,22 @@ is_none None h = refl
 is_none (Some a) h = absurd (h refl)
 
 module _ {V : Type 0} (s key : List ℕ) (rows : List (List Value × V)) where
-  -- what is left of the path s begins it, has the first `end` bytes of the key as its key, and no
-  -- longer beginning of s has a row
-  pub record GoesUp (end : ℕ) (left : List ℕ) : Type 0 where
-    pub begins : IsPrefixOf (values left) (values s)
+  -- `prefix` is the path s without some of its last components, its key is the first `end` bytes of
+  -- the key, and no longer prefix of s has a row
+  pub record GoesUp (end : ℕ) (prefix : List ℕ) : Type 0 where
+    pub prefix_is : (m : ℕ) × (prefix ≡ rest s 0 m)
+    pub begins : IsPrefixOf (values prefix) (values s)
     pub in_range : end ≤ length key
-    pub key_is : take end key ≡ key_of (values left)
+    pub key_is : take end key ≡ key_of (values prefix)
     pub longest : (v : List Value) → IsSome (value_at v rows) → IsPrefixOf v (values s)
-        → length v ≤ length (values left)
+        → length v ≤ length (values prefix)
 
-  -- at first all of it is left
-  pub goes_up : (end : ℕ) (left : List ℕ) → is_own key ≡ true → key_values key ≡ values s
-      → end ≡ length key → values left ≡ values s → GoesUp end left
-  goes_up end left own is all same = record {
-    begins = ([], append-nil (values left) ∙ same);
+  -- it holds of the whole path and the whole key
+  pub goes_up : (end : ℕ) (prefix : List ℕ) → is_own key ≡ true → key_values key ≡ values s
+      → end ≡ length key → prefix ≡ rest s 0 0 → values prefix ≡ values s → GoesUp end prefix
+  goes_up end prefix own is all whole same = record {
+    prefix_is = (0, whole);
+    begins = ([], append-nil (values prefix) ∙ same);
     in_range = omega (arith, all);
     key_is = ap (λ n. take n key) all ∙ take_all (length key) key (omega arith)
         ∙ key-is key s own is ∙ ap key_of (sym same);
@@ -65,37 +69,41 @@ module _ {V : Type 0} (s key : List ℕ) (rows : List (List Value × V)) where
     );
   }
 
-  -- the key of what is left ends in the code of its last part
-  key_cut : (end : ℕ) (left new : List ℕ) (v : Value) → GoesUp end left
-      → values left ≡ values new ++ v ∷ [] → take end key ≡ key_of (values new) ++ code v
-  key_cut end left new v h is =
+  -- the key of the prefix ends in the code of its last component
+  key_cut : (end : ℕ) (prefix new : List ℕ) (v : Value) → GoesUp end prefix
+      → values prefix ≡ values new ++ v ∷ [] → take end key ≡ key_of (values new) ++ code v
+  key_cut end prefix new v h is =
       h.key_is ∙ ap key_of is ∙ key_of-append (values new) (v ∷ [])
       ∙ ap (λ k. key_of (values new) ++ k)
       (key_of-cons v [] ∙ ap (λ k. code v ++ k) key_of-nil ∙ append-nil (code v))
 
   -- the length of that key, by the prefix without its last component
-  key_long : (end : ℕ) (left new : List ℕ) (v : Value) → GoesUp end left
-      → values left ≡ values new ++ v ∷ [] → end ≡ length (key_of (values new)) + length (code v)
-  key_long end left new v h is =
-      sym (length-take-le end key h.in_range) ∙ ap length (key_cut end left new v h is)
+  key_long : (end : ℕ) (prefix new : List ℕ) (v : Value) → GoesUp end prefix
+      → values prefix ≡ values new ++ v ∷ [] → end ≡ length (key_of (values new)) + length (code v)
+  key_long end prefix new v h is =
+      sym (length-take-le end key h.in_range) ∙ ap length (key_cut end prefix new v h is)
       ∙ length-append (key_of (values new)) (code v)
 
   -- so it is at least as long as the code of that component
-  pub code_fits : (end : ℕ) (left new : List ℕ) (v : Value) → GoesUp end left
-      → values left ≡ values new ++ v ∷ [] → length (code v) ≤ end
-  code_fits end left new v h is = omega (arith, key_long end left new v h is)
+  pub code_fits : (end : ℕ) (prefix new : List ℕ) (v : Value) → GoesUp end prefix
+      → values prefix ≡ values new ++ v ∷ [] → length (code v) ≤ end
+  code_fits end prefix new v h is = omega (arith, key_long end prefix new v h is)
 
-  -- where what is left has no row, its last part is taken off, and that part's code off the key
-  pub goes_on : (end : ℕ) (left new : List ℕ) (v : Value) → GoesUp end left
-      → value_at (values left) rows ≡ None → values left ≡ values new ++ v ∷ []
-      → GoesUp (end - length (code v)) new
-  goes_on end left new v h none is =
-      let cut = key_cut end left new v h is in
+  -- if the prefix has no row, it loses its last component, and the key loses that component's code
+  pub goes_on : (end : ℕ) (prefix new : List ℕ) (v : Value) → GoesUp end prefix
+      → value_at (values prefix) rows ≡ None → values prefix ≡ values new ++ v ∷ []
+      → new ≡ rest prefix 0 1 → GoesUp (end - length (code v)) new
+  goes_on end prefix new v h none is new_is =
+      let cut = key_cut end prefix new v h is in
       let long : end - length (code v) ≡ length (key_of (values new)) =
-      omega (arith, key_long end left new v h is) in
-      let shorter : length (values left) ≡ length (values new) + 1 =
+      omega (arith, key_long end prefix new v h is) in
+      let shorter : length (values prefix) ≡ length (values new) + 1 =
       ap length is ∙ length-append (values new) (v ∷ []) in
       record {
+        prefix_is = (
+          h.prefix_is.0 + 1,
+          new_is ∙ ap (λ w. rest w 0 1) h.prefix_is.1 ∙ rest-rest s 0 h.prefix_is.0 0 1,
+        );
         begins = (
           v ∷ h.begins.0,
           sym (append_assoc (values new) (v ∷ []) h.begins.0)
@@ -109,30 +117,30 @@ module _ {V : Type 0} (s key : List ℕ) (rows : List (List Value × V)) where
           arith,
           shorter,
           h.longest u some begins,
-          λ (same : length u ≡ length (values left)).
+          λ (same : length u ≡ length (values prefix)).
               none_some (value_at u rows)
               (ap (λ w. value_at w rows)
-              (same_prefix u (values left) (values s) begins h.begins same) ∙ none)
+              (same_prefix u (values prefix) (values s) begins h.begins same) ∙ none)
               some,
         );
       }
 
-  -- a row at what is left is the nearest
-  pub is_nearest : (end : ℕ) (left rest : List ℕ) (x : V) → GoesUp end left
-      → Some x ≡ value_at (values left) rows → rest ≡ stripped_of s left
+  -- the row of the prefix, if it has one, is the nearest row
+  pub is_nearest : (end : ℕ) (prefix rest : List ℕ) (x : V) → GoesUp end prefix
+      → Some x ≡ value_at (values prefix) rows → rest ≡ stripped_of s prefix
       → IsNearest s rows rest x
-  is_nearest end left rest x h found is = record {
-    base = values left;
+  is_nearest end prefix rest x h found is = record {
+    base = values prefix;
     value_is = sym found;
     longest = (h.begins, h.longest);
     rest_is = is;
   }
 
   -- without one at the empty path there is none
-  pub none_nearer : (end : ℕ) (left : List ℕ) → GoesUp end left
-      → value_at (values left) rows ≡ None → values left ≡ []
+  pub none_nearer : (end : ℕ) (prefix : List ℕ) → GoesUp end prefix
+      → value_at (values prefix) rows ≡ None → values prefix ≡ []
       → (v : List Value) → IsPrefixOf v (values s) → value_at v rows ≡ None
-  none_nearer end left h none empty v begins =
+  none_nearer end prefix h none empty v begins =
       is_none (value_at v rows) (λ some.
       let long : length v ≡ 0 = omega (arith, h.longest v some begins, ap length empty) in
       none_some (value_at v rows)

@@ -54,11 +54,11 @@ key_values-key_of first (v ∷ vs) h =
     ap key_values (key_of-cons v vs) ∙ values_from-code first v h.0 (key_of vs)
     ∙ ap (λ us. v ∷ us) (key_values-key_of false vs h.1)
 
--- the key of a path s represents the components of s
+-- the key of a path represents the path's components
 pub key_values-values : (s : List ℕ) → key_values (key_of (values s)) ≡ values s
 key_values-values s = key_values-key_of true (values s) (values-fit s)
 
--- the key of a path s is the key of the canonical form of the components that the key represents
+-- the key of a path passes the test
 pub own-key_of : (s : List ℕ) → is_own (key_of (values s)) ≡ true
 own-key_of s =
     let key = key_of (values s) in
@@ -89,20 +89,19 @@ bytes_cmp-own k l own other =
     ∙ bytes_cmp-keys (values s) (values t) (values-coded s) (values-coded t)
     ∙ ap₂ values_cmp (own-values k own) (own-values l other)
 
--- `key` is the key of a path, and represents the components v
-pub record StandsFor (key : List ℕ) (v : List Value) : Type 0 where
+-- the bytes are a path's key, and represent the components v
+pub record Represents (key : List ℕ) (v : List Value) : Type 0 where
   pub own : is_own key ≡ true
   pub is : key_values key ≡ v
 
--- if `key` is the key of a path, it represents the components that are read from it
-pub own-stands : (key : List ℕ) → is_own key ≡ true → StandsFor key (key_values key)
-own-stands key own = record { own = own; is = refl }
+-- a path's key represents its components
+pub own-represents : (key : List ℕ) → is_own key ≡ true → Represents key (key_values key)
+own-represents key own = record { own = own; is = refl }
 
--- if `key` represents v, and l is the key of a path, `key` and l are in the order of v and the
--- components that l represents
-pub bytes_cmp-stands : (key : List ℕ) (v : List Value) → StandsFor key v → (l : List ℕ)
+-- such a key is in the order of its values
+pub bytes_cmp-represents : (key : List ℕ) (v : List Value) → Represents key v → (l : List ℕ)
     → is_own l ≡ true → bytes_cmp key l ≡ values_cmp v (key_values l)
-bytes_cmp-stands key v h l other =
+bytes_cmp-represents key v h l other =
     bytes_cmp-own key l h.own other ∙ ap (λ w. values_cmp w (key_values l)) h.is
 
 -- if `key` is `held`, and `held` is the key of a path, then `key` passes the test `is_own`

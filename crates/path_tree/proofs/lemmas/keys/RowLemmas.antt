@@ -11,7 +11,7 @@ use Rattle.unix_path.specs.Order.{values_cmp}
 use Rattle.unix_path.specs.Parts.{Value}
 use Rattle.path_keys.specs.Ranges.{bytes_cmp}
 use Rattle.path_tree.specs.Read.{is_own, key_values}
-use Rattle.path_tree.proofs.lemmas.keys.ReadLemmas.{StandsFor, bytes_cmp-stands}
+use Rattle.path_tree.proofs.lemmas.keys.ReadLemmas.{Represents, bytes_cmp-represents}
 
 module _ {K : Type 0} (bytes_of : K → List ℕ) where
   -- true if the tree's key k has the bytes `key`
@@ -23,15 +23,15 @@ module _ {K : Type 0} (bytes_of : K → List ℕ) where
   keys_cmp k l = bytes_cmp (bytes_of k) (bytes_of l)
 
 module _ {K V : Type 0} (bytes_of : K → List ℕ) where
-  -- the rows of these entries: the components that each key represents, with its value
+  -- the components that each key represents, with its value
   abbrev pub rows_by : List (K × V) → List (List Value × V)
   rows_by entries = map (λ e. (key_values (bytes_of e.0), e.1)) entries
 
-  -- all keys of the entries are keys of paths
+  -- all keys are keys of paths
   abbrev pub AllOwn : List (K × V) → Type 0
   AllOwn entries = AllByRecursion (λ k. is_own (bytes_of k) ≡ true) (keys_of entries)
 
-  -- all keys of the entries are keys of paths, in the form of the tree's invariant
+  -- all keys are keys of paths, in the form of the tree's invariant
   abbrev pub Own : List (K × V) → Type 0
   Own entries = AllPass (λ k. is_own (bytes_of k)) (keys_of entries)
 
@@ -41,23 +41,22 @@ module _ {K V : Type 0} (bytes_of : K → List ℕ) where
       recursion_from_All (λ k. is_own (bytes_of k) ≡ true) (keys_of entries) own
 
 module _ {K : Type 0} (bytes_of : K → List ℕ) (key : List ℕ) (v : List Value)
-    (stands : StandsFor key v) where
-  -- if `key` represents v, and the bytes of k are the key of a path, they are `key` if and only if
-  -- they represent v
+    (represents : Represents key v) where
+  -- two keys are the same if and only if their components are equal
   is_it-is_at : (k : K) → is_own (bytes_of k) ≡ true
       → is_it bytes_of key k ≡ is_at (values_cmp v) (key_values (bytes_of k))
-  is_it-is_at k other = ap is_eq (bytes_cmp-stands key v stands (bytes_of k) other)
+  is_it-is_at k other = ap is_eq (bytes_cmp-represents key v represents (bytes_of k) other)
 
 module _ {K V : Type 0} (bytes_of : K → List ℕ) (key : List ℕ) (v : List Value)
-    (stands : StandsFor key v) where
-  -- the same as `lookup-rows_by`, with `AllOwn` instead of `Own`, by recursion on the entries
+    (represents : Represents key v) where
+  -- `lookup-rows_by`, by recursion on the entries
   lookup-all_own : (entries : List (K × V)) → AllOwn bytes_of entries
       → lookup (is_it bytes_of key) entries
       ≡ lookup (is_at (values_cmp v)) (rows_by bytes_of entries)
   lookup-all_own [] all = refl
   lookup-all_own (e ∷ entries) all =
       ap (λ b. cond b (Some e.1) (lookup (is_it bytes_of key) entries))
-      (is_it-is_at bytes_of key v stands e.0 all.0)
+      (is_it-is_at bytes_of key v represents e.0 all.0)
       ∙ ap (λ r. cond (is_at (values_cmp v) (key_values (bytes_of e.0))) (Some e.1) r)
       (lookup-all_own entries all.1)
 
@@ -75,12 +74,12 @@ module _ {K V : Type 0} (bytes_of : K → List ℕ) (key : List ℕ) (v : List V
   remove-all_own [] all = refl
   remove-all_own (e ∷ entries) all =
       let row : List Value × V = (key_values (bytes_of e.0), e.1) in
-      let left = remove_entry (is_it bytes_of key) entries in
+      let removed = remove_entry (is_it bytes_of key) entries in
       let rows = rows_by bytes_of entries in
-      ap (λ b. rows_by bytes_of (cond b entries (e ∷ left)))
-      (is_it-is_at bytes_of key v stands e.0 all.0)
+      ap (λ b. rows_by bytes_of (cond b entries (e ∷ removed)))
+      (is_it-is_at bytes_of key v represents e.0 all.0)
       ∙ elim (is_at (values_cmp v) row.0) as (λ b.
-      rows_by bytes_of (cond b entries (e ∷ left))
+      rows_by bytes_of (cond b entries (e ∷ removed))
       ≡ cond b rows (row ∷ remove_entry (is_at (values_cmp v)) rows)) [
         | true ↦ refl
         | false ↦ ap (λ rows. row ∷ rows) (remove-all_own entries all.1)
@@ -103,7 +102,7 @@ module _ {K V : Type 0} (bytes_of : K → List ℕ) (key : List ℕ) (v : List V
       let put = set_value (is_it bytes_of key) entries x in
       let rows = rows_by bytes_of entries in
       ap (λ b. rows_by bytes_of (cond b ((e.0, x) ∷ entries) (e ∷ put)))
-      (is_it-is_at bytes_of key v stands e.0 all.0)
+      (is_it-is_at bytes_of key v represents e.0 all.0)
       ∙ elim (is_at (values_cmp v) row.0) as (λ b.
       rows_by bytes_of (cond b ((e.0, x) ∷ entries) (e ∷ put))
       ≡ cond b ((row.0, x) ∷ rows) (row ∷ set_value (is_at (values_cmp v)) rows x)) [
@@ -119,24 +118,24 @@ module _ {K V : Type 0} (bytes_of : K → List ℕ) (key : List ℕ) (v : List V
   set_value-rows_by entries x all = set_value-all_own entries x (all_own bytes_of entries all)
 
 module _ {K V : Type 0} (bytes_of : K → List ℕ) (key : K) (v : List Value)
-    (stands : StandsFor (bytes_of key) v) where
-  -- the same as `insert-rows_by`, with `AllOwn` instead of `Own`, by recursion on the entries
+    (represents : Represents (bytes_of key) v) where
+  -- `insert-rows_by`, by recursion on the entries
   insert-all_own : (entries : List (K × V)) (x : V) → AllOwn bytes_of entries
       → rows_by bytes_of (insert_entry (keys_cmp bytes_of) entries key x)
       ≡ insert_entry values_cmp (rows_by bytes_of entries) v x
-  insert-all_own [] x all = ap (λ w. (w, x) ∷ []) stands.is
+  insert-all_own [] x all = ap (λ w. (w, x) ∷ []) represents.is
   insert-all_own (e ∷ entries) x all =
       let row : List Value × V = (key_values (bytes_of e.0), e.1) in
       let put = insert_entry (keys_cmp bytes_of) entries key x in
       let rows = rows_by bytes_of entries in
       ap (λ o. rows_by bytes_of
       (match_ordering o ((key, x) ∷ e ∷ entries) ((e.0, x) ∷ entries) (e ∷ put)))
-      (bytes_cmp-stands (bytes_of key) v stands (bytes_of e.0) all.0)
+      (bytes_cmp-represents (bytes_of key) v represents (bytes_of e.0) all.0)
       ∙ elim (values_cmp v row.0) as (λ o.
       rows_by bytes_of (match_ordering o ((key, x) ∷ e ∷ entries) ((e.0, x) ∷ entries) (e ∷ put))
       ≡ match_ordering o ((v, x) ∷ row ∷ rows) ((row.0, x) ∷ rows)
       (row ∷ insert_entry values_cmp rows v x)) [
-        | Less ↦ ap (λ w. (w, x) ∷ row ∷ rows) stands.is
+        | Less ↦ ap (λ w. (w, x) ∷ row ∷ rows) represents.is
         | Equal ↦ refl
         | Greater ↦ ap (λ rows. row ∷ rows) (insert-all_own entries x all.1)
       ]

@@ -3,8 +3,6 @@
 use Rattle.std.proofs.Common.{◌≡◌, ◌∙◌, ◌&&◌, ℕ, Bool, true, false, cond, List, [], ◌∷◌}
 use Rattle.std.proofs.Common.{Some, None, Ordering, Less, Equal, Greater, IfSome}
 use Rattle.std.proofs.Common.{ap, append-nil, not, refl, sym, subst, subst₂, is_gt, is_le, arith}
-use Rattle.std.specs.Cmp.{both_ways}
-use Rattle.std.specs.Cmp.Lexicographic.{nat_list_cmp_total}
 use Rattle.std.specs.List.{AllByRecursion, filter}
 use Rattle.std.specs.List.Sorted.{IsStrictlySortedBy}
 use Rattle.std.specs.Map.{keys_of}
@@ -13,13 +11,11 @@ use Rattle.unix_path.specs.Order.{values_cmp}
 use Rattle.unix_path.specs.Parts.{Value}
 use Rattle.unix_path.specs.Prefixes.{IsPrefixOf}
 use Rattle.path_runs.specs.Spelling.{spelling_of}
-use Rattle.path_runs.specs.Rows.{is_under}
-use Rattle.path_runs.proofs.lemmas.rows.UnderLemmas.{begins_from_under, under_from_begins}
-use Rattle.path_keys.specs.Ranges.{bytes_cmp, end_of, LiesUnder}
+use Rattle.path_keys.specs.Ranges.{bytes_cmp, end_of}
 use Rattle.path_keys.proofs.lemmas.values.CodeLemmas.{values-coded}
 use Rattle.path_keys.proofs.lemmas.values.OrderLemmas.{key_of-begins, begins-key_of}
 use Rattle.path_keys.proofs.lemmas.values.RangeLemmas.{begins-lies_under, end_of-some}
-use Rattle.path_tree.specs.Read.{is_own, key_values, values_from}
+use Rattle.path_tree.specs.Read.{is_own, key_values}
 use Rattle.path_tree.proofs.lemmas.keys.ReadLemmas.{bytes_cmp-own, own-is, own-values}
 use Rattle.path_tree.proofs.lemmas.keys.RowLemmas.{AllOwn, Own, all_own, keys_cmp, rows_by}
 
@@ -69,44 +65,10 @@ second_true true true h = refl
 second_true true false h = h
 second_true false q h = absurd (let e = h in cc)
 
--- a key lies between the base's and the end of its range exactly if its values begin with those
--- of the base
-pub between-under : (base end l : List ℕ) → end_of base ≡ Some end → is_own base ≡ true
-    → is_own l ≡ true
-    → (is_le (bytes_cmp base l) && not (is_le (bytes_cmp end l)))
-    ≡ is_under (key_values base) (key_values l)
-between-under base end l ends own other =
-    let from = is_le (bytes_cmp base l) in
-    let before = not (is_le (bytes_cmp end l)) in
-    both_ways (from && before) (is_under (key_values base) (key_values l))
-    (λ both.
-    let less = less_from_not_le (bytes_cmp l end)
-    (ap (λ o. not (is_le o)) (sym (nat_list_cmp_total.antisymm end l))
-    ∙ second_true from before both) in
-    let lies : LiesUnder base l = (
-      first_true from before both,
-      subst (λ o. IfSome o (λ end. bytes_cmp l end ≡ Less)) (sym ends) less,
-    ) in
-    under_from_begins (key_values base) (key_values l)
-    (values_begin base l own other ((begins-lies_under base l).1 lies)))
-    (λ under.
-    let lies = (begins-lies_under base l).0
-    (key_begins base l own other (begins_from_under (key_values base) (key_values l) under)) in
-    both_true from before lies.0
-    (less_not_le (bytes_cmp end l) (bytes_cmp l end) (nat_list_cmp_total.antisymm end l)
-    (subst (λ o. IfSome o (λ end. bytes_cmp l end ≡ Less)) ends lies.1)))
-
 -- a key whose range has no end has no bytes
 pub endless : (key : List ℕ) → end_of key ≡ None → key ≡ []
 endless [] is = refl
 endless (b ∷ bs) is = absurd (let e = sym is ∙ end_of-some (b ∷ bs) (omega arith) in cc)
-
--- all values are under those of the empty key
-pub all-under : (base : List ℕ) → base ≡ [] → (v : List Value)
-    → true ≡ is_under (key_values base) v
-unfolding values_from
-all-under base none v =
-    sym (ap (λ k. is_under (key_values k) v) none ∙ under_from_begins [] v (v, refl))
 
 module _ {K V : Type 0} (bytes_of : K → List ℕ) (test : K → Bool) (keep : List Value → Bool)
     (is : (k : K) → is_own (bytes_of k) ≡ true → test k ≡ keep (key_values (bytes_of k))) where
@@ -134,17 +96,16 @@ module _ {K V : Type 0} (bytes_of : K → List ℕ) (test : K → Bool) (keep : 
   filter-rows_by entries all = filter-all_own entries (all_own bytes_of entries all)
 
 module _ {K V : Type 0} (bytes_of : K → List ℕ) where
-  -- if k is less than all keys of the entries, and all of them are keys of paths, the components of
-  -- k are less than those of all rows
-  behind-all_own : (k : K) (entries : List (K × V)) → is_own (bytes_of k) ≡ true
+  -- what is greater by its bytes is greater by its components
+  greater-all_own : (k : K) (entries : List (K × V)) → is_own (bytes_of k) ≡ true
       → AllOwn bytes_of entries
       → AllByRecursion (λ l. keys_cmp bytes_of k l ≡ Less) (keys_of entries)
       → AllByRecursion (λ w. values_cmp (key_values (bytes_of k)) w ≡ Less)
       (keys_of (rows_by bytes_of entries))
-  behind-all_own k [] own all behind = tt
-  behind-all_own k (e ∷ entries) own all behind = (
-    sym (bytes_cmp-own (bytes_of k) (bytes_of e.0) own all.0) ∙ behind.0,
-    behind-all_own k entries own all.1 behind.1,
+  greater-all_own k [] own all greater = tt
+  greater-all_own k (e ∷ entries) own all greater = (
+    sym (bytes_cmp-own (bytes_of k) (bytes_of e.0) own all.0) ∙ greater.0,
+    greater-all_own k entries own all.1 greater.1,
   )
 
   -- the same as `sorted-rows_by`, with `AllOwn` instead of `Own`, by recursion on the entries
@@ -154,7 +115,7 @@ module _ {K V : Type 0} (bytes_of : K → List ℕ) where
   unfolding IsStrictlySortedBy
   sorted-all_own [] all sorted = tt
   sorted-all_own (e ∷ entries) all sorted =
-      (behind-all_own e.0 entries all.0 all.1 sorted.0, sorted-all_own entries all.1 sorted.1)
+      (greater-all_own e.0 entries all.0 all.1 sorted.0, sorted-all_own entries all.1 sorted.1)
 
   -- if all keys of the entries are keys of paths, and strictly increasing, the components of the
   -- rows are strictly increasing

@@ -9,7 +9,7 @@ use Rattle.std.specs.Map.{keys_of}
 use Rattle.std.specs.Option.{option_map}
 use Rattle.unix_bytes.proofs.lemmas.lists.ListLemmas.{by_test}
 use Rattle.path_keys.specs.Ranges.{bytes_cmp}
-use Rattle.path_tree.specs.Changed.{entries_changed, entries_in_both, lent_both}
+use Rattle.path_tree.specs.Changed.{entries_changed, entries_in_both, borrowed_both}
 use Rattle.path_tree.specs.Rows.{entry_at}
 
 -- the keys of entries with two values
@@ -18,7 +18,7 @@ both_keys both = map (λ b. b.0) both
 
 -- the keys of borrowed entries with two values are the keys of the entries
 pub both_keys-lent : {V W : Type 0} (both : List (Bor (List ℕ) × Bor V × Bor W))
-    → map (λ b. b.0.now) both ≡ both_keys (map lent_both both)
+    → map (λ b. b.0.now) both ≡ both_keys (map borrowed_both both)
 both_keys-lent [] = refl
 both_keys-lent (b ∷ both) = ap (λ l. b.0.now ∷ l) (both_keys-lent both)
 

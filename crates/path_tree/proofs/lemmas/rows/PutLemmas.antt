@@ -1,10 +1,8 @@
 -- Entries that are inserted into rows, the last one first.
 use Rattle.std.proofs.Common.{◌≡◌, ◌∙◌, true, List, [], ◌∷◌, ◌++◌, ap, append_assoc, append-nil}
 use Rattle.std.proofs.Common.{refl, subst, sym}
-use Rattle.std.specs.BTreeMap.{insert_entry}
 use Rattle.std.specs.List.{AllByRecursion}
 use Rattle.std.specs.Map.{keys_of}
-use Rattle.unix_path.specs.Order.{values_cmp}
 use Rattle.unix_path.specs.Parts.{Value}
 use Rattle.path_tree.specs.Moved.{rows_with}
 use Rattle.path_tree.specs.Read.{is_own, key_values}
@@ -21,9 +19,9 @@ key_rows-append (e ∷ es) fs = ap (λ l. (key_values e.0.items, e.1) ∷ l) (ke
 -- `new` is the old rows with the last of all entries inserted, and the entries `left` remain to be
 -- inserted
 pub record PutsLast {V : Type 0} (all : List (Key × V)) (old : List (List Value × V))
-    (left : List (Key × V)) (new : List (List Value × V)) : Type 0 where
+    (remaining : List (Key × V)) (new : List (List Value × V)) : Type 0 where
   pub done : List (Key × V)
-  pub split : all ≡ left ++ done
+  pub split : all ≡ remaining ++ done
   pub rows : new ≡ rows_with old (key_rows done)
 
 module _ {V : Type 0} (all : List (Key × V)) (old : List (List Value × V)) where
@@ -31,31 +29,22 @@ module _ {V : Type 0} (all : List (Key × V)) (old : List (List Value × V)) whe
   pub puts_none : PutsLast all old all old
   puts_none = record { done = []; split = sym (append-nil all); rows = refl }
 
-  module _ (left : List (Key × V)) (new : List (List Value × V)) (h : PutsLast all old left new)
-      (others : List (Key × V)) (k : Key) (x : V) (is : left ≡ others ++ (k, x) ∷ []) where
-    -- then one more
-    pub puts_one : (more : List (List Value × V))
-        → more ≡ insert_entry values_cmp new (key_values k.items) x → PutsLast all old others more
-    puts_one more put = record {
-      done = (k, x) ∷ h.done;
-      split = h.split ∙ ap (λ l. l ++ h.done) is ∙ append_assoc others ((k, x) ∷ []) h.done;
-      rows = put ∙ ap (λ l. insert_entry values_cmp l (key_values k.items) x) h.rows;
-    }
-
-    -- whose key is the key of a path
+  module _ (remaining : List (Key × V)) (new : List (List Value × V)) (h : PutsLast all old remaining new)
+      (others : List (Key × V)) (k : Key) (x : V) (is : remaining ≡ others ++ (k, x) ∷ []) where
+    -- the last of the others has the key of a path
     pub one_own : Own (λ (k : Key). k.items) all → is_own k.items ≡ true
     one_own own = (all_rest (λ (k : Key). is_own k.items ≡ true) others ((k, x) ∷ h.done)
         (subst (λ l. AllByRecursion (λ (k : Key). is_own k.items ≡ true) (keys_of l))
         (h.split ∙ ap (λ l. l ++ h.done) is ∙ append_assoc others ((k, x) ∷ []) h.done)
         (all_own (λ k. k.items) all own))).0
 
-  -- the rows are the old ones with the last rows of all entries inserted
-  pub puts_end : (left : List (Key × V)) (new : List (List Value × V)) → PutsLast all old left new
+  -- the entries that were inserted are the last ones
+  pub puts_end : (remaining : List (Key × V)) (new : List (List Value × V)) → PutsLast all old remaining new
       → (front : List (List Value × V)) × ((last : List (List Value × V))
       × (key_rows all ≡ front ++ last) × (new ≡ rows_with old last))
-  puts_end left new h = (
-    key_rows left,
-    (key_rows h.done, ap key_rows h.split ∙ key_rows-append left h.done, h.rows),
+  puts_end remaining new h = (
+    key_rows remaining,
+    (key_rows h.done, ap key_rows h.split ∙ key_rows-append remaining h.done, h.rows),
   )
 
   -- if no entries remain to be inserted, the rows are the old ones with all entries inserted

@@ -22,12 +22,12 @@ use Rattle.path_tree.proofs.lemmas.keys.RowLemmas.{AllOwn, keys_cmp, rows_by}
 pub last_of : {A : Type 0} (xs : List A) → (xs ≡ [])
     ⊎ ((front : List A) × ((last : A) × (xs ≡ front ++ last ∷ [])))
 last_of [] = inl refl
-last_of (x ∷ xs) = inr (behind (last_of xs))
+last_of (x ∷ xs) = inr (in_rest (last_of xs))
   where
-    behind : (xs ≡ []) ⊎ ((front : List _) × ((last : _) × (xs ≡ front ++ last ∷ [])))
+    in_rest : (xs ≡ []) ⊎ ((front : List _) × ((last : _) × (xs ≡ front ++ last ∷ [])))
         → (front : List _) × ((last : _) × (x ∷ xs ≡ front ++ last ∷ []))
-    behind (inl none) = ([], (x, ap (λ l. x ∷ l) none))
-    behind (inr some) = (x ∷ some.0, (some.1.0, ap (λ l. x ∷ l) some.1.1))
+    in_rest (inl none) = ([], (x, ap (λ l. x ∷ l) none))
+    in_rest (inr some) = (x ∷ some.0, (some.1.0, ap (λ l. x ∷ l) some.1.1))
 
 module _ {K V : Type 0} (cmp : K → K → Ordering) (total : IsTotalOrder cmp) (k : K) (x : V) where
   -- if j is less than k and than all keys of es, it is less than all keys of es with k appended
@@ -111,13 +111,12 @@ module _ {K V : Type 0} (bytes_of : K → List ℕ) where
   itself e es = ap (λ o. cond (is_eq o) (Some e.1) (finds_at e.0 es))
       (tied_itself nat_list_cmp_total (bytes_of e.0))
 
-  -- if the key of e is less than the key of f, and f and fs are sorted, looking up the key of e
-  -- doesn't find the same in e and es as in f and fs
-  not_behind : (e f : K × V) (es fs : List (K × V))
+  -- the first of sorted entries isn't found in others that begin with a greater one
+  not_after : (e f : K × V) (es fs : List (K × V))
       → AllByRecursion (λ l. keys_cmp bytes_of f.0 l ≡ Less) (keys_of fs)
       → keys_cmp bytes_of e.0 f.0 ≡ Less
       → finds_at e.0 (e ∷ es) ≡ finds_at e.0 (f ∷ fs) → ⊥
-  not_behind e f es fs sorted less same =
+  not_after e f es fs sorted less same =
       let none = none_greater e.0 (f ∷ fs)
       (less, less_all bytes_of e.0 f.0 less (keys_of fs) sorted) in
       let some = itself e es in
@@ -151,9 +150,9 @@ module _ {K V : Type 0} (bytes_of : K → List ℕ) where
       → (((q : K) → finds_at q es ≡ finds_at q fs) → map bare es ≡ map bare fs)
       → (o : Ordering) → keys_cmp bytes_of e.0 f.0 ≡ o → map bare (e ∷ es) ≡ map bare (f ∷ fs)
   same_by e f es fs less other same rest Less is =
-      absurd (not_behind e f es fs other is (same e.0))
+      absurd (not_after e f es fs other is (same e.0))
   same_by e f es fs less other same rest Greater is =
-      absurd (not_behind f e fs es less
+      absurd (not_after f e fs es less
       (nat_list_cmp_total.antisymm (bytes_of f.0) (bytes_of e.0)
       ∙ ap ordering_reverse is) (sym (same f.0)))
   same_by e f es fs less other same rest Equal is =

@@ -78,9 +78,8 @@ items_more path x (item ∷ items) =
 
 module _ {V : Type 0} (entries : List (Key × V)) (items : List (Path × V))
     (h : Listed entries items) (k : Key) (path : Path) (own : is_own k.items ≡ true)
-    (stands : key_values k.items ≡ values path.bytes.now) where
-  -- if k represents the components of `path`, and is greater than the last key that is listed, if
-  -- any, k and `path` may be appended
+    (represents : key_values k.items ≡ values path.bytes.now) where
+  -- one more whose key is greater than the last
   pub listed_more : (x : V)
       → ((front : List (Key × V)) (last : Key × V) → entries ≡ front ++ last ∷ []
       → is_lt (bytes_cmp last.0.items k.items) ≡ true)
@@ -91,18 +90,17 @@ module _ {V : Type 0} (entries : List (Key × V)) (items : List (Path × V))
         h.sorted (λ front last is. less_is _ (greater front last is));
     rows = rows_more k x entries
         ∙ ap (λ l. l ++ (key_values k.items, x) ∷ []) h.rows
-        ∙ ap (λ v. rows_in items ++ (v, x) ∷ []) stands ∙ sym (items_more path x items);
+        ∙ ap (λ v. rows_in items ++ (v, x) ∷ []) represents ∙ sym (items_more path x items);
   }
 
-  -- if k represents the components of `path`, and is not greater than the last key that is listed,
-  -- the paths of the items stop being strictly increasing at `path`
-  pub stops : {S : Type 0} (steps : S → Option (Path × V) → S → Type 0) (all : S) (x : V) (left : S)
-      → YieldsThen steps all items (Some (path, x)) left → (t : Bool) → t ≡ false
+  -- one whose key isn't greater
+  pub stops : {S : Type 0} (steps : S → Option (Path × V) → S → Type 0) (all : S) (x : V) (after : S)
+      → YieldsThen steps all items (Some (path, x)) after → (t : Bool) → t ≡ false
       → (entries ≡ [] → t ≡ true)
       → ((front : List (Key × V)) (last : Key × V) → entries ≡ front ++ last ∷ []
       → t ≡ is_lt (bytes_cmp last.0.items k.items))
       → StopsRising steps all
-  stops steps all x left before t fails first others = ⊎_elim
+  stops steps all x after before t fails first others = ⊎_elim
       (λ none. absurd (let e = sym fails ∙ first none in cc))
       (λ some.
       let front = some.0 in
@@ -115,8 +113,8 @@ module _ {V : Type 0} (entries : List (Key × V)) (items : List (Path × V))
         entries = known;
         last = item;
         next = (path, x);
-        left = left;
-        items_before = subst (λ l. YieldsThen steps all l (Some (path, x)) left) is before;
+        after = after;
+        items_before = subst (λ l. YieldsThen steps all l (Some (path, x)) after) is before;
         rise = subst (λ l. IsStrictlySortedBy values_cmp (keys_of l))
             (h.rows ∙ ap rows_in is)
             (sorted-rows_by items_of entries (own_all entries h.own) h.sorted);
@@ -125,7 +123,7 @@ module _ {V : Type 0} (entries : List (Key × V)) (items : List (Path × V))
             (subst (AllOwn items_of) some.1.1 h.own) in
             let compared : bytes_cmp last.0.items k.items ≡ Less =
             bytes_cmp-own last.0.items k.items last_own own
-            ∙ ap₂ values_cmp row.1.1.1 stands ∙ less in
+            ∙ ap₂ values_cmp row.1.1.1 represents ∙ less in
             let e = sym fails ∙ others front last some.1.1 ∙ ap is_lt compared in cc;
       })
       (last_of entries)

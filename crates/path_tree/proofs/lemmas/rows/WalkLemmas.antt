@@ -93,15 +93,14 @@ module _ {K V : Type 0} (keep : K × V → Bool) where
       (all_filter (λ l. cmp e.0 l ≡ Less) es sorted.0, sorted-filter cmp es sorted.1))
       (λ fails. rw fails (sorted-filter cmp es sorted.1))
 
--- a test p that stays true: if it is true of a key, it is true of all greater keys
+-- a test that holds of all keys that are greater than a key of which it holds
 module _ {K : Type 0} (cmp : K → K → Ordering) (p : K → Bool)
     (goes_on : (k l : K) → p k ≡ true → cmp k l ≡ Less → p l ≡ true) where
-  -- if p stays true of greater keys, and is true of k, it is true of all of ls, which are greater
-  -- than k
-  all_behind : (k : K) (ls : List K) → p k ≡ true → AllByRecursion (λ l. cmp k l ≡ Less) ls
+  -- if it holds of a key, it holds of all that are greater
+  all_after : (k : K) (ls : List K) → p k ≡ true → AllByRecursion (λ l. cmp k l ≡ Less) ls
       → AllByRecursion (λ l. p l ≡ true) ls
-  all_behind k [] is less = tt
-  all_behind k (l ∷ ls) is less = (goes_on k l is less.0, all_behind k ls is less.1)
+  all_after k [] is less = tt
+  all_after k (l ∷ ls) is less = (goes_on k l is less.0, all_after k ls is less.1)
 
 module _ {K V : Type 0} (cmp : K → K → Ordering) (p : K → Bool)
     (goes_on : (k l : K) → p k ≡ true → cmp k l ≡ Less → p l ≡ true) where
@@ -111,7 +110,7 @@ module _ {K V : Type 0} (cmp : K → K → Ordering) (p : K → Bool)
       → IsStrictlySortedBy cmp (keys_of (e ∷ es)) → p e.0 ≡ true
       → AllByRecursion (λ l. p l ≡ true) (keys_of (e ∷ es))
   all_from_first e es sorted is =
-      (is, all_behind cmp p goes_on e.0 (keys_of es) is (sorted_first cmp e es sorted))
+      (is, all_after cmp p goes_on e.0 (keys_of es) is (sorted_first cmp e es sorted))
 
   -- if p stays true of greater keys, the entries whose keys pass p are the last ones of sorted
   -- entries

@@ -2,7 +2,7 @@ use Rattle.std.proofs.Common.{◌≡◌, ◌∷◌, ◌++◌, ◌∙◌, ℕ, fa
 use Rattle.std.proofs.Common.{rules, subst, sym}
 use Rattle.std.specs.List.Sorted.{IsStrictlySortedBy}
 use Rattle.path_keys.specs.Ranges.{bytes_cmp}
-use Rattle.path_tree.specs.Changed.{entries_changed, lent_both}
+use Rattle.path_tree.specs.Changed.{entries_changed, borrowed_both}
 use Rattle.path_tree.specs.Cursor.{cursor_entries}
 use Rattle.path_tree.specs.Rows.{entry_at, key_entries}
 use Rattle.path_tree.specs.Tree.{entries_of}
@@ -26,7 +26,7 @@ loop-key-init g c =
       subst (λ l. Merges other now (key_entries l)) (sym all)
           (merges_first other now (entries_of tree) c.merge_cursor-others.ensures
           (sorted-key_entries tree.entries.entries c.iter-key-items.ensures.ordered)),
-      ap (λ items. map lent_both items ++ entries_changed eq other (key_entries all_left))
+      ap (λ items. map borrowed_both items ++ entries_changed eq other (key_entries all_left))
           c.new-found.ensures.items
           ∙ ap (λ entries. entries_changed eq other (key_entries entries)) all,
     )
@@ -40,21 +40,21 @@ loop-key-preserved-in-Continue-1 g c =
     let x = c.in-Some.value.now in
     let e : List ℕ × g.row.V.Denot = (key.items, x) in
     let now = cursor_entries c.loop-key.others in
-    let found = map lent_both c.loop-key.found.items in
+    let found = map borrowed_both c.loop-key.found.items in
     let steps : c.loop-key.key-iterator ≡ (key, x) ∷ rest = search rules in
     let h : Merges other now (e ∷ key_entries rest) =
     subst (λ l. Merges other now (key_entries l)) steps c.loop-key.invariant.2 in
     let y = c.in-Some-find.other_value.now in
     let is : entry_at e.0 other ≡ Some y = sym h.same.0 ∙ sym c.in-Some-find.ensures.value in
     let differ : eq x y ≡ false = search rules in
-    let left = entries_changed eq other (key_entries rest) in (
+    let later = entries_changed eq other (key_entries rest) in (
       tt,
       tt,
       merges_more other now _ e.0 c.in-Some-find.ensures.greater x (key_entries rest) h,
-      ap (λ items. map lent_both items ++ left) c.in_ok-push.ensures.items
-          ∙ map_push-append lent_both c.loop-key.found.items
-          (c.as_slice.result, c.in-Some.value, c.in-Some-find.other_value) left
-          ∙ ap (λ k. found ++ (k, x, y) ∷ left) c.as_slice.ensures.value
+      ap (λ items. map borrowed_both items ++ later) c.in_ok-push.ensures.items
+          ∙ map_push-append borrowed_both c.loop-key.found.items
+          (c.as_slice.result, c.in-Some.value, c.in-Some-find.other_value) later
+          ∙ ap (λ k. found ++ (k, x, y) ∷ later) c.as_slice.ensures.value
           ∙ ap (λ es. found ++ es) (sym (changed_entry eq other e (key_entries rest) y is differ))
           ∙ ap (λ entries. found ++ entries_changed eq other (key_entries entries)) (sym steps)
           ∙ c.loop-key.invariant.3,
@@ -69,15 +69,15 @@ returns-in_err-push-clause-succeeds g c = λ none.
     let x = c.in-Some.value.now in
     let e : List ℕ × g.row.V.Denot = (key.items, x) in
     let now = cursor_entries c.loop-key.others in
-    let found = map lent_both c.loop-key.found.items in
+    let found = map borrowed_both c.loop-key.found.items in
     let steps : c.loop-key.key-iterator ≡ (key, x) ∷ rest = search rules in
     let h : Merges other now (e ∷ key_entries rest) =
     subst (λ l. Merges other now (key_entries l)) steps c.loop-key.invariant.2 in
     let y = c.in-Some-find.other_value.now in
     let is : entry_at e.0 other ≡ Some y = sym h.same.0 ∙ sym c.in-Some-find.ensures.value in
     let differ : eq x y ≡ false = search rules in
-    let left = entries_changed eq other (key_entries rest) in
-    absurd (some_append found (e.0, x, y) left
+    let later = entries_changed eq other (key_entries rest) in
+    absurd (some_append found (e.0, x, y) later
     (ap (λ es. found ++ es) (sym (changed_entry eq other e (key_entries rest) y is differ))
     ∙ ap (λ entries. found ++ entries_changed eq other (key_entries entries)) (sym steps)
     ∙ c.loop-key.invariant.3 ∙ none))
@@ -91,7 +91,7 @@ loop-key-preserved-else-not-eq g c =
     let x = c.in-Some.value.now in
     let e : List ℕ × g.row.V.Denot = (key.items, x) in
     let now = cursor_entries c.loop-key.others in
-    let found = map lent_both c.loop-key.found.items in
+    let found = map borrowed_both c.loop-key.found.items in
     let steps : c.loop-key.key-iterator ≡ (key, x) ∷ rest = search rules in
     let h : Merges other now (e ∷ key_entries rest) =
     subst (λ l. Merges other now (key_entries l)) steps c.loop-key.invariant.2 in
@@ -115,7 +115,7 @@ loop-key-preserved g c =
     let x = c.in-Some.value.now in
     let e : List ℕ × g.row.V.Denot = (key.items, x) in
     let now = cursor_entries c.loop-key.others in
-    let found = map lent_both c.loop-key.found.items in
+    let found = map borrowed_both c.loop-key.found.items in
     let steps : c.loop-key.key-iterator ≡ (key, x) ∷ rest = search rules in
     let h : Merges other now (e ∷ key_entries rest) =
     subst (λ l. Merges other now (key_entries l)) steps c.loop-key.invariant.2 in
@@ -133,7 +133,7 @@ returns-clause-ordered g c =
     let tree = c.args.self.now in
     let other = entries_of c.args.other.now in
     let eq = g.V.PartialEq.eq in
-    let all : map lent_both c.loop-key.found.items ≡ entries_changed eq other (entries_of tree) =
+    let all : map borrowed_both c.loop-key.found.items ≡ entries_changed eq other (entries_of tree) =
     search rules in
     subst (IsStrictlySortedBy bytes_cmp) (sym (both_keys-lent c.loop-key.found.items))
     (subst (λ l. IsStrictlySortedBy bytes_cmp (both_keys l)) (sym all)

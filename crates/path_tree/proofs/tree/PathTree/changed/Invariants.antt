@@ -1,5 +1,5 @@
 use Rattle.std.proofs.Common.{◌≡◌, ◌++◌, map}
-use Rattle.path_tree.specs.Changed.{entries_changed, lent_both}
+use Rattle.path_tree.specs.Changed.{entries_changed, borrowed_both}
 use Rattle.path_tree.specs.Cursor.{cursor_entries}
 use Rattle.path_tree.specs.Rows.{key_entries}
 use Rattle.path_tree.specs.Tree.{entries_of}
@@ -11,6 +11,6 @@ invariant-loop-key g l =
     (goal.iterator-loop-key g).can_next l.key-iterator
     × (goal.iterator-loop-key g).is_finite l.key-iterator
     × Merges (entries_of l.fn.other) (cursor_entries l.others) (key_entries l.key-iterator)
-    × (map lent_both l.found.items
+    × (map borrowed_both l.found.items
     ++ entries_changed g.V.PartialEq.eq (entries_of l.fn.other) (key_entries l.key-iterator)
     ≡ entries_changed g.V.PartialEq.eq (entries_of l.fn.other) (entries_of l.fn.self))

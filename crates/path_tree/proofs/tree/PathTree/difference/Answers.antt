@@ -5,7 +5,7 @@ use Rattle.std.specs.Map.{keys_of}
 use Rattle.std.specs.Option.{is_some}
 use Rattle.path_keys.specs.Ranges.{bytes_cmp}
 use Rattle.path_tree.specs.Cursor.{cursor_entries}
-use Rattle.path_tree.specs.Difference.{entries_lacking, lent_entry}
+use Rattle.path_tree.specs.Difference.{entries_lacking, borrowed_entry}
 use Rattle.path_tree.specs.Rows.{entry_at, key_entries}
 use Rattle.path_tree.specs.Tree.{entries_of}
 use Rattle.path_tree.proofs.lemmas.rows.EntryLemmas.{sorted-key_entries}
@@ -27,7 +27,7 @@ loop-key-init g c =
       subst (λ l. Merges other now (key_entries l)) (sym all)
           (merges_first other now (entries_of tree) c.merge_cursor-others.ensures
           (sorted-key_entries tree.entries.entries c.iter-key-items.ensures.ordered)),
-      ap (λ items. map lent_entry items ++ entries_lacking other (key_entries all_left))
+      ap (λ items. map borrowed_entry items ++ entries_lacking other (key_entries all_left))
           c.new-found.ensures.items
           ∙ ap (λ entries. entries_lacking other (key_entries entries)) all,
     )
@@ -39,8 +39,8 @@ loop-key-preserved-in-Continue-1 g c =
     let key = c.in-Some.key.now in
     let e : List ℕ × g.row.V.Denot = (key.items, c.in-Some.value.now) in
     let now = cursor_entries c.loop-key.others in
-    let found = map lent_entry c.loop-key.found.items in
-    let left = entries_lacking other (key_entries rest) in
+    let found = map borrowed_entry c.loop-key.found.items in
+    let later = entries_lacking other (key_entries rest) in
     let steps : c.loop-key.key-iterator ≡ (key, c.in-Some.value.now) ∷ rest = search rules in
     let h : Merges other now (e ∷ key_entries rest) =
     subst (λ l. Merges other now (key_entries l)) steps c.loop-key.invariant.2 in
@@ -49,10 +49,10 @@ loop-key-preserved-in-Continue-1 g c =
       tt,
       tt,
       merges_more other now _ e.0 c.find.ensures.greater e.1 (key_entries rest) h,
-      ap (λ items. map lent_entry items ++ left) c.in_ok-push.ensures.items
-          ∙ map_push-append lent_entry c.loop-key.found.items
-          (c.as_slice.result, c.in-Some.value) left
-          ∙ ap (λ k. found ++ (k, c.in-Some.value.now) ∷ left) c.as_slice.ensures.value
+      ap (λ items. map borrowed_entry items ++ later) c.in_ok-push.ensures.items
+          ∙ map_push-append borrowed_entry c.loop-key.found.items
+          (c.as_slice.result, c.in-Some.value) later
+          ∙ ap (λ k. found ++ (k, c.in-Some.value.now) ∷ later) c.as_slice.ensures.value
           ∙ ap (λ es. found ++ es) (sym (lacks_entry other e (key_entries rest) lacks))
           ∙ ap (λ entries. found ++ entries_lacking other (key_entries entries)) (sym steps)
           ∙ c.loop-key.invariant.3,
@@ -65,14 +65,14 @@ returns-in_err-push-clause-succeeds g c = λ none.
     let key = c.in-Some.key.now in
     let e : List ℕ × g.row.V.Denot = (key.items, c.in-Some.value.now) in
     let now = cursor_entries c.loop-key.others in
-    let found = map lent_entry c.loop-key.found.items in
-    let left = entries_lacking other (key_entries rest) in
+    let found = map borrowed_entry c.loop-key.found.items in
+    let later = entries_lacking other (key_entries rest) in
     let steps : c.loop-key.key-iterator ≡ (key, c.in-Some.value.now) ∷ rest = search rules in
     let h : Merges other now (e ∷ key_entries rest) =
     subst (λ l. Merges other now (key_entries l)) steps c.loop-key.invariant.2 in
     let is : entry_at e.0 now ≡ entry_at e.0 other = h.same.0 in
     let lacks : is_some (entry_at e.0 other) ≡ false = search rules in
-    absurd (some_append found e left
+    absurd (some_append found e later
     (ap (λ es. found ++ es) (sym (lacks_entry other e (key_entries rest) lacks))
     ∙ ap (λ entries. found ++ entries_lacking other (key_entries entries)) (sym steps)
     ∙ c.loop-key.invariant.3 ∙ none))
@@ -84,7 +84,7 @@ loop-key-preserved g c =
     let key = c.in-Some.key.now in
     let e : List ℕ × g.row.V.Denot = (key.items, c.in-Some.value.now) in
     let now = cursor_entries c.loop-key.others in
-    let found = map lent_entry c.loop-key.found.items in
+    let found = map borrowed_entry c.loop-key.found.items in
     let steps : c.loop-key.key-iterator ≡ (key, c.in-Some.value.now) ∷ rest = search rules in
     let h : Merges other now (e ∷ key_entries rest) =
     subst (λ l. Merges other now (key_entries l)) steps c.loop-key.invariant.2 in
@@ -102,7 +102,7 @@ pub returns-clause-ordered : goal.returns-clause-ordered
 returns-clause-ordered g c =
     let tree = c.args.self.now in
     let other = entries_of c.args.other.now in
-    let all : map lent_entry c.loop-key.found.items ≡ entries_lacking other (entries_of tree) =
+    let all : map borrowed_entry c.loop-key.found.items ≡ entries_lacking other (entries_of tree) =
     search rules in
     subst (λ l. IsStrictlySortedBy bytes_cmp (keys_of l)) (sym all)
     (sorted-filter (λ e. not (is_some (entry_at e.0 other))) bytes_cmp (entries_of tree)

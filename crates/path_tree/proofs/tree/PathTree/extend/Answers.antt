@@ -5,11 +5,11 @@ use Rattle.path_tree.proofs.tree.PathTree.extend.Goals as goal
 
 pub returns-in_err-insert-clause-err : goal.returns-in_err-insert-clause-err
 returns-in_err-insert-clause-err g c =
-    let left : InsertsBeginning g.I.Iterator.next_gives c.args.items (table_of c.args.self.now)
+    let begins : InsertsBeginning g.I.Iterator.next_gives c.args.items (table_of c.args.self.now)
     (table_of c.insert.new.self) = record {
       entries = c.loop-path.yielded;
       next = (c.in-Some.path, c.in-Some.value);
-      left = c.next.new.self;
+      after = c.next.new.self;
       items_before = search rules;
       rows = c.in_err-insert.ensures.err ∙ c.loop-path.invariant.rows;
-    } in search (rules, left)
+    } in search (rules, begins)

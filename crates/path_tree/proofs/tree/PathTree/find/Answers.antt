@@ -1,5 +1,5 @@
 use Rattle.std.proofs.Common.{◌∙◌}
-use Rattle.path_tree.proofs.lemmas.keys.ReadLemmas.{own-stands}
+use Rattle.path_tree.proofs.lemmas.keys.ReadLemmas.{own-represents}
 use Rattle.path_tree.proofs.lemmas.keys.RowLemmas.{lookup-rows_by}
 use Rattle.path_tree.proofs.tree.PathTree.find.Goals as goal
 
@@ -8,4 +8,4 @@ returns g c =
     let tree = c.args.self.now in
     let key = c.args.key.now in
     c.get.ensures.value
-    ∙ lookup-rows_by (λ k. k.items) key _ (own-stands key c.requires) tree.entries.entries tree.own
+    ∙ lookup-rows_by (λ k. k.items) key _ (own-represents key c.requires) tree.entries.entries tree.own

@@ -1,5 +1,5 @@
 use Rattle.std.proofs.Common.{ap, refl, ◌∙◌}
-use Rattle.path_tree.proofs.lemmas.keys.ReadLemmas.{own-stands}
+use Rattle.path_tree.proofs.lemmas.keys.ReadLemmas.{own-represents}
 use Rattle.path_tree.proofs.lemmas.keys.RowLemmas.{lookup-rows_by, rows_by, set_value-rows_by}
 use Rattle.path_tree.proofs.tree.PathTree.find_mut.Goals as goal
 
@@ -9,16 +9,16 @@ returns g c =
     let tree = c.args.self.now in
     let entries = tree.entries.entries in
     let key = c.args.key.now in
-    let stands = own-stands key c.requires in (
+    let represents = own-represents key c.requires in (
       (
         refl,
         λ x. ap (rows_by (λ k. k.items)) (follows.holds x).0
-            ∙ set_value-rows_by (λ k. k.items) key _ stands entries x tree.own,
+            ∙ set_value-rows_by (λ k. k.items) key _ represents entries x tree.own,
         ap (λ m. rows_by (λ k. k.items) m.entries) follows.holds-at-none,
       ),
       record {
         writes_back = tt;
         value = c.get_mut.ensures.value
-            ∙ lookup-rows_by (λ k. k.items) key _ stands entries tree.own;
+            ∙ lookup-rows_by (λ k. k.items) key _ represents entries tree.own;
       },
     )

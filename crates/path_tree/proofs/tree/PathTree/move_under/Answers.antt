@@ -8,7 +8,6 @@ use Rattle.path_tree.specs.Read.{is_own, key_values}
 use Rattle.path_tree.specs.Rows.{entries_under, key_rows, rows_outside, rows_under}
 use Rattle.path_tree.specs.Tree.{entries_of, table_of}
 use Rattle.path_tree.proofs.lemmas.keys.ReadLemmas.{own-IsKey}
-use Rattle.path_tree.proofs.lemmas.rows.CursorLemmas.{taken-some}
 use Rattle.path_tree.proofs.lemmas.rows.EntryLemmas.{rows_under-none, rows_under-some}
 use Rattle.path_tree.proofs.lemmas.rows.ManyLemmas.{length-key_rows}
 use Rattle.path_tree.proofs.lemmas.rows.MovedLemmas.{all_last, none_under, length-moved}
@@ -21,17 +20,49 @@ pub returns-clause-free : goal.returns-clause-free
 returns-clause-free g c =
     let tree = c.args.self.now in
     let to = c.args.to.now in
-    let none : entries_under (key_bytes to) (entries_of tree) ≡ [] = search rules in
+    let none : entries_under (key_bytes to) (entries_of tree) ≡ [] =
+    c.has_under.ensures.none c.if-has_under.false in
     rows_under-none (key_bytes to) (own-IsKey _ _ refl to.is_key) tree.entries.entries tree.own none
 
-pub returns-then-is_some-clause-occupied : goal.returns-then-is_some-clause-occupied
-returns-then-is_some-clause-occupied g c = λ occupied none.
+pub returns-then-has_under-clause-occupied : goal.returns-then-has_under-clause-occupied
+returns-then-has_under-clause-occupied g c =
     let tree = c.args.self.now in
-    let to = c.args.to.now in
-    let empty = rows_under-some (key_bytes to) (own-IsKey _ _ refl to.is_key) tree.entries.entries
-    tree.own none in
-    taken-some c.in_ok-under.field-0 c.next.result c.next.new.self c.next.ensures.steps
-    (c.in_ok-under.ensures.entries ∙ empty) (sym c.is_some.ensures ∙ c.if-is_some.true)
+    let to = c.args.to.now in (
+      λ _. (
+        λ begins. let e = sym (c.starts_with.ensures.bytes.1 begins) ∙ c.if-starts_with.false in cc,
+        λ none. c.has_under.ensures.some c.if-has_under.true
+            (rows_under-some (key_bytes to) (own-IsKey _ _ refl to.is_key) tree.entries.entries
+            tree.own none),
+      ),
+      λ _. refl,
+    )
+
+pub returns-in_err-moved-clause-occupied : goal.returns-in_err-moved-clause-occupied
+returns-in_err-moved-clause-occupied g c =
+    let tree = c.args.self.now in
+    let to = c.args.to.now in (
+      λ is. absurd (search rules),
+      λ both. absurd (both.1 (rows_under-none (key_bytes to) (own-IsKey _ _ refl to.is_key)
+          tree.entries.entries tree.own (c.has_under.ensures.none c.if-has_under.false))),
+    )
+
+pub returns-in-Err-clause-occupied : goal.returns-in-Err-clause-occupied
+returns-in-Err-clause-occupied g c =
+    let tree = c.args.self.now in
+    let to = c.args.to.now in (
+      λ is. absurd (let e = is in cc),
+      λ both. absurd (both.1 (rows_under-none (key_bytes to) (own-IsKey _ _ refl to.is_key)
+          tree.entries.entries tree.own (c.has_under.ensures.none c.if-has_under.false))),
+    )
+
+pub returns-clause-occupied : goal.returns-clause-occupied
+returns-clause-occupied g c =
+    let tree = c.args.self.now in
+    let to = c.args.to.now in (
+      λ is. absurd (let e = is in cc),
+      λ both. absurd (both.1 (rows_under-none (key_bytes to) (own-IsKey _ _ refl to.is_key)
+          tree.entries.entries tree.own (c.has_under.ensures.none c.if-has_under.false))),
+    )
 
 pub returns-in-Err-clause-err : goal.returns-in-Err-clause-err
 returns-in-Err-clause-err g c =
@@ -39,7 +70,7 @@ returns-in-Err-clause-err g c =
     let from = key_values (key_bytes c.args.from.now) in
     let to = key_values (key_bytes c.args.to.now) in
     let none : entries_under (key_bytes c.args.to.now) (entries_of c.args.self.now) ≡ [] =
-    search rules in
+    c.has_under.ensures.none c.if-has_under.false in
     let free : rows_under to rows ≡ [] = rows_under-none (key_bytes c.args.to.now)
     (own-IsKey _ _ refl c.args.to.now.is_key) c.args.self.now.entries.entries c.args.self.now.own
     none in
@@ -61,7 +92,7 @@ returns-clause-rows g c =
     let from = key_values (key_bytes c.args.from.now) in
     let to = key_values (key_bytes c.args.to.now) in
     let none : entries_under (key_bytes c.args.to.now) (entries_of c.args.self.now) ≡ [] =
-    search rules in
+    c.has_under.ensures.none c.if-has_under.false in
     let free : rows_under to rows ≡ [] = rows_under-none (key_bytes c.args.to.now)
     (own-IsKey _ _ refl c.args.to.now.is_key) c.args.self.now.entries.entries c.args.self.now.own
     none in
@@ -88,7 +119,7 @@ returns-clause-count g c =
     let from = key_values (key_bytes c.args.from.now) in
     let to = key_values (key_bytes c.args.to.now) in
     let none : entries_under (key_bytes c.args.to.now) (entries_of c.args.self.now) ≡ [] =
-    search rules in
+    c.has_under.ensures.none c.if-has_under.false in
     let free : rows_under to rows ≡ [] = rows_under-none (key_bytes c.args.to.now)
     (own-IsKey _ _ refl c.args.to.now.is_key) c.args.self.now.entries.entries c.args.self.now.own
     none in

@@ -47,7 +47,7 @@ loop-key-preserved-in-Continue-branch-2 g c =
     sym (starts_with-under c.args.from.now key.items c.requires.from_own own)
     ∙ ap (λ b. starts_with eqb b c.args.from.now) (sym c.as_slice.ensures.value)
     ∙ sym c.starts_with.ensures.value ∙ c.if-starts_with.true in
-    let left = moved_rows from to (key_rows rest) in
+    let later = moved_rows from to (key_rows rest) in
     let there : (key_values k.items, x) ≡ moved_row from to row =
     ap (λ v. (v, x)) (c.in_ok-key.ensures.values
     ∙ ap (λ b. to ++ drop (length from) (key_values b)) c.deref.ensures.value) in (
@@ -56,10 +56,10 @@ loop-key-preserved-in-Continue-branch-2 g c =
       All-tail (λ (k : Key). is_own k.items ≡ true) _ _ all,
       subst (Own (λ (k : Key). k.items)) (sym c.in_ok-put_last.ensures)
           (own_put k x c.in_ok-key.ensures.own c.loop-key.moved.items c.loop-key.invariant.3),
-      ap (λ es. key_rows es ++ left) c.in_ok-put_last.ensures
-          ∙ ap (λ l. l ++ left) (rows_more k x c.loop-key.moved.items)
-          ∙ append_assoc (key_rows c.loop-key.moved.items) ((key_values k.items, x) ∷ []) left
-          ∙ ap (λ r. key_rows c.loop-key.moved.items ++ r ∷ left) there
+      ap (λ es. key_rows es ++ later) c.in_ok-put_last.ensures
+          ∙ ap (λ l. l ++ later) (rows_more k x c.loop-key.moved.items)
+          ∙ append_assoc (key_rows c.loop-key.moved.items) ((key_values k.items, x) ∷ []) later
+          ∙ ap (λ r. key_rows c.loop-key.moved.items ++ r ∷ later) there
           ∙ ap (λ l. key_rows c.loop-key.moved.items ++ l)
           (sym (moves_row from to row (key_rows rest) under)
           ∙ ap (λ es. moved_rows from to (key_rows es)) (sym steps))

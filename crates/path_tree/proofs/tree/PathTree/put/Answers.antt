@@ -4,7 +4,7 @@ use Rattle.path_runs.specs.Rows.{value_at}
 use Rattle.path_tree.specs.KeyFilter.{may_contain}
 use Rattle.path_tree.specs.Read.{is_own, key_values}
 use Rattle.path_tree.proofs.lemmas.keys.PassLemmas.{AllKeys-insert, AllKeys-wider}
-use Rattle.path_tree.proofs.lemmas.keys.ReadLemmas.{own-stands}
+use Rattle.path_tree.proofs.lemmas.keys.ReadLemmas.{own-represents}
 use Rattle.path_tree.proofs.lemmas.keys.RowLemmas.{insert-rows_by, lookup-rows_by, rows_by}
 use Rattle.path_tree.proofs.tree.PathTree.put.Goals as goal
 
@@ -29,7 +29,7 @@ pub returns-clause-rows : goal.returns-clause-rows
 returns-clause-rows g c =
     let tree = c.args.self.now in
     c.rebuild_filter.ensures ∙ ap (rows_by (λ k. k.items)) c.in_ok-old.ensures.entries
-    ∙ insert-rows_by (λ k. k.items) c.args.key _ (own-stands c.args.key.items c.requires)
+    ∙ insert-rows_by (λ k. k.items) c.args.key _ (own-represents c.args.key.items c.requires)
     tree.entries.entries c.args.value tree.own
 
 pub returns-clause-old : goal.returns-clause-old
@@ -37,7 +37,7 @@ returns-clause-old g c =
     let tree = c.args.self.now in
     let key = c.args.key.items in
     c.in_ok-old.ensures.old
-    ∙ lookup-rows_by (λ k. k.items) key _ (own-stands key c.requires) tree.entries.entries tree.own
+    ∙ lookup-rows_by (λ k. k.items) key _ (own-represents key c.requires) tree.entries.entries tree.own
 
 pub returns-clause-found : goal.returns-clause-found
 returns-clause-found g c =
@@ -47,7 +47,7 @@ returns-clause-found g c =
     let own = AllKeys-insert (λ k. k.items) is_own tree.entries.entries new tree.own _ c.args.key
     c.args.value c.requires c.insert-2.result c.insert-2.ensures.entries c.insert-2.ensures.err in
     ap (value_at (key_values key)) c.rebuild_filter.ensures
-    ∙ sym (lookup-rows_by (λ k. k.items) key _ (own-stands key c.requires) new own)
+    ∙ sym (lookup-rows_by (λ k. k.items) key _ (own-represents key c.requires) new own)
     ∙ c.in_ok-old.ensures.updates.1
 
 pub returns-clause-others : goal.returns-clause-others

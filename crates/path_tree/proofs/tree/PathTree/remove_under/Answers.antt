@@ -17,22 +17,22 @@ pub invariant_of-self : goal.invariant_of-self
 invariant_of-self g c =
     let tree = c.args.self.now in
     let base = c.bytes_of-base.result.now in
-    let left = filter_same_pairs _ (λ e. not (starts_with eqb e.0.items base)) _
+    let kept = filter_same_pairs _ (λ e. not (starts_with eqb e.0.items base)) _
     (λ k v b w f t. search rules) _ _ c.retain.ensures.filtered in
     record {
       own = AllKeys-filter (λ k. k.items) is_own tree.entries.entries
-          c.retain.new.self.entries tree.own _ left;
+          c.retain.new.self.entries tree.own _ kept;
       filtered = AllKeys-filter (λ k. k.items) (may_contain tree.key_filter) tree.entries.entries
-          c.retain.new.self.entries tree.filtered _ left;
+          c.retain.new.self.entries tree.filtered _ kept;
     }
 
 pub returns-clause-rows : goal.returns-clause-rows
 returns-clause-rows g c =
     let tree = c.args.self.now in
     let base = c.bytes_of-base.result.now in
-    let left = filter_same_pairs _ (λ e. not (starts_with eqb e.0.items base)) _
+    let kept = filter_same_pairs _ (λ e. not (starts_with eqb e.0.items base)) _
     (λ k v b w f t. search rules) _ _ c.retain.ensures.filtered in
-    ap key_rows left
+    ap key_rows kept
     ∙ filter-rows_by (λ (k : Key). k.items) (λ k. not (starts_with eqb k.items base))
     (λ v. not (is_under (key_values base) v))
     (λ k other. ap not (starts_with-under base k.items c.bytes_of-base.ensures.own other))

@@ -18,7 +18,7 @@ use Rattle.path_keys.specs.Keys.{key_of, raised}
 use Rattle.path_keys.specs.Codes.{IsName}
 use Rattle.unix_path.specs.NameRunEnds.{no_name_starts_at}
 use Rattle.path_keys.specs.NameBytes.{coded}
-use Rattle.path_keys.specs.Stretches.{ends_name_run}
+use Rattle.path_keys.specs.PathRuns.{ends_name_run}
 use Rattle.unix_path.proofs.lemmas.name_run_ends.NameRunEndLemmas.{ends_name_run-append}
 
 -- the codes of these pieces, each taken as a name, one after the other

@@ -3,12 +3,12 @@ use Rattle.std.proofs.lemmas.Bool.Decides.{nat_tests}
 use Rattle.std.proofs.lemmas.List.{take_rest}
 use Rattle.unix_path.specs.CommonDir.{inner_values}
 use Rattle.path_runs.proofs.lemmas.lists.WritingLemmas.{writes_last, writes_end}
-use Rattle.path_keys.proofs.lemmas.writing.LeadLemmas.{none_left}
+use Rattle.path_keys.proofs.lemmas.writing.LeadLemmas.{none_remain}
 use Rattle.path_keys.proofs.lemmas.writing.WrittenLemmas.{run_fits, written_run}
-use Rattle.path_keys.proofs.encode.write_path.Goals as goal
+use Rattle.path_keys.proofs.encode.write_key_unchecked.Goals as goal
 
-pub write_run-at-requires-clause-room : goal.write_run-at-requires-clause-room
-write_run-at-requires-clause-room c = omega (
+pub write_run-at-requires-clause-fits : goal.write_run-at-requires-clause-fits
+write_run-at-requires-clause-fits c = omega (
   arith,
   c.loop-rest.auto.out,
   run_fits c.loop-rest.rest.now c.loop-rest.invariant.written c.run_len-end.ensures c.requires,
@@ -29,9 +29,9 @@ loop-rest-preserved c =
 pub returns-clause-out : goal.returns-clause-out
 returns-clause-out c =
     let none : length c.loop-rest.rest.now ≡ 0 = grind (arith, nat_tests) in
-    writes_last c.loop-rest.invariant.written (none_left c.loop-rest.rest.now none) c.requires
+    writes_last c.loop-rest.invariant.written (none_remain c.loop-rest.rest.now none) c.requires
 
 pub returns-clause-len : goal.returns-clause-len
 returns-clause-len c =
     let none : length c.loop-rest.rest.now ≡ 0 = grind (arith, nat_tests) in
-    writes_end c.loop-rest.invariant.written (none_left c.loop-rest.rest.now none)
+    writes_end c.loop-rest.invariant.written (none_remain c.loop-rest.rest.now none)

@@ -4,9 +4,9 @@ use Rattle.unix_path.specs.Parts.{values}
 use Rattle.unix_path.specs.Scan.{is_filler}
 use Rattle.path_runs.proofs.lemmas.lists.WritingLemmas.{WritesOn}
 use Rattle.path_keys.specs.Keys.{key_of}
-use Rattle.path_keys.proofs.encode.write_path.Given as goal
+use Rattle.path_keys.proofs.encode.write_key_unchecked.Given as goal
 
--- a beginning is written, and the key of what is left follows it
+-- the first bytes of the key are written, and the key of the rest follows them
 abbrev pub invariant-loop-rest : goal.invariant-loop-rest
 invariant-loop-rest l = record {
   not_filler : is_filler l.rest 0 ≡ false;

@@ -144,10 +144,10 @@ all_names bytes s ws h e l is = by h.names h.is h.hold
               ∙ append-nil (bytes.now ++ 0 ∷ []));
         }
 
--- what is left, and has as many bytes as there are left for its text, is names
-pub names_left : (bytes : Bor (List ℕ)) (s : List ℕ) (room : ℕ) → LeavesText s room
-    → length s ≡ room → 0 < length s → bytes.now ≡ take (length s - 1) s
+-- a rest with as many bytes as its text may have is the key of names
+pub names_remain : (bytes : Bor (List ℕ)) (s : List ℕ) (max_len : ℕ) → LeavesText s max_len
+    → length s ≡ max_len → 0 < length s → bytes.now ≡ take (length s - 1) s
     → TakesRun s (Names bytes)
-names_left bytes s room h long l is =
+names_remain bytes s max_len h long l is =
     all_names bytes s h.ws
     (are_names h.ws h.fit (omega (arith, h.short, long, ap length h.rest_is))) h.rest_is l is

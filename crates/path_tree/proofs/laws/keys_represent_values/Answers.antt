@@ -1,5 +1,5 @@
 use Rattle.path_tree.proofs.lemmas.keys.ReadLemmas.{key_values-values}
-use Rattle.path_tree.proofs.laws.keys_stand_for.Goals as goal
+use Rattle.path_tree.proofs.laws.keys_represent_values.Goals as goal
 
 pub returns : goal.returns
 returns c = key_values-values

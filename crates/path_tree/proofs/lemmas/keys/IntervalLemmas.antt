@@ -1,0 +1,38 @@
+-- Bytes between a base and bytes that start with the base.
+use Rattle.std.proofs.Common.{◌≡◌, ◌∙◌, ℕ, true, eqb, List, Option, Some, None, Ordering, Less, Equal}
+use Rattle.std.proofs.Common.{Greater, IfSome, is_le, refl}
+use Rattle.std.specs.Cmp.Lexicographic.{nat_list_cmp_total}
+use Rattle.std.specs.List.{starts_with}
+use Rattle.path_keys.specs.Ranges.{bytes_cmp, end_of}
+use Rattle.path_keys.proofs.lemmas.values.BeginLemmas.{begins_told}
+use Rattle.path_keys.proofs.lemmas.values.RangeLemmas.{begins-lies_under}
+
+-- `le_less`, by the order of the first two
+le_less_by : (x y z : List ℕ) (o : Ordering) → bytes_cmp x y ≡ o → is_le o ≡ true
+    → bytes_cmp y z ≡ Less → bytes_cmp x z ≡ Less
+le_less_by x y z Less is le less = nat_list_cmp_total.trans x y z is less
+le_less_by x y z Equal is le less = nat_list_cmp_total.congr x y z is ∙ less
+le_less_by x y z Greater is le less = absurd (let e = le in cc)
+
+-- what is at most a second, which is less than a third, is less than the third
+pub le_less : (x y z : List ℕ) → is_le (bytes_cmp x y) ≡ true → bytes_cmp y z ≡ Less
+    → bytes_cmp x z ≡ Less
+le_less x y z le less = le_less_by x y z (bytes_cmp x y) refl le less
+
+-- what follows from a fact holds of an option's value if the fact does
+if_some : {A : Type 0} (P Q : A → Type 0) → ((a : A) → P a → Q a) → (o : Option A) → IfSome o P
+    → IfSome o Q
+if_some P Q holds None h = tt
+if_some P Q holds (Some a) h = holds a h
+
+-- bytes between a base and bytes that start with the base start with it
+pub interval : (base x y : List ℕ) → is_le (bytes_cmp base x) ≡ true → bytes_cmp x y ≡ Less
+    → starts_with eqb y base ≡ true → starts_with eqb x base ≡ true
+interval base x y le less starts =
+    let lies = (begins-lies_under base y).0 ((begins_told y base _ refl).0 starts) in
+    (begins_told x base _ refl).1
+    ((begins-lies_under base x).1 (
+      le,
+      if_some (λ end. bytes_cmp y end ≡ Less) (λ end. bytes_cmp x end ≡ Less)
+          (λ end before. nat_list_cmp_total.trans x y end less before) (end_of base) lies.1,
+    ))
