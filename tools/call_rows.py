@@ -60,7 +60,7 @@ def spelled_row(call, fields):
 
 
 def exports():
-    """Returns the names of the library's calls, as the header declares them."""
+    """Returns the names of the calls that the header declares, without `unix_path_`."""
     with open(f"{ROOT}/include/unix_path.h", encoding="utf-8") as file:
         return set(re.findall(r"^\w+ unix_path_(\w+)\((?:const|void)", file.read(), re.M))
 

@@ -70,7 +70,8 @@ static const edit edits[] = {
     {"add:", add_extension}, {"clear", clear},
 };
 
-// Applies the edit of a field. Returns its answer, or NULL if the field names no edit.
+// Applies to the path the edit that the field names. Returns the edit's answer, or NULL if the
+// field names no edit.
 static const char *make_edit(text *path, view field) {
     for (size_t at = 0; at < sizeof edits / sizeof *edits; at++) {
         view word = view_of(edits[at].word);

@@ -172,7 +172,7 @@ const call calls[] = {
 #include "../calls.inc"
 };
 
-// Cuts off the field up to the next `|`, without the spaces around it.
+// Removes the field up to the next `|` from `left`. Returns it without the spaces around it.
 std::string_view take_field(std::string_view &left) {
     const std::size_t length = std::min(left.find('|'), left.size());
     std::string_view field = left.substr(0, length);

@@ -16,8 +16,8 @@ view_bytes path = path.bytes.now
 abbrev pub rows_of : {K V : Type 0} → (K → List ℕ) → List (K × V) → List (List Value × V)
 rows_of bytes_of entries = map (λ e. (values (bytes_of e.0), e.1)) entries
 
--- looking up the entry whose key has the components w finds the same value, or none, as looking up
--- the row with the components w in the rows of `entries`
+-- looking up the components w in `entries`, by the components of their keys, has the same result as
+-- looking up w in the rows of `entries`: the same value, or None for both
 abbrev pub LookupByValues : {K : Type 0} → (K → List ℕ) → Type 0 → Type 0
 LookupByValues {K} bytes_of V =
     (w : List Value) (entries : List (K × V))

@@ -217,7 +217,8 @@ impl<'a, 'b> Pair<'a, 'b> {
 impl<'a> Comparison<'a> {
     ghost use Rattle.unix_path.specs.Pairs.{Compared, IsRest};
 
-    // Compares two paths, of which `a` and `b` are the rests after a cut.
+    // Compares two paths that have the same bytes up to a cut (see `Difference::CutBefore`). `a`
+    // and `b` are their rests after the cut.
     #[inline(always)]
     fn compare_after_cut(a: &'a [u8], b: &[u8]) -> Comparison<'a>
         ensures { Compared a.entry b.now result }
@@ -245,7 +246,8 @@ impl<'a> Comparison<'a> {
         }
     }
 
-    // Returns the order of two paths, of which `a` and `b` are the rests after a cut.
+    // Returns the order of two paths that have the same bytes up to a cut. `a` and `b` are their
+    // rests after the cut.
     #[inline(never)]
     pub(crate) fn order_after_cut(a: &[u8], b: &[u8]) -> Ordering
         ensures { (s t : List ℕ) → SharesPrefix s t a.now b.now
@@ -259,7 +261,8 @@ impl<'a> Comparison<'a> {
     }
 
     // Returns the rest of the first path after the second, or `None` if the first doesn't start
-    // with the second. `a` and `b` are the rests of the two paths after a cut.
+    // with the second. The two paths have the same bytes up to a cut. `a` and `b` are their rests
+    // after the cut.
     #[inline(never)]
     fn rest_after_cut(a: &'a [u8], b: &[u8]) -> Option<&'a [u8]>
         ensures begins { (s t : List ℕ) → SharesPrefix s t a.now b.now

@@ -9,8 +9,9 @@ use unix_path::{Path, PathBuf};
 // The number of files: enough that a Bloom filter is created, and rebuilt.
 const FILES: u64 = 700;
 
-// Returns the path of a number: a root, and a name for each of its digits to the base 5. The path's
-// parent is therefore the path of the number divided by 5, rounded down.
+// Returns the path of a number greater than 0: a root, and a name for each of its digits to the
+// base 5. If the number is at least 5, the path's parent is the path of the number divided by 5,
+// rounded down.
 fn path_of_number(alloc: Global, number: u64) -> Result<PathBuf, AllocError> {
     let mut bytes = Vec::new(alloc);
     let mut left = number;

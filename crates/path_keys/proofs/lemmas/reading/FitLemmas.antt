@@ -1,4 +1,5 @@
--- Components that may be all components of a path are those of their canonical form.
+-- If a list vs may be all the components of a path, the canonical form of vs has exactly the
+-- components vs.
 use Rattle.std.proofs.Common.{◌≡◌, ℕ, Bool, true, false, cond, List, [], ◌∷◌, ◌++◌, map, refl}
 use Rattle.std.proofs.Common.{sym, ap, ap₂, ◌∙◌, subst}
 use Rattle.std.specs.List.{AllByRecursion, slice_split}
@@ -109,20 +110,20 @@ pieces-no_slash : (vs : List Value) → AllFit false vs → AllByRecursion NoSla
 pieces-no_slash [] h = tt
 pieces-no_slash (v ∷ vs) h = (fits-no_slash v h.0, pieces-no_slash vs h.1)
 
--- if vs may follow other components, the bytes of each of them are a piece that is neither empty
--- nor `.`
+-- if vs may follow other components, the bytes of each component of vs are a piece that is neither
+-- empty nor `.`
 pieces-count : (vs : List Value) → AllFit false vs → AllCount (map value_bytes vs)
 pieces-count [] h = tt
 pieces-count (v ∷ vs) h = (fits-counts v h.0, pieces-count vs h.1)
 
--- if vs may follow other components, the bytes of each of them, taken as pieces, are the components
--- vs
+-- if vs may follow other components, the bytes of each component of vs, taken as a piece, are that
+-- component again
 pieces-values : (vs : List Value) → AllFit false vs → map value_of_piece (map value_bytes vs) ≡ vs
 pieces-values [] h = refl
 pieces-values (v ∷ vs) h = ap₂ (λ u us. u ∷ us) (fits-value v h.0) (pieces-values vs h.1)
 
--- if vs may follow other components, their bytes joined by slashes are a path with the components
--- vs
+-- if vs may follow other components, the bytes of the components of vs, joined by slashes, are a
+-- path with the components vs
 inner-spelled : (vs : List Value) → AllFit false vs → values (slashed_bytes vs) ≡ vs
 inner-spelled vs h =
     values-join_with_byte (map value_bytes vs) (pieces-no_slash vs h) (pieces-count vs h)

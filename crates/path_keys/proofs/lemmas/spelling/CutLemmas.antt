@@ -188,8 +188,8 @@ cut_one {key} {rest} {old} {out} {more} {new} {at} {end} {run} h k e is_put ends
           ∙ ap (λ k. take k (overlay at (run_text run) h.wide_out)) whole;
     }
 
--- if no run is left, and the path of the key is as long as the buffer, the buffer has the path of
--- the key
+-- if no run remains in `rest`, and the path of `key` is as long as the buffer `old`, `out` is that
+-- path
 pub cut_all : {key rest old out : List ℕ} {at : ℕ}
     → SpellsCut key rest old at out → HoldsNone rest → HasPath key (length old)
     → IsRead key out

@@ -91,13 +91,14 @@ next_is {rest} {run} ws h e k =
           (whole ∙ ap key_of (sym begins.1) ∙ key_of-append k.vs begins.0);
     }
 
--- the text of the remaining components begins with the text of the next run
+-- if ws is vs and then `more`, and the text of vs is the text of `run`, the text of ws is the text
+-- of `run` and then the text of `more`
 text_remains : {ws : List Value} (vs more : List Value) (run : Run) → ws ≡ vs ++ more
     → text_of vs ≡ run_text run → text_of ws ≡ run_text run ++ text_of more
 text_remains {ws} vs more run e text =
     ap text_of e ∙ text_of-append vs more ∙ ap (λ t. t ++ text_of more) text
 
--- the text of the next run fits
+-- if `rest` begins with `run`, the text of `run` fits between index `at` and the end of `old`
 pub spells_fits : {key rest old out : List ℕ} {at : ℕ} {run : Run}
     → SpellsOn key rest old at out → TakesRun rest run
     → at + length (run_text run) ≤ length old
@@ -144,13 +145,14 @@ spells_one {key} {rest} {old} {out} {more} {new} {at} {end} {run} h k e is_put e
           (text_remains k.vs next.more run next.is k.text_is) is_put ends);
     }
 
--- if the rest is the key of no components, no components remain
+-- if `rest` is the key of ws, which may follow other components, and isn't the key of one or more
+-- such components, ws is empty
 none_of_rest : {rest : List ℕ} (ws : List Value) → AllFit false ws → rest ≡ key_of ws
     → HoldsNone rest → ws ≡ []
 none_of_rest [] h e none = refl
 none_of_rest (w ∷ ws) h e none = absurd (none w ws h (sym e))
 
--- if no run is left in `rest`, `out` is the text of vs, the components of the key
+-- if no run remains in `rest`, `out` is the text of vs, the components whose key is `key`
 pub spells_all : {key rest old out : List ℕ} {at : ℕ}
     → SpellsOn key rest old at out → HoldsNone rest
     → (vs : List Value) → AllFit true vs → key_of vs ≡ key → out ≡ text_of vs

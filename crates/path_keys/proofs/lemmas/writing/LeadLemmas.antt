@@ -49,7 +49,7 @@ lead-dot (x ∷ s) l filler e =
     ∙ ap₂ (λ c d. lead_by c d ++ inner_values (x ∷ s)) no_root first)
     ∙ key_of-cons CurDir (inner_values (x ∷ s))
 
--- the key of nothing
+-- if s is empty, the key of its inner components is empty
 pub none_remain : (s : List ℕ) → length s ≡ 0 → key_of (inner_values s) ≡ []
 none_remain s e = ap (λ s. key_of (inner_values s)) (nil_from_length s e)
     ∙ ap key_of inner_values-nil ∙ key_of-nil

@@ -1,6 +1,6 @@
--- The first gap of a string. The bytes before it are the first piece and then components, each
--- after a slash. `slashed_parts s` are the components of s without a leading root or `.`, each
--- after a slash.
+-- The first gap of a string. A gap is a slash before an empty piece or the piece `.`. The bytes
+-- before the first gap are the first piece and then components, each after a slash.
+-- `slashed_parts s` are the components of s without a leading root or `.`, each after a slash.
 use Rattle.std.proofs.Common.{◌≡◌, ℕ, zero, suc, ◌+◌, ◌-◌, ◌<◌, ◌≤◌, true, false, eqb, ◌&&◌, ◌||◌}
 use Rattle.std.proofs.Common.{List, [], ◌∷◌, ◌++◌, length, take, drop, map, get_or, refl, sym, ap}
 use Rattle.std.proofs.Common.{ap₂, ◌∙◌, eqb-true, arith, append-nil, drop-cons, length-drop}

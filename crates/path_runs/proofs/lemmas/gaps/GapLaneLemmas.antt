@@ -1,4 +1,4 @@
--- A search for a gap in 16 bytes at once.
+-- A search for a gap in 16 bytes at once. A gap is a slash before an empty piece or the piece `.`.
 use Rattle.std.proofs.Common.{◌≡◌, ℕ, ◌+◌, ◌<◌, ◌≤◌, Bool, eqb, ◌&&◌, ◌||◌, List, length, get_or}
 use Rattle.std.proofs.Common.{ap₂, subst, arith, false, ⊎_elim}
 use Rattle.std.proofs.lemmas.Bool.{cases_lt}

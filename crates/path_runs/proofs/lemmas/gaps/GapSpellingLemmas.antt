@@ -1,5 +1,5 @@
 -- The canonical form of a path is its bytes up to the first gap, followed by the components after
--- that gap.
+-- that gap. A gap is a slash before an empty piece or the piece `.`.
 use Rattle.std.proofs.Common.{◌≡◌, ℕ, ◌<◌, ◌≤◌, true, false, eqb, List, [], ◌∷◌, ◌++◌, length, take}
 use Rattle.std.proofs.Common.{drop, map, get_or, refl, sym, ap, ap₂, subst, ◌∙◌, append-nil}
 use Rattle.std.proofs.Common.{eqb-true, arith, take_all, ◌⊎◌, inl, inr}

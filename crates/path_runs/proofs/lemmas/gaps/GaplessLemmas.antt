@@ -1,5 +1,5 @@
 -- A path is its own canonical form if and only if it has at most one byte, or has no gap and ends
--- in a component.
+-- in a component. A gap is a slash before an empty piece or the piece `.`.
 use Rattle.std.proofs.Common.{◌≡◌, ℕ, zero, suc, ◌+◌, ◌<◌, ◌≤◌, true, nat_eq, eqb, List, [], ◌∷◌}
 use Rattle.std.proofs.Common.{length, take, drop, sym, ap, ◌∙◌, arith, eqb-true, eq-eqb, ltb-true}
 use Rattle.std.proofs.Common.{ltb-false, length-append, length-take-le, take_all, ◌⊎◌, inl, inr}

@@ -1,5 +1,6 @@
 -- The canonical form consists of bytes of the path: the bytes before the first gap, and gapless
--- runs. A gapless run is a slash and the components after it, up to the next gap or the end.
+-- runs. A gap is a slash before an empty piece or the piece `.`. A gapless run is a slash and the
+-- components after it, up to the next gap or the end.
 use Rattle.std.proofs.Common.{◌≡◌, ℕ, zero, suc, ◌+◌, ◌-◌, ◌<◌, ◌≤◌, true, false, eqb, List, ◌++◌}
 use Rattle.std.proofs.Common.{length, take, drop, get_or, sym, ap, ap₂, ◌∙◌, eqb-true, arith}
 use Rattle.std.proofs.Common.{drop-drop, length-drop, length-take-le, take_all}
@@ -23,8 +24,8 @@ spelling_of-single s n l e =
     let all : length s ≤ n = omega arith in
     spelling_of-short s l ∙ sym (no_parts_after_end (take n s) s n all ∙ take_all n s all)
 
--- if s isn't empty and begins with a component, the index n of its first gap, or of its end if it
--- has no gap, is greater than 0
+-- if s isn't empty, and begins neither with a slash nor with the piece `.`, then n, the index of
+-- the first gap of s (or its length, if it has no gap), is greater than 0
 first_gap_positive : (s : List ℕ) (n : ℕ) → 0 < length s → is_filler s 0 ≡ false → FirstGap s n → 0
     < n
 first_gap_positive s zero l e h =

@@ -9,8 +9,8 @@ use Rattle.unix_path.specs.Order.{values_cmp}
 use Rattle.unix_path.specs.Parts.{Value, values}
 use Rattle.path_runs.specs.TableLaws.{rows_of, LookupByValues, InsertByValues, RemoveByValues}
 
--- looking up the entry whose key has the components w finds the same value, or none, as looking up
--- the row with the components w in the rows of the entries
+-- looking up the components w in the entries, by the components of their keys, has the same result
+-- as looking up w in the rows of the entries: the same value, or None for both
 pub lookup-rows_of : {K V : Type 0} (bytes_of : K → List ℕ) → LookupByValues bytes_of V
 lookup-rows_of bytes_of w [] = refl
 lookup-rows_of bytes_of w (e ∷ entries) =

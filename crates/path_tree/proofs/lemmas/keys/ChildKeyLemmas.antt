@@ -24,7 +24,8 @@ use Rattle.path_tree.proofs.lemmas.keys.ReadLemmas.{own-values}
 use Rattle.path_tree.proofs.lemmas.keys.UnderLemmas.{values_begin}
 use Rattle.path_keys.proofs.lemmas.values.OrderLemmas.{begins-key_of}
 
--- the first 0 in the code of a name is after the name
+-- if `place` is the index of the first 0 in the code of the name `b ∷ n` and the bytes `rest` after
+-- it, `place` is the length of the name, and the code is one byte longer than the name
 first_zero-name : (b : ℕ) (n rest : List ℕ) → Fits false (Normal (b ∷ n)) → (place : ℕ)
     → place ≡ position_or_len is_zero (code (Normal (b ∷ n)) ++ rest)
     → (length (code (Normal (b ∷ n))) ≡ length (b ∷ n) + 1) × (place ≡ length (b ∷ n))
@@ -36,7 +37,7 @@ first_zero-name b n rest h place is =
           ∙ first_zero name rest (raised-NoZero (b ∷ n) h.no_slash) ∙ long,
     )
 
--- a code that begins with 0 has two bytes
+-- if the code of v begins with 0, it has two bytes
 pub mark_long : (first : Bool) (v : Value) (rest : List ℕ) → Fits first v → (place : ℕ)
     → place ≡ position_or_len is_zero (code v ++ rest) → place ≡ 0 → 2 ≡ length (code v)
 mark_long first RootDir rest h place is none = refl
@@ -46,7 +47,8 @@ mark_long first (Normal []) rest h place is none = absurd (let e = h.some in cc)
 mark_long first (Normal (b ∷ n)) rest h place is none =
     absurd (omega (arith, (first_zero-name b n rest h place is).1))
 
--- any other code ends at its first 0
+-- if the first 0 in the code of v and the bytes `rest` after it is at index `place`, which isn't 0,
+-- the code has `place + 1` bytes
 pub name_long : (first : Bool) (v : Value) (rest : List ℕ) → Fits first v → (place : ℕ)
     → place ≡ position_or_len is_zero (code v ++ rest) → place ≢ 0
     → place + 1 ≡ length (code v)
@@ -57,37 +59,38 @@ name_long first (Normal []) rest h place is some = absurd (let e = h.some in cc)
 name_long first (Normal (b ∷ n)) rest h place is some =
     let both = first_zero-name b n rest h place is in omega (arith, both.0, both.1)
 
--- a path's key is the key of the components that it represents
+-- if `key` is the key of a path, it is the key of the components that it represents
 pub key_of-own : (key : List ℕ) → is_own key ≡ true → key ≡ key_of (key_values key)
 key_of-own key own = sym (own-is key own) ∙ ap key_of (own-values key own)
 
--- bytes that pass the test are the key of a path
+-- if the bytes `key` pass the test `is_own`, they are the key of a path
 pub IsKey-own : (key : List ℕ) → is_own key ≡ true → ∥ IsKey key ∥₁
 IsKey-own key own = ∣ (spelling_of (key_values key), own-is key own) ∣₁
 
--- the components that a key represents may be the components of a path
+-- if `key` is the key of a path, the components that it represents may be all components of a path
 pub fit-own : (key : List ℕ) → is_own key ≡ true → AllFit true (key_values key)
 fit-own key own =
     subst (AllFit true) (own-values key own) (values-fit (spelling_of (key_values key)))
 
--- the key of values that may be a path's is a path's
+-- if vs may be all components of a path, the key of vs is the key of a path
 pub own-fit : (vs : List Value) → AllFit true vs → is_own (key_of vs) ≡ true
 own-fit vs h =
     subst (λ us. is_own (key_of us) ≡ true) (values-spelled vs h) (own-key_of (spelling_of vs))
 
--- each of several components that fit does
+-- if us, v and ws, one after the other, may be components of a path, so may v by itself, as a first
+-- component or as a later one
 fits-at : (first : Bool) (us : List Value) (v : Value) (ws : List Value)
     → AllFit first (us ++ v ∷ ws) → (at : Bool) × Fits at v
 fits-at first [] v ws h = (first, h.0)
 fits-at first (u ∷ us) v ws h = fits-at false us v ws h.1
 
--- the first of several components that fit do
+-- if us, v and ws, one after the other, may be components of a path, so may us and v
 fit-front : (first : Bool) (us : List Value) (v : Value) (ws : List Value)
     → AllFit first (us ++ v ∷ ws) → AllFit first (us ++ v ∷ [])
 fit-front first [] v ws h = (h.0, tt)
 fit-front first (u ∷ us) v ws h = (h.0, fit-front false us v ws h.1)
 
--- the first code of bytes that begin with the code of a component is as long as that code
+-- if bytes begin with the code of v, their first code is as long as the code of v
 first_code_len-code : (first : Bool) (v : Value) (rest : List ℕ) → Fits first v
     → first_code_len (code v ++ rest) ≡ length (code v)
 first_code_len-code first v rest h =
@@ -96,7 +99,8 @@ first_code_len-code first v rest h =
     (λ e. rw e (mark_long first v rest h n refl (eqb-true n 0 e)))
     (λ e. rw e (name_long first v rest h n refl (eqb-false n 0 e)))
 
--- if the code of a component follows the bytes of base in a key, the child has these bytes and code
+-- if the bytes of `key` after its first `length base` bytes begin with the code of v, the child of
+-- `base` for `key` is `base` and then the code of v
 child_of-code : (base : List ℕ) (first : Bool) (v : Value) (rest : List ℕ) → Fits first v
     → (key : List ℕ) → drop (length base) key ≡ code v ++ rest → child_of base key ≡ base ++ code v
 child_of-code base first v rest h key is =
@@ -104,14 +108,14 @@ child_of-code base first v rest h key is =
     ∙ ap (λ n. base ++ take n (code v ++ rest)) (first_code_len-code first v rest h)
     ∙ ap (λ l. base ++ l) (take_at (code v) rest (length (code v)) refl)
 
--- the bytes are the key of a child of base: the child of each key that starts with them
+-- c is the key of a path, isn't empty, and is the child of `base` for each key that starts with c
 pub record ChildKey (base c : List ℕ) : Type 0 where
   pub own : is_own c ≡ true
   pub some : 0 < length c
   pub child_is : (more : List ℕ) → child_of base (c ++ more) ≡ c
 
--- after the codes of base's components a key has the code of v, and then the codes of more
--- components
+-- after the codes of the components of `base`, `key` has the code of v, and then the codes of the
+-- components `more`
 pub record GoesOn (base key : List ℕ) : Type 0 where
   pub v : Value
   pub more : List Value
@@ -159,22 +163,23 @@ module _ (base key : List ℕ) (own : is_own key ≡ true) (base_own : is_own ba
         front = front;
       }
 
-  -- a key that starts with a base and is longer has a code after the base's
+  -- if `key` starts with `base` and is longer, `key` has the code of a component after `base`
   pub goes_on : GoesOn base key
   goes_on =
       let under = values_begin base key base_own own begins in with_more under.0 under.1
 
-  -- after the bytes of base comes the code of the next component
+  -- the child of `base` for `key` is `base` and then the code of the next component in `key`
   child_code : child_of base key ≡ base ++ code goes_on.v
   child_code = let h = goes_on in child_of-code base h.at h.v (key_of h.more) h.fits key h.codes
 
-  -- the key starts with the key of its child
+  -- `key` starts with the child of `base` for `key`
   pub child_begins : IsPrefixOf (child_of base key) key
   child_begins =
       let h = goes_on in
       (key_of h.more, ap (λ c. c ++ key_of h.more) (child_code ∙ sym h.front) ∙ sym h.key_is)
 
-  -- the first code after the base's bytes makes them the key of a child
+  -- the child of `base` for `key` is itself the key of a path, and is the child of `base` for each
+  -- key that starts with it
   pub child_is_key : ChildKey base (child_of base key)
   child_is_key =
       let h = goes_on in
@@ -195,7 +200,7 @@ module _ (base key : List ℕ) (own : is_own key ≡ true) (base_own : is_own ba
             ∙ sym child_code;
       }
 
-  -- the key has at least the bytes of base and this code
+  -- `base` and the first code after it in `key` together have at most as many bytes as `key`
   pub child_code_fits : length base + first_code_len (drop (length base) key) ≤ length key
   child_code_fits =
       let h = goes_on in
@@ -209,7 +214,8 @@ module _ (base key : List ℕ) (own : is_own key ≡ true) (base_own : is_own ba
         longer,
       )
 
-  -- the child's key is as many of the key's first bytes
+  -- the first n bytes of `key` are the child of `base` for `key`, if n is the length of `base` plus
+  -- the length of the first code after it in `key`
   pub child_of-take : take (length base + first_code_len (drop (length base) key)) key
       ≡ child_of base key
   child_of-take =
@@ -218,7 +224,8 @@ module _ (base key : List ℕ) (own : is_own key ≡ true) (base_own : is_own ba
       ∙ ap (λ b. b ++ take n (drop (length base) key))
       (ap (take (length base)) (sym begins.1) ∙ take_at base begins.0 (length base) refl)
 
-  -- it is the key of the base's components and the next one
+  -- the child of `base` for `key` is the key of the first components that `key` represents: as many
+  -- as `base` represents, and one more
   pub child_of-own : child_of base key
       ≡ key_of (take (length (key_values base) + 1) (key_values key))
   child_of-own =
@@ -229,7 +236,8 @@ module _ (base key : List ℕ) (own : is_own key ≡ true) (base_own : is_own ba
       (length-append (key_values base) (h.v ∷ []))))
       ∙ ap (λ us. key_of (take n us)) (sym h.is)
 
--- the child of a path's key with which a longer path's key starts is the key of one component more
+-- if the path s starts with the path `base` and has more components, the child of the key of `base`
+-- for the key of s is the key of the first components of s: as many as `base` has, and one more
 pub child_of-values : (base s : List ℕ) → IsPrefixOf (values base) (values s)
     → length (values base) < length (values s)
     → child_of (key_of (values base)) (key_of (values s))

@@ -1,4 +1,5 @@
--- The nearest entry is found by going up: the keys of a path's ancestors begin its key.
+-- The entry nearest to a path is found by looking up the path, and then its ancestors. The keys of
+-- the ancestors are prefixes of the path's key.
 use Rattle.std.proofs.Common.{◌≡◌, ◌≤◌, ℕ, ◌+◌, ◌-◌, List, [], ◌∷◌, ◌++◌, length, take}
 use Rattle.std.proofs.Common.{Option, Some, None, IsSome, refl, sym, ap, ◌∙◌, subst, arith}
 use Rattle.std.proofs.Common.{append_assoc, append-nil, length-append, length-take-le}
@@ -17,14 +18,14 @@ use Rattle.path_tree.specs.Nearest.{IsNearest}
 use Rattle.path_tree.specs.Read.{is_own, key_values}
 use Rattle.path_tree.proofs.lemmas.keys.ReadLemmas.{own-is}
 
--- a path's key is the key of the components that it represents
+-- if `key` is the key of a path and represents the components of s, it is the key of s
 pub key-is : (key s : List ℕ) → is_own key ≡ true → key_values key ≡ values s
     → key ≡ key_of (values s)
 key-is key s own is =
     sym (own-is key own) ∙ ap (λ v. key_of (values (spelling_of v))) is
     ∙ ap key_of (values-spelling_of s)
 
--- lists of one length that begin a list are the same
+-- if u and v are prefixes of the list w and have the same length, they are the same
 same_prefix : {A : Type 0} (u v w : List A) → IsPrefixOf u w → IsPrefixOf v w → length u ≡ length v
     → u ≡ v
 same_prefix u v w begins other long =
@@ -32,18 +33,19 @@ same_prefix u v w begins other long =
     ∙ ap (take (length u)) (begins.1 ∙ sym other.1)
     ∙ take_at v other.0 (length u) (sym long)
 
--- what has nothing has no value
+-- if x is None, it is not `Some`
 none_some : {A : Type 0} (x : Option A) → x ≡ None → IsSome x → ⊥
 none_some x none some = true≢false (sym (subst IsSome none some))
 
--- if it isn't something it is nothing
+-- if x is not `Some`, it is None
 is_none : {A : Type 0} (x : Option A) → (IsSome x → ⊥) → x ≡ None
 is_none None h = refl
 is_none (Some a) h = absurd (h refl)
 
 module _ {V : Type 0} (s key : List ℕ) (rows : List (List Value × V)) where
-  -- `prefix` is the path s without some of its last components, its key is the first `end` bytes of
-  -- the key, and no longer prefix of s has a row
+  -- `prefix` is the path s without some of its last components, the first `end` bytes of `key` are
+  -- the key of `prefix`, and no prefix of the components of s that is longer than the components of
+  -- `prefix` has a row
   pub record GoesUp (end : ℕ) (prefix : List ℕ) : Type 0 where
     pub prefix_is : (m : ℕ) × (prefix ≡ rest s 0 m)
     pub begins : IsPrefixOf (values prefix) (values s)
@@ -52,7 +54,7 @@ module _ {V : Type 0} (s key : List ℕ) (rows : List (List Value × V)) where
     pub longest : (v : List Value) → IsSome (value_at v rows) → IsPrefixOf v (values s)
         → length v ≤ length (values prefix)
 
-  -- it holds of the whole path and the whole key
+  -- if `key` is the key of s, `GoesUp` holds for s without its trailing filler and the whole key
   pub goes_up : (end : ℕ) (prefix : List ℕ) → is_own key ≡ true → key_values key ≡ values s
       → end ≡ length key → prefix ≡ rest s 0 0 → values prefix ≡ values s → GoesUp end prefix
   goes_up end prefix own is all whole same = record {
@@ -69,7 +71,8 @@ module _ {V : Type 0} (s key : List ℕ) (rows : List (List Value × V)) where
     );
   }
 
-  -- the key of the prefix ends in the code of its last component
+  -- if v is the last component of `prefix`, and `new` has the components before v, the first `end`
+  -- bytes of `key` are the key of `new` and then the code of v
   key_cut : (end : ℕ) (prefix new : List ℕ) (v : Value) → GoesUp end prefix
       → values prefix ≡ values new ++ v ∷ [] → take end key ≡ key_of (values new) ++ code v
   key_cut end prefix new v h is =
@@ -77,19 +80,21 @@ module _ {V : Type 0} (s key : List ℕ) (rows : List (List Value × V)) where
       ∙ ap (λ k. key_of (values new) ++ k)
       (key_of-cons v [] ∙ ap (λ k. code v ++ k) key_of-nil ∙ append-nil (code v))
 
-  -- the length of that key, by the prefix without its last component
+  -- if v is the last component of `prefix`, and `new` has the components before v, `end` is the
+  -- length of the key of `new` plus the length of the code of v
   key_long : (end : ℕ) (prefix new : List ℕ) (v : Value) → GoesUp end prefix
       → values prefix ≡ values new ++ v ∷ [] → end ≡ length (key_of (values new)) + length (code v)
   key_long end prefix new v h is =
       sym (length-take-le end key h.in_range) ∙ ap length (key_cut end prefix new v h is)
       ∙ length-append (key_of (values new)) (code v)
 
-  -- so it is at least as long as the code of that component
+  -- if v is the last component of `prefix`, the code of v has at most `end` bytes
   pub code_fits : (end : ℕ) (prefix new : List ℕ) (v : Value) → GoesUp end prefix
       → values prefix ≡ values new ++ v ∷ [] → length (code v) ≤ end
   code_fits end prefix new v h is = omega (arith, key_long end prefix new v h is)
 
-  -- if the prefix has no row, it loses its last component, and the key loses that component's code
+  -- if `prefix` has no row, and `new` is `prefix` without its last component v, `GoesUp` holds for
+  -- `new` and for `end` less the length of the code of v
   pub goes_on : (end : ℕ) (prefix new : List ℕ) (v : Value) → GoesUp end prefix
       → value_at (values prefix) rows ≡ None → values prefix ≡ values new ++ v ∷ []
       → new ≡ rest prefix 0 1 → GoesUp (end - length (code v)) new
@@ -125,7 +130,8 @@ module _ {V : Type 0} (s key : List ℕ) (rows : List (List Value × V)) where
         );
       }
 
-  -- the row of the prefix, if it has one, is the nearest row
+  -- if `prefix` has a row with the value x, and `rest` is the rest of s after `prefix`, this row is
+  -- the nearest to s
   pub is_nearest : (end : ℕ) (prefix rest : List ℕ) (x : V) → GoesUp end prefix
       → Some x ≡ value_at (values prefix) rows → rest ≡ stripped_of s prefix
       → IsNearest s rows rest x
@@ -136,7 +142,7 @@ module _ {V : Type 0} (s key : List ℕ) (rows : List (List Value × V)) where
     rest_is = is;
   }
 
-  -- without one at the empty path there is none
+  -- if `prefix` has no components and no row, no prefix of the components of s has a row
   pub none_nearer : (end : ℕ) (prefix : List ℕ) → GoesUp end prefix
       → value_at (values prefix) rows ≡ None → values prefix ≡ []
       → (v : List Value) → IsPrefixOf v (values s) → value_at v rows ≡ None

@@ -1,4 +1,5 @@
--- If all keys of a tree pass a test, they still pass it after an insertion and after removals.
+-- If all keys of a tree pass a test, so do all keys after the insertion of a key that passes it,
+-- and after removals.
 use Rattle.std.proofs.Common.{◌≡◌, ℕ, Bool, true, false, cond, List, [], ◌∷◌}
 use Rattle.std.proofs.Common.{Result, Ok, Err, OnOk, OnErr, Ordering, sym, subst}
 use Rattle.std.proofs.lemmas.List.Elements.{All-cons, All-head, All-nil, All-tail}

@@ -30,14 +30,14 @@ abbrev pub FindsSame : {V : Type 0} → List ℕ → List (List ℕ × V) → Li
 FindsSame key old now =
     (q : List ℕ) → is_gt (bytes_cmp key q) ≡ false → entry_at q now ≡ entry_at q old
 
--- the entry that `next` returns, if any, and the entries that remain after the call are the entries
--- before the call
+-- if taking the first entry of `old` returns `next` and leaves `new`, then `old` is `next`, if any,
+-- and then `new`
 pub entries_from-next : {V : Type 0} (next : Option (Bor Key × Bor V)) (old new : List (Key × V))
     → TakesFirst deref_pair old next new → entries_from next new ≡ old
 entries_from-next None old new takes = sym takes.0
 entries_from-next (Some first) old new takes = sym takes
 
--- if no entry is left before a call of `next`, it doesn't return one
+-- if taking the first entry of `old` returns `next`, and `old` has no entries, `next` is None
 pub taken-some : {V : Type 0} (old : List (Key × V)) (next : Option (Bor Key × Bor V))
     (new : List (Key × V)) → TakesFirst deref_pair old next new → key_entries old ≡ []
     → is_some next ≡ true → ⊥
@@ -45,8 +45,8 @@ taken-some old None new takes empty some = let d = some in cc
 taken-some old (Some first) new takes empty some =
     let d = sym empty ∙ ap key_entries takes in cc
 
--- the entries left in a walk are its next entry, `is`, and the entries that are left after the
--- following call of `next`
+-- if a walk is at the entry `is`, and taking the first entry of `rest` returns `next` and leaves
+-- `new`, then the entries from there on are `is`, then `next`, if any, and then `new`
 pub entries_from-step : {V : Type 0} (first : Option (Bor Key × Bor V)) (rest : List (Key × V))
     (is : Bor Key × Bor V) (next : Option (Bor Key × Bor V)) (new : List (Key × V))
     → first ≡ Some is → TakesFirst deref_pair rest next new
@@ -55,7 +55,7 @@ entries_from-step first rest is next new first_is takes =
     ap (λ f. entries_from f rest) first_is
     ∙ ap (λ es. (is.0.now, is.1.now) ∷ es) (sym (entries_from-next next rest new takes))
 
--- if e is less than `key`, it is less than each q that is not less than `key`
+-- if e is less than `key`, and q is not less than `key`, then e is less than q
 less_later : (e key q : List ℕ) → bytes_cmp e key ≡ Less → is_gt (bytes_cmp key q) ≡ false
     → bytes_cmp e q ≡ Less
 less_later e key q less later = by (bytes_cmp key q) refl

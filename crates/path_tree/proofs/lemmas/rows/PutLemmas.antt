@@ -16,8 +16,8 @@ pub key_rows-append : {V : Type 0} (es fs : List (Key × V))
 key_rows-append [] fs = refl
 key_rows-append (e ∷ es) fs = ap (λ l. (key_values e.0.items, e.1) ∷ l) (key_rows-append es fs)
 
--- `new` is the old rows with the last of all entries inserted, and the entries `left` remain to be
--- inserted
+-- the entries `all` are the entries `remaining`, which are yet to be inserted, and then entries that
+-- were inserted into the rows `old`; `new` is the rows after that
 pub record PutsLast {V : Type 0} (all : List (Key × V)) (old : List (List Value × V))
     (remaining : List (Key × V)) (new : List (List Value × V)) : Type 0 where
   pub done : List (Key × V)
@@ -31,14 +31,14 @@ module _ {V : Type 0} (all : List (Key × V)) (old : List (List Value × V)) whe
 
   module _ (remaining : List (Key × V)) (new : List (List Value × V)) (h : PutsLast all old remaining new)
       (others : List (Key × V)) (k : Key) (x : V) (is : remaining ≡ others ++ (k, x) ∷ []) where
-    -- the last of the others has the key of a path
+    -- if all keys are keys of paths, so is k, the last key of `remaining`
     pub one_own : Own (λ (k : Key). k.items) all → is_own k.items ≡ true
     one_own own = (all_rest (λ (k : Key). is_own k.items ≡ true) others ((k, x) ∷ h.done)
         (subst (λ l. AllByRecursion (λ (k : Key). is_own k.items ≡ true) (keys_of l))
         (h.split ∙ ap (λ l. l ++ h.done) is ∙ append_assoc others ((k, x) ∷ []) h.done)
         (all_own (λ k. k.items) all own))).0
 
-  -- the entries that were inserted are the last ones
+  -- the entries that were inserted are the last of the entries `all`
   pub puts_end : (remaining : List (Key × V)) (new : List (List Value × V)) → PutsLast all old remaining new
       → (front : List (List Value × V)) × ((last : List (List Value × V))
       × (key_rows all ≡ front ++ last) × (new ≡ rows_with old last))
@@ -47,7 +47,7 @@ module _ {V : Type 0} (all : List (Key × V)) (old : List (List Value × V)) whe
     (key_rows h.done, ap key_rows h.split ∙ key_rows-append remaining h.done, h.rows),
   )
 
-  -- if no entries remain to be inserted, the rows are the old ones with all entries inserted
+  -- if no entries remain to be inserted, `new` is the rows `old` with all entries inserted
   pub puts_all : (new : List (List Value × V)) → PutsLast all old [] new
       → new ≡ rows_with old (key_rows all)
   puts_all new h = h.rows ∙ ap (λ l. rows_with old (key_rows l)) (sym h.split)

@@ -2,9 +2,9 @@
 use unix_bytes::bytes::UnixStr;
 use unix_bytes::order::compare_bytes;
 
-// Byte strings, each greater than the one before it: by a byte among the first 16, by a byte after
-// these, or only because it is longer.
-static RISING: [&[u8]; 13] = [
+// Byte strings, each greater than the one before it: by a byte among the first 16, by a later byte,
+// or only because it is longer.
+static RISING: [&[u8]; 14] = [
     b"",
     b"\x00",
     b".",
@@ -18,6 +18,7 @@ static RISING: [&[u8]; 13] = [
     b"a/b\xC3\xA4",
     b"b123456789abcdef0123456789abcde",
     b"b123456789abcdef0123456789abcdef",
+    b"b123456789abcdef0123456789abcdff",
 ];
 
 // Returns true if the bytes compare with each row of `RISING` as `at` compares with the row's

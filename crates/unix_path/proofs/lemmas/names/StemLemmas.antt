@@ -104,8 +104,8 @@ pub stem_end_of-none : (s : List ℕ) → None ≡ file_name_of (values s) → N
 unfolding stem_end_of
 stem_end_of-none s e = ap (stem_end_by s) e
 
--- if s has the file name `name` with the stem `stem`, and s without its trailing filler has `end`
--- bytes, the stem ends at `end`, less the length of `name`, plus the length of `stem`
+-- if s has the file name `name` with the stem `stem`, and `end` bytes without its trailing filler,
+-- then the name starts at index `end - length name`, and the stem ends `length stem` bytes later
 pub stem_end_of-some : {stem : List ℕ} (s name : List ℕ) (end : ℕ)
     → Some name ≡ file_name_of (values s) → end ≡ length (rest s 0 0)
     → stem ≡ (split_name name).0 → Some (end - length name + length stem) ≡ stem_end_of s

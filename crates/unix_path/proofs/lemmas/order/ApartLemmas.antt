@@ -53,7 +53,7 @@ apart-values v s t ss ts x y first second order differs = record {
       ∙ tied_itself value_cmp-total s));
 }
 
--- if p has no slash, the first piece of p followed by x is p followed by the first piece of x
+-- if p has no slash, the first piece of `p ++ x` is p and then the first piece of x
 pub first_piece-after : (p x : List ℕ) → position_or_len is_slash p ≡ length p
     → first_piece (p ++ x) ≡ p ++ first_piece x
 first_piece-after [] x none = refl
