@@ -1,4 +1,4 @@
-//! Sorts manifests: the paths of two listings, each once, in canonical form.
+//! Normalises two manifests: sorts the canonical forms of each manifest's paths, each form once.
 use crate::digest::Digest;
 use crate::lines::Lines;
 use crate::random::Random;
@@ -11,8 +11,8 @@ pub fn canonical(path: &Path) -> PathBuf {
     path.components().collect()
 }
 
-/// Returns the noise with which a path is spelled, for a random word. One word in five results in
-/// another spelling than the canonical one.
+/// Returns the noise for a path from a random word. For one word in five it changes the path's
+/// spelling; for the other words it is 0.
 fn noise(word: u64) -> u64 {
     if word.is_multiple_of(5) {
         noise_of(word >> 8)
@@ -22,8 +22,8 @@ fn noise(word: u64) -> u64 {
 }
 
 /// Returns the paths of `count` files in the order of a walk over the tree, and then as many paths
-/// in another order. Of these, one in ten may be a file of the walk, in another spelling. The other
-/// ones are not in the walk.
+/// in an order that looks random. One in ten of the latter may be a file of the walk, in another
+/// spelling. The others are not files of the walk.
 fn listing(tree: Tree, seed: u64, count: u64) -> Lines {
     let mut random = Random::new(seed);
     let mut lines = Lines::default();
@@ -48,7 +48,8 @@ fn listing(tree: Tree, seed: u64, count: u64) -> Lines {
     lines
 }
 
-/// Adds the paths as a set in canonical form.
+/// Adds the canonical form of each path to the digest, in path order and each form once. A set sorts
+/// the forms.
 fn order_set(paths: &[&Path], digest: &mut Digest) {
     let set: BTreeSet<PathBuf> = paths.iter().map(|path| canonical(path)).collect();
     for path in &set {
@@ -56,7 +57,8 @@ fn order_set(paths: &[&Path], digest: &mut Digest) {
     }
 }
 
-/// Adds the paths in canonical form, sorted, each once.
+/// Adds the canonical form of each path to the digest, in path order and each form once. The forms
+/// are sorted as a list.
 fn order_list(paths: &[&Path], digest: &mut Digest) {
     let mut list: Vec<PathBuf> = paths.iter().map(|path| canonical(path)).collect();
     list.sort();
@@ -66,7 +68,8 @@ fn order_list(paths: &[&Path], digest: &mut Digest) {
     }
 }
 
-/// Sorts two manifests of `2 * count` paths each, one as a set and one as a list.
+/// Normalises two manifests of twice `count` paths each, one as a set and one as a list. Returns the
+/// digest of both.
 pub fn run(seed: u64, count: u64) -> u64 {
     let mut digest = Digest::default();
     let packages = listing(Tree::new("usr/lib/packages", seed), seed, count);

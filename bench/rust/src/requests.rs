@@ -17,10 +17,11 @@ pub static ROOTS: [&str; 8] = [
     "/",
 ];
 
-/// Hidden directories, one of which begins some requests.
+/// Hidden directories. Some requests begin with one of them.
 static HIDDEN: [&str; 4] = [".well-known/acme", ".git/objects", ".config/app", ".cache"];
 
-/// Prefixes of requests, with `..`, `.` or a root; some of them escape.
+/// Strings that some requests begin with: they have a `..`, a `.` or a root, and some of them
+/// escape.
 static UPS: [&str; 8] = [
     "../",
     "a/../../",
@@ -32,7 +33,8 @@ static UPS: [&str; 8] = [
     "./",
 ];
 
-/// Appends a request that a hostile client sends: many `..`, or any bytes.
+/// Appends a request of a hostile client: a tag, and then two names and up to 127 `..`, or 64 to 120
+/// random bytes.
 fn push_hostile(out: &mut Vec<u8>, random: &mut Random, place: u64) {
     let word = random.next();
     push_tag(out, place);
@@ -48,9 +50,9 @@ fn push_hostile(out: &mut Vec<u8>, random: &mut Random, place: u64) {
     }
 }
 
-/// Appends a request. Most are plain paths, some with a leading hidden name; one in ten has `.`,
-/// `..` or `//`, a few escape, and a few are hostile. No two requests are the same: each contains
-/// `place`.
+/// Appends a request. Most are plain paths, some of which begin with a hidden name. One in ten has
+/// `.`, `..` or `//`, a few escape, and a few are hostile. No two requests are the same, because
+/// each has a tag made from `place`.
 pub fn push_request(out: &mut Vec<u8>, tree: Tree, random: &mut Random, place: u64) {
     let word = random.next();
     let number = word >> 24;
@@ -76,8 +78,8 @@ pub fn push_request(out: &mut Vec<u8>, tree: Tree, random: &mut Random, place: u
     tree.push_short(out, number, noise, place);
 }
 
-/// Adds the result for a request: the join within the root, and the rest of the join after the
-/// root; or 0 if the request escapes.
+/// Adds the result for a request to the digest: the join within the root and, if the join starts
+/// with `root`, the rest of the join after `root`; or 0 if the request escapes.
 fn answer(root: &Path, request: &Path, digest: &mut Digest) {
     match join_within(root, request) {
         Some(path) => {
@@ -90,8 +92,8 @@ fn answer(root: &Path, request: &Path, digest: &mut Digest) {
     }
 }
 
-/// Adds the result for callers whose root may contain links: the verbatim join, or 0 if the request
-/// has a root, a `..` or a NUL.
+/// Adds to the digest whether the request escapes, and then its verbatim join, or 0 if the request
+/// is rejected because it has a root, a `..` or a NUL byte.
 fn answer_verbatim_join(root: &Path, request: &Path, digest: &mut Digest) {
     digest.add_flag(escapes(request));
     match join_verbatim(root, request) {
@@ -100,8 +102,8 @@ fn answer_verbatim_join(root: &Path, request: &Path, digest: &mut Digest) {
     }
 }
 
-/// Adds the result for a program that maps links: the resolved request, and the relative path from
-/// the page to the request, or 1 if there is none.
+/// Adds to the digest the results for a request as a link on a page: the resolved request, and the
+/// relative path from the page to the request, or 1 if there is none.
 fn answer_link(page: &Path, request: &Path, digest: &mut Digest) {
     digest.add_path(&resolved(request));
     match relative_path(page, request) {
@@ -110,8 +112,8 @@ fn answer_link(page: &Path, request: &Path, digest: &mut Digest) {
     }
 }
 
-/// Runs the job for `count` requests. Joins each request to three roots, and verbatim to a fourth.
-/// Also treats the request as a link, on a page whose path is the request before it.
+/// Returns the digest of the results for `count` requests. Each is joined within three roots, and
+/// verbatim with one more. Each is also a link on a page, whose path is the request before it.
 pub fn run(seed: u64, count: u64) -> u64 {
     let mut digest = Digest::default();
     let mut random = Random::new(seed);

@@ -1,4 +1,4 @@
-//! Normalises two manifests: sorts their paths, in canonical form, and lists equal paths once.
+//! Normalises two manifests: sorts the canonical forms of each manifest's paths, each form once.
 use crate::digest::Digest;
 use crate::lines::Lines;
 use crate::random::Random;

@@ -35,8 +35,8 @@ static UPS: [&str; 8] = [
     "./",
 ];
 
-// Appends a request of a hostile client: a tag, and then up to 127 `..` after two names, or 64 to
-// 120 random bytes.
+// Appends a request of a hostile client: a tag, and then two names and up to 127 `..`, or 64 to 120
+// random bytes.
 fn push_hostile(out: &mut Vec<u8>, random: &mut Random, place: u64) -> Result<(), AllocError> {
     let word = random.next();
     push_tag(out, place)?;
@@ -88,7 +88,7 @@ pub(crate) fn push_request(
 }
 
 // Adds the result for a request to the digest: the join within the root and, if the join starts
-// with `root`, the rest of the join after it; or 0 if the request is rejected.
+// with `root`, the rest of the join after `root`; or 0 if the request escapes.
 fn answer(
     alloc: Global,
     root: Path<'_>,

@@ -69,8 +69,8 @@ impl<'a> Code<'a> {
     }
 }
 
-// Returns the name at the beginning of these bytes, as its bytes in the key; `None` if they don't
-// begin with the code of a name.
+// Returns the name at the beginning of these bytes, as its bytes in the key; `None` if the bytes
+// don't begin with the code of a name.
 #[inline]
 fn name_in(bytes: &[u8]) -> Option<&[u8]>
     ensures some { IfSome result
@@ -122,8 +122,8 @@ fn mark_code<'a>(mark: u8, first: bool) -> Option<Code<'a>>
     None
 }
 
-// Returns the code with which these bytes begin. Returns `None` if they don't begin with the code
-// of a component that may be the first of a path if `first` is true, and a later one otherwise.
+// Returns the code with which these bytes begin. Returns `None` if they don't begin with a code, or
+// if only the first component of a path may have this code and `first` is false.
 #[inline]
 pub(crate) fn code_in(bytes: &[u8], first: bool) -> Option<Code<'_>>
     ensures some { IfSome result (λ found. TakesCode first bytes.now (code_value found)) }

@@ -21,15 +21,15 @@ pub(crate) fn path_len(key: &[u8]) -> Option<usize>
     let Some(len) = text_len(key) else {
         return None;
     };
-    // The root as the only component has no slash after it, and the empty path has no bytes.
+    // For `/` and the empty path, `len` counts no slash after the path.
     if len > 1 {
         return Some(len - 1);
     }
     Some(len)
 }
 
-// Returns the length of the path of a key and of a slash after it, which isn't counted for `/` and
-// the empty path. Returns `None` if no path has the key.
+// Returns the length of the path of a key, plus 1 for a slash after the path unless it is `/` or
+// empty. Returns `None` if no path has the key.
 #[inline]
 fn text_len(key: &[u8]) -> Option<usize>
     ensures some { IfSome result (λ len. ReadsAs key.now len) }
@@ -48,7 +48,7 @@ fn text_len(key: &[u8]) -> Option<usize>
     Some(len)
 }
 
-// Writes the path of a key over all of `out`.
+// Writes the path of a key to `out`, which must be as long as the path.
 pub(crate) fn write_text(key: &[u8], out: &mut [u8])
     requires { HasPath key.now (length out.old) }
     ensures { IsRead key.now out.new }
@@ -64,8 +64,8 @@ pub(crate) fn write_text(key: &[u8], out: &mut [u8])
     }
 }
 
-// Overwrites the first bytes of `out` with those of the lead in a path before other components,
-// except a slash that doesn't fit.
+// Overwrites the first bytes of `out` with the bytes that the lead has in a path before other
+// components: `/`, `./` or none, and only as many as fit.
 #[inline(always)]
 fn write_lead(out: &mut [u8], lead: Lead)
     ensures { out.new ≡ overlay 0 (take (length out.old) (lead_text lead)) out.old }
@@ -79,8 +79,8 @@ fn write_lead(out: &mut [u8], lead: Lead)
     }
 }
 
-// Overwrites the bytes of `out` from `at` on with those of the run in a path before other
-// components, except a slash that doesn't fit.
+// Overwrites the bytes of `out` from `at` on with the bytes that the run has in a path: `..` or
+// names, and then a slash if it fits.
 #[inline(always)]
 fn write_run(out: &mut [u8], at: usize, run: Run<'_>)
     requires { at + length (run_text run) ≤ length out.old + 1 }
@@ -105,8 +105,8 @@ fn write_parent_dir(out: &mut [u8], at: usize)
     }
 }
 
-// Overwrites the bytes of `out` from `at` on with those that names of a key have in a path and, if
-// it fits, a slash.
+// Overwrites the bytes of `out` from `at` on with the bytes that `names`, which are names of a key,
+// have in a path, and then with a slash if it fits.
 #[inline(always)]
 fn write_names(out: &mut [u8], at: usize, names: &[u8])
     requires { at + length names.now ≤ length out.old }

@@ -28,11 +28,11 @@ pub fn key_len(path: Path<'_>) -> usize
 
 /// Writes the key of a path to the beginning of `out`, and returns its length.
 ///
-/// The key is what `PathKey::from_path` creates. The bytes of `out` after it are unchanged. If
-/// `out` is too short for all of it, nothing is written, and the length returned is greater than
-/// the length of `out`. The length of the path plus 2 is always enough.
+/// The key is what `PathKey::from_path` creates. The bytes of `out` after the key are unchanged. If
+/// `out` is too short for the whole key, nothing is written, and the length returned is greater
+/// than the length of `out`. The length of the path plus 2 is always enough.
 ///
-/// For `/a` it is 00 01 61 00, of 4 bytes.
+/// For `/a` the key is 00 01 61 00, of 4 bytes.
 pub fn write_key(path: Path<'_>, out: &mut [u8]) -> usize
     ensures out { out.new ≡ buffer_after (key_of (values path.entry.bytes.now)) out.old }
     ensures length { result ≡ length (key_of (values path.entry.bytes.now)) }
@@ -44,9 +44,8 @@ pub fn write_key(path: Path<'_>, out: &mut [u8]) -> usize
     write_key_unchecked(path.as_unix_str().as_bytes(), out)
 }
 
-// Returns a length that is enough for a buffer with the key of a path. If it is more than the
-// available length, it is the length of the key. If the key of any path of the same length would
-// fit, the key isn't counted.
+// Returns a length that is enough for the key of a path: the length of the path plus 2 if that is
+// at most `available`, since the key then needn't be counted, and otherwise the length of the key.
 #[inline]
 pub(crate) fn sufficient_len(path: Path<'_>, available: usize) -> usize
     ensures enough { length (key_of (values path.entry.bytes.now)) ≤ result }
@@ -60,7 +59,8 @@ pub(crate) fn sufficient_len(path: Path<'_>, available: usize) -> usize
     key_len(path)
 }
 
-// Overwrites the bytes of the vector with the key of a path, and truncates the vector to the key.
+// Writes the key of a path over the bytes of the vector, which must be long enough, and truncates
+// the vector to the key.
 #[inline]
 pub(crate) fn overwrite_and_truncate(key: &mut Vec<u8>, path: &[u8])
     requires { length (key_of (values path.now)) ≤ vec_len key.old }
@@ -86,7 +86,7 @@ fn key_len_of(path: &[u8]) -> usize
     len
 }
 
-// Writes the key of a path to the beginning of `out`, which the caller knows to be long enough.
+// Writes the key of a path to the beginning of `out`, which must be long enough.
 // Returns the length of the key.
 fn write_key_unchecked(path: &[u8], out: &mut [u8]) -> usize
     requires { length (key_of (values path.now)) ≤ length out.old }
@@ -103,8 +103,8 @@ fn write_key_unchecked(path: &[u8], out: &mut [u8]) -> usize
     at
 }
 
-// Writes the code of the root or the `.` with which a path begins to the beginning of `out`.
-// Returns its length, 0 if the path begins with neither.
+// If a path begins with a root or a `.`, writes its code to the beginning of `out`. Returns the
+// number of bytes written: 2, or 0 if the path begins with neither.
 #[inline]
 fn write_lead(path: &[u8], out: &mut [u8]) -> usize
     requires { length (key_of (values path.now)) ≤ length out.old }
@@ -137,7 +137,8 @@ fn lead_mark(path: &[u8]) -> Option<u8>
     Some(CUR_DIR_MARK)
 }
 
-// Returns the length of the first run: of a `..`, or of names separated by single slashes.
+// Returns the length of the run with which the bytes of a path begin: of a `..`, or of names
+// separated by single slashes.
 #[inline]
 fn run_len(bytes: &[u8]) -> usize
     requires some { 0 < length bytes.now }
@@ -150,7 +151,8 @@ fn run_len(bytes: &[u8]) -> usize
     name_run_end(bytes, b'/', b'.')
 }
 
-// Returns the length in a key of the first run, which has `len` bytes in the path.
+// Returns the length in a key of the run with which the bytes of a path begin. The run has `len`
+// bytes in the path.
 #[inline]
 fn run_key_len(bytes: &[u8], len: usize) -> usize
     requires some { 0 < length bytes.now }
@@ -163,8 +165,8 @@ fn run_key_len(bytes: &[u8], len: usize) -> usize
     len + 1
 }
 
-// Overwrites the bytes of `out` from `at` on with those of the first run, which has `len` bytes in
-// the path, in a key. Returns how many these are.
+// Overwrites the bytes of `out` from `at` on with the bytes in a key of the run with which `bytes`
+// begins. The run has `len` bytes in the path. Returns the number of bytes written.
 #[inline(always)]
 fn write_run(out: &mut [u8], at: usize, bytes: &[u8], len: usize) -> usize
     requires some { 0 < length bytes.now }

@@ -160,10 +160,10 @@ impl PathKey {
         key_parent(self.as_bytes())
     }
 
-    /// Returns the bytes of the file name of this key's path in the key, like `key_name`; `None` if
-    /// there is no file name.
+    /// Returns the file name of this key's path, as its bytes in the key, like `key_name`; `None`
+    /// if there is no file name.
     ///
-    /// For the key of `a/b.c` they are 62 2F 63.
+    /// For the key of `a/b.c` it is 62 2F 63.
     #[must_use]
     pub fn name(&self) -> Option<&[u8]>
         ensures { (s : List ℕ) → key_of (values s) ≡ key_bytes self.now

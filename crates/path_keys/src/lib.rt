@@ -1,7 +1,7 @@
 //! Keys of paths for ordered stores: byte strings that sort in path order.
 //!
 //! Functions do not allocate unless they take an allocator or say so. Functions named as in
-//! `std::path` behave as they do on Unix unless stated otherwise. Laws do nothing at run time.
+//! `std::path` behave like those on Unix unless stated otherwise. Laws do nothing at run time.
 //! Indices and lengths count bytes.
 //!
 //! The bytes of keys are written in hexadecimal.

@@ -18,7 +18,7 @@ use unix_path::PathBuf;
 
 /// The error of reading bytes back as a path.
 ///
-/// Its text is padded by width, precision, fill and alignment when it is displayed.
+/// Its text is formatted like a `str` (width, precision, fill and alignment).
 #[derive(Debug, Drop)]
 pub enum KeyError {
     /// No path has these bytes as its key. It is printed as `not the key of a path`.
@@ -27,7 +27,7 @@ pub enum KeyError {
     Memory(AllocError),
 }
 
-/// Writes the text of the variant, padded by width, precision, fill and alignment.
+/// Writes the text of the variant, formatted like a `str` (width, precision, fill and alignment).
 ///
 /// `KeyError::NotAKey` is printed as `not the key of a path`.
 impl fmt::Display for KeyError {

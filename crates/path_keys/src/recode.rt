@@ -1,4 +1,4 @@
-//! The bytes of names, changed from those of a path to those of a key, or back.
+//! Changes the bytes of names from those in a path to those in a key, and back.
 ghost use Rattle.std.specs.Prelude.{◌≡◌, ◌+◌, ◌≤◌, length, map, take, drop};
 ghost use Rattle.std.specs.Simd.Lanes.{put_chunk};
 ghost use Rattle.path_runs.specs.Overlay.{overlay};
@@ -24,7 +24,8 @@ const TO_KEY: Recoding = Recoding {
     shift: 1,
 };
 
-// From a key to a path: an end mark becomes a slash, and bytes up to 2F are lowered by one.
+// From a key to a path: an end mark becomes a slash, and other bytes less than 30 are lowered by
+// one.
 const TO_PATH: Recoding = Recoding {
     separator: 0,
     new_separator: b'/',
@@ -32,8 +33,8 @@ const TO_PATH: Recoding = Recoding {
     shift: 255,
 };
 
-// Overwrites the bytes of `out` from `at` on with those of names, separated by single slashes, in a
-// key.
+// Overwrites the bytes of `out` from `at` on with the bytes that `names` have in a key. These are
+// names of a path, separated by single slashes. Each slash becomes an end mark.
 #[inline(always)]
 pub(crate) fn names_to_key(out: &mut [u8], at: usize, names: &[u8])
     requires { at + length names.now ≤ length out.old }
@@ -42,8 +43,8 @@ pub(crate) fn names_to_key(out: &mut [u8], at: usize, names: &[u8])
     recode(TO_KEY, out, at, names);
 }
 
-// Overwrites the bytes of `out` from `at` on with those that names of a key have in a path, with a
-// slash for each end mark.
+// Overwrites the bytes of `out` from `at` on with the bytes that `names` have in a path. These are
+// names of a key, separated by end marks. Each end mark becomes a slash.
 #[inline(always)]
 pub(crate) fn names_to_path(out: &mut [u8], at: usize, names: &[u8])
     requires { at + length names.now ≤ length out.old }
@@ -52,8 +53,9 @@ pub(crate) fn names_to_path(out: &mut [u8], at: usize, names: &[u8])
     recode(TO_PATH, out, at, names);
 }
 
-// Overwrites the bytes of `out` from `at` on with these bytes, changed. Works in chunks of 16 bytes;
-// the last chunk may overlap the chunk before it. Fewer than 16 bytes are changed one by one.
+// Overwrites the bytes of `out` from `at` on with `bytes`, each changed by `how`. Works in chunks
+// of 16 bytes; the last chunk may overlap the chunk before it. Fewer than 16 bytes are changed one
+// by one.
 #[inline(always)]
 fn recode(how: Recoding, out: &mut [u8], at: usize, bytes: &[u8])
     requires { at + length bytes.now ≤ length out.old }
@@ -72,7 +74,8 @@ fn recode(how: Recoding, out: &mut [u8], at: usize, bytes: &[u8])
     recode_lanes(how, out, at + last, bytes, last);
 }
 
-// Overwrites 16 bytes of `out` from `to` on with those of `bytes` from `from` on, changed.
+// Overwrites 16 bytes of `out` from `to` on with the 16 bytes of `bytes` from `from` on, each
+// changed by `how`.
 #[inline(always)]
 fn recode_lanes(how: Recoding, out: &mut [u8], to: usize, bytes: &[u8], from: usize)
     requires fits { to + 16 ≤ length out.old }
@@ -99,7 +102,7 @@ fn recode_few(how: Recoding, out: &mut [u8], at: usize, bytes: &[u8])
     }
 }
 
-// Returns the byte, changed.
+// Returns the byte b, changed by `how`.
 #[inline(always)]
 fn recode_byte(how: Recoding, b: u8) -> u8
     ensures { result ≡ recoded how b }

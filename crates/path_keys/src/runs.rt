@@ -1,5 +1,5 @@
-//! The runs of a key: a lead, and then each `..`, and names up to the next code that isn't a
-//! name's.
+//! The runs of a key. A key is a lead, which is a root, a leading `.` or nothing, and then runs.
+//! Each `..` is a run, and so are names up to the next `..` or the end of the key.
 ghost use Rattle.std.specs.Prelude.{◌≡◌, ◌<◌, ◌^◌, length, None, IfSome};
 ghost use Rattle.unix_path.specs.Parts.{ParentDir};
 ghost use Rattle.unix_path.specs.Prefixes.{IsPrefixOf};
@@ -105,9 +105,10 @@ impl<'a> Run<'a> {
     }
 }
 
-// Does the same as `run_in`, for the rest of a key whose text has at most `max_len` bytes. If the
-// rest has as many bytes, it has only names, since each `..` has more bytes in a path than in a
-// key. It then needn't be searched. The rest of most keys is such a rest.
+// Does the same as `run_in`, for bytes at the end of a key. Their components, with a slash after
+// each, have at most `max_len` bytes in a path. If `bytes` has that many bytes too, all components
+// are names, since a `..` has more bytes in a path than in a key. Then `bytes` needn't be searched.
+// Most keys consist of a lead and names, so this holds at their first run.
 #[inline(always)]
 pub(crate) fn next_run(bytes: &[u8], max_len: usize) -> Option<Run<'_>>
     requires { LeavesText bytes.now max_len }
@@ -120,8 +121,8 @@ pub(crate) fn next_run(bytes: &[u8], max_len: usize) -> Option<Run<'_>>
     run_in(bytes)
 }
 
-// Returns the run with which these bytes begin; `None` if they are not the key of one or more
-// components that may follow others.
+// Returns the run with which these bytes begin. Returns `None` only if the bytes are not the key of
+// one or more components that may follow others.
 #[inline(always)]
 pub(crate) fn run_in(bytes: &[u8]) -> Option<Run<'_>>
     ensures some { IfSome result (λ run. TakesRun bytes.now run) }

@@ -64,8 +64,8 @@ pub enum Answer {
 }
 
 /// The error of [`apply`] when an allocation fails. An edit whose answer is `Separator` has not
-/// failed, and the edits after it are made. The error is printed as `out of memory`, padded by
-/// width, precision, fill and alignment.
+/// failed, and the edits after it are made. The error is printed as `out of memory`, formatted like
+/// a `str` (width, precision, fill and alignment).
 ///
 /// `ApplyError { done: 1 }` says that the first edit was made, and that the second one failed.
 #[derive(Debug, Drop)]
@@ -74,7 +74,7 @@ pub struct ApplyError {
     pub done: usize,
 }
 
-/// Writes `out of memory`, padded by width, precision, fill and alignment.
+/// Writes `out of memory`, formatted like a `str` (width, precision, fill and alignment).
 impl fmt::Display for ApplyError {
     ghost use Rattle.path_runs.specs.EditErrors.{apply_error_text};
 

@@ -22,8 +22,9 @@ fn key_hash(key: &[u8]) -> u64
     hasher.finish()
 }
 
-// A set of hashes, with a bit for each, that has the hash of each key of a tree, and may have
-// others. A filter without words may contain any key.
+// A set of bits. Each key has one of the bits, which other keys may share. The filter of a tree has
+// the bits of all keys of the tree, and may have others. A filter without words counts as having
+// every bit.
 #[derive(Drop)]
 pub(crate) struct KeyFilter {
     words: Vec<u64>,
@@ -47,7 +48,7 @@ impl KeyFilter {
         }
     }
 
-    // Returns a filter for so many keys, with two to four bytes for each key, and no bit set.
+    // Returns a filter for so many keys, with about two to four bytes for each key, and no bit set.
     fn zeroed(alloc: Global, keys: usize) -> Result<KeyFilter, AllocError> {
         let count = (keys / 4).next_power_of_two();
         Ok(KeyFilter {
@@ -83,7 +84,7 @@ impl KeyFilter {
         slot >= self.words.len() || (self.words[slot] >> (hash >> 58)) % 2 == 1
     }
 
-    // Sets the bit of the key.
+    // Sets the bit of the key, unless the filter has no words.
     #[inline]
     pub(crate) fn insert(&mut self, key: &[u8])
         ensures contained { may_contain self.new key.now ≡ true }

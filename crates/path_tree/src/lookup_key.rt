@@ -22,8 +22,9 @@ pub(crate) enum LookupKey<'a> {
 impl<'a> LookupKey<'a> {
     ghost use Rattle.path_tree.specs.LookupKey.{lookup_bytes};
 
-    // Returns the key of the path, in the buffer if it has no more than 512 bytes. The buffer is
-    // borrowed, because a key that contained the buffer would be copied with all of its bytes.
+    // Returns the key of the path: in `buffer` if the key has at most 512 bytes, and otherwise in
+    // memory of its own. Fails only if the allocation for that memory fails. The buffer is
+    // borrowed, because a `LookupKey` that contained it would be copied with all 512 bytes.
     #[inline]
     pub(crate) fn of(
         alloc: Global,
@@ -55,7 +56,7 @@ impl<'a> LookupKey<'a> {
     }
 }
 
-// Returns the bytes of the path's key.
+// Returns a vector of the bytes of the path's key.
 pub(crate) fn owned_key(alloc: Global, path: Path<'_>) -> Result<Vec<u8>, AllocError>
     ensures own { IfOk result (λ key. is_own key.items ≡ true) }
     ensures values { IfOk result (λ key. key_values key.items ≡ values path.entry.bytes.now) }

@@ -1,4 +1,5 @@
-//! The children of a base: the paths in a tree that are one component longer.
+//! The children of a base: the paths that are one component longer than the base, and with which
+//! the path of an entry starts.
 ghost use Rattle.std.specs.Prelude.{◌≡◌, ◌==◌, ◌<◌, true, [], length, map};
 ghost use Rattle.std.specs.Prelude.{IfOk, IfSome, IsOk, OnOk, None, Some, false};
 ghost use Rattle.std.specs.Prelude.{if◌then◌else◌, eqb, option_map};
@@ -18,7 +19,7 @@ use std::alloc::AllocError;
 use std::ops::Bound;
 use unix_bytes::search::find_byte;
 
-// Returns the length of the first of the codes that end a key.
+// Returns the length of the first of these codes, which are the last bytes of a key.
 #[inline]
 fn first_code_len(codes: &[u8]) -> usize
     ensures { result ≡ first_code_len codes.now }
@@ -27,7 +28,8 @@ fn first_code_len(codes: &[u8]) -> usize
     if len == 0 { 2 } else { len + 1 }
 }
 
-// Returns the prefix of a key that has one code more than the base, which is a shorter prefix.
+// Returns the prefix of `key` that has one code more than `base`, which is a shorter prefix of
+// `key`.
 #[inline]
 fn child_key<'a>(key: &'a [u8], base: &[u8]) -> &'a [u8]
     requires own { is_own key.now ≡ true }
@@ -40,7 +42,7 @@ fn child_key<'a>(key: &'a [u8], base: &[u8]) -> &'a [u8]
     &key[..len]
 }
 
-// Sets `end` to the end of the range of the keys that start with this one.
+// Sets `end` to the end of the range of the keys that start with `key`, which is not in the range.
 fn set_end(end: &mut Vec<u8>, key: &[u8]) -> Result<(), AllocError>
     requires own { is_own key.now ≡ true }
     requires some { 0 < length key.now }
@@ -53,7 +55,7 @@ fn set_end(end: &mut Vec<u8>, key: &[u8]) -> Result<(), AllocError>
     Ok(())
 }
 
-// Returns the child that was found last if the key starts with it.
+// Returns `last`, the child that was found last, if `key` starts with it; otherwise `None`.
 #[inline]
 fn begun_by<'a>(last: Option<&'a [u8]>, key: &[u8]) -> Option<&'a [u8]>
     ensures some { IfSome result (λ child.
@@ -67,7 +69,8 @@ fn begun_by<'a>(last: Option<&'a [u8]>, key: &[u8]) -> Option<&'a [u8]>
     }
 }
 
-// Returns the child with the value of an entry whose key starts with it, if it is the whole key.
+// Returns the child, and with it `value` if the child is the whole key. `key` and `value` are an
+// entry whose key starts with the child.
 #[inline]
 fn with_value<'a, V>(child: &'a [u8], key: &[u8], value: &'a V) -> (&'a [u8], Option<&'a V>)
     ensures { borrowed_child result ≡ (
@@ -86,15 +89,16 @@ fn with_value<'a, V>(child: &'a [u8], key: &[u8], value: &'a V) -> (&'a [u8], Op
 impl<V> PathTree<V> {
     ghost use Rattle.path_tree.specs.Tree.{entries_of};
 
-    /// Returns the keys of the children of the base in path order, each once, with the value at
-    /// that path if there is one.
+    /// Returns the keys of the children of the base in path order, each once, with the value at the
+    /// child's path if there is one.
     ///
     /// A child is the base and one more component, if an entry's path starts with them. Its key is
-    /// a prefix of that entry's key, and borrowed from it. An entry at the base is not a child. The
-    /// walk visits at most two entries that start with a child, and then continues after the
-    /// child's range. Allocates as the list grows, and for the end of the range of a child if an
-    /// entry is below it. Fails if an allocation fails, and then the list is dropped. If there are
-    /// no children, does not allocate, and succeeds. Like `std::fs::read_dir`.
+    /// a prefix of that entry's key, and borrowed from it. An entry at the base is not a child. For
+    /// each child, the walk visits at most two entries whose keys start with the child's key, and
+    /// then continues after the child's range. Allocates as the list grows, and for the end of the
+    /// range of a child if an entry is below the child. Fails if an allocation fails, and then the
+    /// list is dropped. If there are no children, does not allocate, and succeeds. Like
+    /// `std::fs::read_dir`.
     ///
     /// With 1 at `a/b/c`, 2 at `a/b/d`, 3 at `a/e` and 4 at `a`, the children of `a` are
     /// 61 00 62 00 without a value, and 61 00 65 00 with 3.

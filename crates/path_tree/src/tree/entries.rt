@@ -38,7 +38,7 @@ impl<V> PathTree<V> {
         self.find(key)
     }
 
-    // Returns a mutable reference to the value at the path of this key.
+    // Returns a mutable reference to the value at the path of this key; `None` if there is none.
     #[inline]
     pub(super) fn find_mut(&mut self, key: &[u8]) -> Option<&mut V>
         requires { is_own key.now ≡ true }
@@ -50,7 +50,7 @@ impl<V> PathTree<V> {
     }
 
     // Inserts the value at the path of this key, and returns the old value; `None` if there was
-    // none.
+    // none. Fails if an allocation for the entry fails, and then the entries are unchanged.
     pub(super) fn put(&mut self, key: Vec<u8>, value: V) -> Result<Option<V>, AllocError>
     where
         V: Drop,
@@ -71,7 +71,7 @@ impl<V> PathTree<V> {
         Ok(old)
     }
 
-    // Rebuilds the filter if it is saturated. If the allocation fails, the old one stays.
+    // Rebuilds the filter if it is saturated. If the allocation fails, the old filter stays.
     pub(super) fn rebuild_filter(&mut self)
         ensures { table_of self.new ≡ table_of self.old }
     {

@@ -17,7 +17,7 @@ use std::alloc::AllocError;
 use unix_path::filler::after_filler;
 use unix_path::{Component, Path};
 
-// Returns the length of the code of the component in a key.
+// Returns the length of the component's code in a key.
 #[inline]
 fn code_len(part: Component<'_>) -> usize
     requires { length (code (value_of part)) < 2 ^ 64 }
@@ -29,8 +29,8 @@ fn code_len(part: Component<'_>) -> usize
     }
 }
 
-// Returns the rest of a path, which ends where its last component does, after a base, which is the
-// path without some of its last components.
+// Returns the rest of `path` after `base`, without leading filler. `path` must end where its last
+// component ends, and `base` must be `path` without some of its last components.
 #[inline]
 fn rest_after<'a>(path: Path<'a>, base: Path<'_>) -> Path<'a>
     requires trimmed { rest path.bytes.now 0 0 ≡ path.bytes.now }
@@ -48,7 +48,9 @@ fn rest_after<'a>(path: Path<'a>, base: Path<'_>) -> Path<'a>
 impl<V> PathTree<V> {
     ghost use Rattle.path_tree.specs.Tree.{table_of};
 
-    // Returns the entry with the longest prefix of the path, whose key this is, and the rest.
+    // Finds the entry whose path is the longest prefix of `path`. Returns the rest of `path` after
+    // that prefix, and the entry's value; `None` if no entry's path is a prefix of `path`. `key` is
+    // the key of `path`.
     fn nearest_by<'a>(&self, path: Path<'a>, key: &[u8]) -> Option<(Path<'a>, &V)>
         requires own { is_own key.now ≡ true }
         requires values { key_values key.now ≡ values path.bytes.now }

@@ -15,7 +15,7 @@ use unix_path::Path;
 
 /// The error of [`PathTree::get_mut_path`].
 ///
-/// Its text is padded by width, precision, fill and alignment when it is displayed.
+/// Its text is formatted like a `str` (width, precision, fill and alignment).
 #[derive(Debug, Drop)]
 pub enum LookupError {
     /// The tree has no such path. It is printed as `no such path`.
@@ -24,7 +24,7 @@ pub enum LookupError {
     Memory(AllocError),
 }
 
-/// Writes the text of the variant, padded by width, precision, fill and alignment.
+/// Writes the text of the variant, formatted like a `str` (width, precision, fill and alignment).
 ///
 /// `LookupError::Absent` is printed as `no such path`.
 impl fmt::Display for LookupError {

@@ -34,9 +34,9 @@ impl<V> PathTree<V> {
     ghost use Rattle.path_tree.specs.Cursor.{cursor_entries};
     ghost use Rattle.path_tree.specs.Tree.{entries_of};
 
-    // Returns a cursor that finds so many keys. If there are fewer keys than a sixteenth of the
-    // tree's entries, the cursor looks each key up, which then takes less time than a walk over all
-    // entries.
+    // Returns a cursor that is to find so many keys. If `keys` is less than a sixteenth of the
+    // number of the tree's entries, the cursor looks each key up, which then takes less time than a
+    // walk over all entries.
     pub(super) fn merge_cursor(&self, keys: usize) -> MergeCursor<'_, V>
         ensures { cursor_entries result ≡ entries_of self.now }
     {

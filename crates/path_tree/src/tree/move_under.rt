@@ -21,7 +21,7 @@ use std::fmt;
 
 /// The error of [`PathTree::move_under`].
 ///
-/// Its text is padded by width, precision, fill and alignment when it is displayed.
+/// Its text is formatted like a `str` (width, precision, fill and alignment).
 #[derive(Debug, Drop)]
 pub enum MoveError {
     /// The target starts with the source. It is printed as `the target is inside its source`.
@@ -32,7 +32,7 @@ pub enum MoveError {
     Memory(AllocError),
 }
 
-/// Writes the text of the variant, padded by width, precision, fill and alignment.
+/// Writes the text of the variant, formatted like a `str` (width, precision, fill and alignment).
 ///
 /// `MoveError::Occupied` is printed as `the target has entries`.
 impl fmt::Display for MoveError {
@@ -108,7 +108,8 @@ impl<V> PathTree<V> {
         Ok(moved)
     }
 
-    // Inserts these entries, the last one first.
+    // Inserts these entries, the last one first. If an insertion fails, the insertions before it
+    // stay.
     fn put_all(&mut self, entries: Vec<(Vec<u8>, V)>) -> Result<(), AllocError>
     where
         V: Drop,
@@ -129,8 +130,8 @@ impl<V> PathTree<V> {
     /// Moves each entry under `from` to the same path under `to`, and returns the number of entries
     /// moved, like `std::fs::rename`.
     ///
-    /// What follows `from` in an entry's path then follows `to`. Either all entries are moved or
-    /// the tree is unchanged. The error is
+    /// The components after `from` in an entry's path then follow `to`. Either all entries are
+    /// moved, or the tree is unchanged. The error is
     ///
     /// - `Inside` if and only if `to` starts with `from`. So nothing can be moved from the empty
     ///   path, which is a prefix of every path.

@@ -40,7 +40,7 @@ impl<V> PathTree<V> {
     /// path order.
     ///
     /// Whole components count: `a.b` is not under `a`. An entry at the base comes first. The bytes
-    /// of a key after the base's key are the key of what follows the base. The walk visits no other
+    /// of a key after the base's key are the key of the rest of the path. The walk visits no other
     /// entries. Allocates once, the length of the base's key, or not at all for the empty path.
     /// Fails if the allocation fails.
     ///
@@ -80,7 +80,7 @@ impl<V> PathTree<V> {
         self.entries.range(first..end)
     }
 
-    // Returns true if a key starts with the key of the base.
+    // Returns true if some key of the tree starts with the key of the base.
     pub(super) fn has_under(&self, base: &PathKey) -> bool
         ensures some { IsTrue result
             → entries_under (key_bytes base.now) (entries_of self.now) ≡ [] → ⊥ }

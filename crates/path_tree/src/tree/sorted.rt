@@ -19,7 +19,7 @@ use unix_path::Path;
 
 /// The error of [`PathTree::from_sorted`].
 ///
-/// Its text is padded by width, precision, fill and alignment when it is displayed.
+/// Its text is formatted like a `str` (width, precision, fill and alignment).
 #[derive(Debug, Drop)]
 pub enum SortedError {
     /// A path is not greater than the path before it. It is printed as `paths are not sorted`.
@@ -28,7 +28,7 @@ pub enum SortedError {
     Memory(AllocError),
 }
 
-/// Writes the text of the variant, padded by width, precision, fill and alignment.
+/// Writes the text of the variant, formatted like a `str` (width, precision, fill and alignment).
 ///
 /// `SortedError::NotSorted` is printed as `paths are not sorted`.
 impl fmt::Display for SortedError {
@@ -62,7 +62,7 @@ impl From<AllocError> for SortedError {
     }
 }
 
-// Returns true if the key is greater than the last key of the entries, or there is none.
+// Returns true if the key is greater than the last key of the entries, or if there are no entries.
 fn rises<V>(entries: &[(Vec<u8>, V)], key: &Vec<u8>) -> bool
     ensures first { entries.now ≡ [] → result ≡ true }
     ensures others { (front : List (Key × V)) (last : Key × V) → entries.now ≡ front ++ last ∷ []

@@ -129,7 +129,7 @@ pub record GoesOn (base key : List ℕ) : Type 0 where
 
 module _ (base key : List ℕ) (own : is_own key ≡ true) (base_own : is_own base ≡ true)
     (begins : IsPrefixOf base key) (longer : length base < length key) where
-  -- `goes_on`, by the components after the components of the base
+  -- if `key` represents the components of `base` and then ws, `GoesOn` holds for `base` and `key`
   with_more : (ws : List Value) → key_values base ++ ws ≡ key_values key → GoesOn base key
   with_more [] is =
       let same : length key ≡ length base =

@@ -16,8 +16,8 @@ pub key_rows-append : {V : Type 0} (es fs : List (Key × V))
 key_rows-append [] fs = refl
 key_rows-append (e ∷ es) fs = ap (λ l. (key_values e.0.items, e.1) ∷ l) (key_rows-append es fs)
 
--- the entries `all` are the entries `remaining`, which are yet to be inserted, and then entries that
--- were inserted into the rows `old`; `new` is the rows after that
+-- `all` is `remaining`, the entries that are yet to be inserted, and then the entries that were
+-- inserted into the rows `old`; `new` is the rows after that
 pub record PutsLast {V : Type 0} (all : List (Key × V)) (old : List (List Value × V))
     (remaining : List (Key × V)) (new : List (List Value × V)) : Type 0 where
   pub done : List (Key × V)
