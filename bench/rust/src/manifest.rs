@@ -48,8 +48,8 @@ fn listing(tree: Tree, seed: u64, count: u64) -> Lines {
     lines
 }
 
-/// Adds the canonical form of each path to the digest, in path order and each form once. A set sorts
-/// the forms.
+/// Adds the canonical form of each path to the digest, in path order and each form once. A set
+/// sorts the forms.
 fn order_set(paths: &[&Path], digest: &mut Digest) {
     let set: BTreeSet<PathBuf> = paths.iter().map(|path| canonical(path)).collect();
     for path in &set {
@@ -68,8 +68,8 @@ fn order_list(paths: &[&Path], digest: &mut Digest) {
     }
 }
 
-/// Normalises two manifests of twice `count` paths each, one as a set and one as a list. Returns the
-/// digest of both.
+/// Normalises two manifests of twice `count` paths each, one as a set and one as a list. Returns
+/// the digest of both.
 pub fn run(seed: u64, count: u64) -> u64 {
     let mut digest = Digest::default();
     let packages = listing(Tree::new("usr/lib/packages", seed), seed, count);

@@ -33,8 +33,8 @@ static UPS: [&str; 8] = [
     "./",
 ];
 
-/// Appends a request of a hostile client: a tag, and then two names and up to 127 `..`, or 64 to 120
-/// random bytes.
+/// Appends a request of a hostile client: a tag, and then two names and up to 127 `..`, or 64 to
+/// 120 random bytes.
 fn push_hostile(out: &mut Vec<u8>, random: &mut Random, place: u64) {
     let word = random.next();
     push_tag(out, place);
