@@ -153,7 +153,8 @@ cut_leaves {key} {rest} {old} {out} {at} h =
       },
     )
 
--- the text of the next run fits, except for a slash at its end
+-- if `rest` begins with `run`, the text of `run`, perhaps without the slash at its end, fits
+-- between index `at` and the end of `old`
 pub cut_fits : {key rest old out : List ℕ} {at : ℕ} {run : Run}
     → SpellsCut key rest old at out → TakesRun rest run
     → at + length (run_text run) ≤ length old + 1

@@ -144,8 +144,9 @@ all_names bytes s ws h e l is = by h.names h.is h.hold
               ∙ append-nil (bytes.now ++ 0 ∷ []));
         }
 
--- if the text of the components in s has at most `max_len` bytes, and s has `max_len` bytes, more
--- than none, s is a run of names: `bytes`, all bytes of s except the last end mark, and that mark
+-- if s is the key of components that may follow others, whose text has at most `max_len` bytes, and
+-- s itself has `max_len` bytes, which is more than 0, then s begins with the run of the names
+-- `bytes`, which are all bytes of s except the last end mark
 pub names_remain : (bytes : Bor (List ℕ)) (s : List ℕ) (max_len : ℕ) → LeavesText s max_len
     → length s ≡ max_len → 0 < length s → bytes.now ≡ take (length s - 1) s
     → TakesRun s (Names bytes)

@@ -64,7 +64,9 @@ pub run_fits : {whole old out : List ℕ} {at n : ℕ} (s : List ℕ)
 run_fits {whole} {old} {out} {at} {n} s h run fits =
     writes_room (run_key s n) (key_of (inner_values (drop n s))) h run.split fits
 
--- the next run is written
+-- if the key of the inner components of s remains to be written at index `at`, and the first n
+-- bytes of s are a run, then, after the bytes in a key of this run are written, the key of the
+-- inner components of `later`, which are those of s after its first n bytes, remains to be written
 pub written_run : {whole old out new : List ℕ} {at n end : ℕ} (s later : List ℕ)
     → WritesOn whole old at out (key_of (inner_values s)) → IsRun s n
     → new ≡ overlay at (run_key s n) out → inner_values (drop n s) ≡ inner_values later

@@ -31,7 +31,7 @@ fit-append : (first : Bool) (us ws : List Value) → AllFit first us → AllFit 
 fit-append first [] ws h k = all_fit_anywhere first ws k
 fit-append first (u ∷ us) ws h k = (h.0, fit-append false us ws h.1 k)
 
--- components after some first components may follow a first component
+-- if v, us and ws, one after the other, may be components of a path, ws may follow other components
 fit-after : (first : Bool) (v : Value) (us ws : List Value) → AllFit first (v ∷ (us ++ ws))
     → AllFit false ws
 fit-after first v [] ws h = h.1

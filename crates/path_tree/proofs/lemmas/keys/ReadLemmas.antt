@@ -58,7 +58,7 @@ key_values-key_of first (v ∷ vs) h =
 pub key_values-values : (s : List ℕ) → key_values (key_of (values s)) ≡ values s
 key_values-values s = key_values-key_of true (values s) (values-fit s)
 
--- the key of a path passes the test
+-- the key of a path passes the test `is_own`
 pub own-key_of : (s : List ℕ) → is_own (key_of (values s)) ≡ true
 own-key_of s =
     let key = key_of (values s) in
@@ -89,16 +89,17 @@ bytes_cmp-own k l own other =
     ∙ bytes_cmp-keys (values s) (values t) (values-coded s) (values-coded t)
     ∙ ap₂ values_cmp (own-values k own) (own-values l other)
 
--- the bytes are a path's key, and represent the components v
+-- `key` is the key of a path and represents the components v
 pub record Represents (key : List ℕ) (v : List Value) : Type 0 where
   pub own : is_own key ≡ true
   pub is : key_values key ≡ v
 
--- a path's key represents its components
+-- if `key` is the key of a path, it represents the components that are read from it
 pub own-represents : (key : List ℕ) → is_own key ≡ true → Represents key (key_values key)
 own-represents key own = record { own = own; is = refl }
 
--- such a key is in the order of its values
+-- if `key` represents v, and l is the key of a path, `key` and l are in the order of v and the
+-- components that l represents
 pub bytes_cmp-represents : (key : List ℕ) (v : List Value) → Represents key v → (l : List ℕ)
     → is_own l ≡ true → bytes_cmp key l ≡ values_cmp v (key_values l)
 bytes_cmp-represents key v h l other =

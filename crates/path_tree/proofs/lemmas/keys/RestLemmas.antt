@@ -1,4 +1,4 @@
--- What follows a prefix of a path that ends where one of the path's components ends.
+-- The rest of a path after the path without some of its last components.
 use Rattle.std.proofs.Common.{◌≡◌, ◌∙◌, ◌+◌, ◌-◌, ◌<◌, ◌≤◌, ◌++◌, ℕ, false, eqb, List, length}
 use Rattle.std.proofs.Common.{ap, arith, drop, eqb-true, get_or, inl, inr, refl, subst, sym}
 use Rattle.std.proofs.Common.{[], take, take-append-drop}
@@ -24,20 +24,20 @@ use Rattle.unix_path.specs.Scan.{is_trailing, EndsInPart}
 use Rattle.unix_path.specs.Slices.{IsTail}
 use Rattle.unix_path.specs.Steps.{is_piece_start, piece_rank, AfterFiller, IsCommonPrefixLen}
 
--- the rest of a path ends in a component
+-- s without its last m components is empty or ends where its last component ends
 ends-rest : (s : List ℕ) (m : ℕ) → EndsInPart (rest s 0 m)
 ends-rest s m =
     let h = middle_of s 0 m in subst EndsInPart (sym (rest-middle s 0 m h)) h.ends
 
--- a path without its last components is a prefix of the path, component by component
+-- the components of s without its last m components are a prefix of the components of s
 begins-rest : (s : List ℕ) (m : ℕ) → IsPrefixOf (values (rest s 0 m)) (values s)
 begins-rest s m =
     let vs = values s in
     let n = length vs - (0 + m) in
     (drop n vs, ap (λ us. us ++ drop n vs) (values-rest s 0 m) ∙ take-append-drop n vs)
 
--- if b is a prefix of s and ends in a component, a dot at its end does not begin a piece, except as
--- the first byte
+-- if b is a prefix of s, has at least two bytes, and ends where its last component ends, and the
+-- last byte of b is a dot, then no piece of s begins at this dot
 dot_inside : (s b : List ℕ) → IsCommonPrefixLen s b (length b) → EndsInPart b → 1 < length b
     → get_or s (length b - 1) 0 ≡ 46 → is_piece_start s (length b - 1) ≡ false
 dot_inside s b alike ends some dot =
@@ -47,8 +47,8 @@ dot_inside s b alike ends some dot =
     let inside : is_trailing b i ≡ false = ends (omega arith) in
     grind (arith, here, before, inside)
 
--- if b is a prefix of s, byte by byte and component by component, and ends in a component, a piece
--- of s ends or begins after b
+-- if b is a prefix of s, byte by byte and component by component, is not empty, and ends where its
+-- last component ends, a piece of s ends or begins after b
 can_cut : (s b : List ℕ) → IsCommonPrefixLen s b (length b) → EndsInPart b → 0 < length b
     → IsPrefixOf (values b) (values s) → CanCut s (length b)
 can_cut s b alike ends some begins =
@@ -76,7 +76,8 @@ can_cut s b alike ends some begins =
     (dot_inside s b alike ends (omega (arith, some, eqb-false n 1 more))) differs).no_prefix
     begins))))
 
--- the rest of s after s without its last components is what follows these bytes and filler
+-- if s ends where its last component ends, and b is s without its last m components and not empty,
+-- the rest of s after b is t, the bytes of s after b and the filler that follows b
 pub rest-after : (s b t : List ℕ) (m : ℕ) (j : ℕ) → rest s 0 0 ≡ s → b ≡ rest s 0 m → 0 < length b
     → AfterFiller (drop (length b) s) t → j ≤ length s → t ≡ drop j s → t ≡ stripped_of s b
 rest-after s b t m j trimmed is some past in_range t_is =
@@ -100,11 +101,11 @@ pub rest-none : (s b : List ℕ) → rest s 0 0 ≡ s → b ≡ [] → stripped_
 rest-none s b trimmed none =
     ap (λ vs. rest s (length vs) 0) (ap values none ∙ values-nil) ∙ trimmed
 
--- a path without its last components is not longer than the path
+-- s without its last m components is not longer than s
 pub rest_short : (s : List ℕ) (m : ℕ) → length (rest s 0 m) ≤ length s
 rest_short s m = omega (arith, simp length-take at (ap length (take-rest s m)))
 
--- a suffix of a slice from index n on is a suffix of the whole slice
+-- if `from` is the slice `whole` from index n on, a suffix of `from` is a suffix of `whole`
 pub tail_of_rest : (part from whole : Bor (List ℕ)) (n : ℕ) → n ≤ length whole.now
     → IsTail part from → from.now ≡ take (length whole.now - n) (drop n whole.now)
     → from.ref_ptr.0 ≡ whole.ref_ptr.0 → from.ref_ptr.1 ≡ whole.ref_ptr.1 + n
@@ -112,13 +113,13 @@ pub tail_of_rest : (part from whole : Bor (List ℕ)) (n : ℕ) → n ≤ length
 tail_of_rest part from whole n short tail bytes block place =
     IsTail-trans part from whole tail (IsTail-from from whole n short bytes block place)
 
--- the rest after a base is the same in a path and in the path without trailing filler
+-- the rest after b is the same for s and for s without its trailing filler
 pub stripped-trimmed : (s b : List ℕ) → stripped_of (rest s 0 0) b ≡ stripped_of s b
 stripped-trimmed s b =
     let k = length (values b) in
     rest-rest s 0 0 k 0 ∙ ap (λ i. rest s i (0 + 0)) {x = 0 + k} {y = k} (omega arith)
 
--- the path without trailing filler has the same prefixes, if last components are removed
+-- s without its last m components is the same bytes if the trailing filler of s is removed first
 pub prefix-trimmed : (s : List ℕ) (m : ℕ) → rest (rest s 0 0) 0 m ≡ rest s 0 m
 prefix-trimmed s m =
     rest-rest s 0 0 0 m ∙ ap (λ i. rest s i (0 + m)) {x = 0 + 0} {y = 0} (omega arith)

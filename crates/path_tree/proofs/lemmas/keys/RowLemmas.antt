@@ -42,14 +42,15 @@ module _ {K V : Type 0} (bytes_of : K → List ℕ) where
 
 module _ {K : Type 0} (bytes_of : K → List ℕ) (key : List ℕ) (v : List Value)
     (represents : Represents key v) where
-  -- two keys are the same if and only if their components are equal
+  -- if `key` represents v, and k is the key of a path, k has the bytes `key` if and only if k
+  -- represents components that are equal to v
   is_it-is_at : (k : K) → is_own (bytes_of k) ≡ true
       → is_it bytes_of key k ≡ is_at (values_cmp v) (key_values (bytes_of k))
   is_it-is_at k other = ap is_eq (bytes_cmp-represents key v represents (bytes_of k) other)
 
 module _ {K V : Type 0} (bytes_of : K → List ℕ) (key : List ℕ) (v : List Value)
     (represents : Represents key v) where
-  -- `lookup-rows_by`, by recursion on the entries
+  -- the same as `lookup-rows_by`, with `AllOwn` instead of `Own`, by recursion on the entries
   lookup-all_own : (entries : List (K × V)) → AllOwn bytes_of entries
       → lookup (is_it bytes_of key) entries
       ≡ lookup (is_at (values_cmp v)) (rows_by bytes_of entries)
@@ -119,7 +120,7 @@ module _ {K V : Type 0} (bytes_of : K → List ℕ) (key : List ℕ) (v : List V
 
 module _ {K V : Type 0} (bytes_of : K → List ℕ) (key : K) (v : List Value)
     (represents : Represents (bytes_of key) v) where
-  -- `insert-rows_by`, by recursion on the entries
+  -- the same as `insert-rows_by`, with `AllOwn` instead of `Own`, by recursion on the entries
   insert-all_own : (entries : List (K × V)) (x : V) → AllOwn bytes_of entries
       → rows_by bytes_of (insert_entry (keys_cmp bytes_of) entries key x)
       ≡ insert_entry values_cmp (rows_by bytes_of entries) v x

@@ -19,7 +19,7 @@ use Rattle.path_tree.specs.Read.{is_own, key_values}
 use Rattle.path_tree.proofs.lemmas.keys.ReadLemmas.{bytes_cmp-own, own-is, own-values}
 use Rattle.path_tree.proofs.lemmas.keys.RowLemmas.{AllOwn, Own, all_own, keys_cmp, rows_by}
 
--- two keys of paths: one is a prefix of the other if and only if its components are
+-- k and l are keys of paths
 module _ (k l : List ℕ) (own : is_own k ≡ true) (other : is_own l ≡ true) where
   -- if the components of k are a prefix of those of l, k is a prefix of l
   pub key_begins : IsPrefixOf (key_values k) (key_values l) → IsPrefixOf k l
@@ -65,7 +65,7 @@ second_true true true h = refl
 second_true true false h = h
 second_true false q h = absurd (let e = h in cc)
 
--- a key whose range has no end has no bytes
+-- if the range of `key` has no end, `key` is empty
 pub endless : (key : List ℕ) → end_of key ≡ None → key ≡ []
 endless [] is = refl
 endless (b ∷ bs) is = absurd (let e = sym is ∙ end_of-some (b ∷ bs) (omega arith) in cc)
@@ -96,7 +96,8 @@ module _ {K V : Type 0} (bytes_of : K → List ℕ) (test : K → Bool) (keep : 
   filter-rows_by entries all = filter-all_own entries (all_own bytes_of entries all)
 
 module _ {K V : Type 0} (bytes_of : K → List ℕ) where
-  -- what is greater by its bytes is greater by its components
+  -- if k and all keys of the entries are keys of paths, and k is less than all these keys, the
+  -- components that k represents are less than the components of all rows
   greater-all_own : (k : K) (entries : List (K × V)) → is_own (bytes_of k) ≡ true
       → AllOwn bytes_of entries
       → AllByRecursion (λ l. keys_cmp bytes_of k l ≡ Less) (keys_of entries)

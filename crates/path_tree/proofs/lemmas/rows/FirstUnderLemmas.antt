@@ -18,7 +18,7 @@ use Rattle.path_tree.proofs.lemmas.rows.WalkLemmas.{sorted_rest, suffix-filter}
 abbrev items_of : Key → List ℕ
 items_of k = k.items
 
--- a test and `true` is the test
+-- `b && true` is b
 and-true : (b : Bool) → (b && true) ≡ b
 and-true true = refl
 and-true false = refl
@@ -37,7 +37,7 @@ less_apart base key less = by_test (starts_with eqb key base)
     (λ other. other)
 
 module _ {V : Type 0} (base : List ℕ) where
-  -- the entries under base are among the entries that are not less than base
+  -- the entries under base are the same if the entries that are less than base are left out
   under-from : (es : List (Key × V))
       → entries_under base (key_entries (filter (λ e. is_from base e.0) es))
       ≡ entries_under base (key_entries es)
@@ -47,7 +47,8 @@ module _ {V : Type 0} (base : List ℕ) where
       (under-from es)))
       (λ less. rw (less, less_apart base e.0.items less) (under-from es))
 
-  -- if a key isn't under base and not less, no greater key is under base
+  -- if k is not less than base and doesn't start with it, and all keys of es are greater than k, no
+  -- key of es starts with base
   none_after : (k : Key) → is_from base k ≡ true → starts_with eqb k.items base ≡ false
       → (es : List (Key × V)) → AllByRecursion (λ l. keys_cmp items_of k l ≡ Less) (keys_of es)
       → entries_under base (key_entries es) ≡ []
@@ -59,18 +60,18 @@ module _ {V : Type 0} (base : List ℕ) where
   module _ (entries : List (Key × V))
       (sorted : IsStrictlySortedBy (keys_cmp items_of) (keys_of entries)) (rest : List (Key × V))
       (is : rest ≡ filter (λ e. is_from base e.0 && true) entries) where
-    -- the rest has the entries that are not less than base
+    -- `rest` is the entries whose keys are not less than base
     rest_is : rest ≡ filter (λ e. is_from base e.0) entries
     rest_is =
         is ∙ filter_alike (λ k. is_from base k && true) (is_from base) (λ k. and-true (is_from base k)) entries
 
-    -- so it has all entries under base
+    -- `rest` has all entries under base
     pub under-rest : entries_under base (key_entries rest)
         ≡ entries_under base (key_entries entries)
     under-rest = ap (λ l. entries_under base (key_entries l)) rest_is ∙ under-from entries
 
     module _ (e : Key × V) (es : List (Key × V)) (first : rest ≡ e ∷ es) where
-      -- if its first entry is under base, there is one
+      -- if e, the first entry of `rest`, is under base, there are entries under base
       pub some_under : starts_with eqb e.0.items base ≡ true
           → entries_under base (key_entries entries) ≡ [] → ⊥
       some_under starts none =
@@ -78,7 +79,7 @@ module _ {V : Type 0} (base : List ℕ) where
           ap (λ l. entries_under base (key_entries l)) (sym first) ∙ under-rest ∙ none in
           let d = rw starts at front in cc
 
-      -- otherwise there is none
+      -- if e, the first entry of `rest`, is not under base, no entry is under base
       pub none_under_first : starts_with eqb e.0.items base ≡ false
           → entries_under base (key_entries entries) ≡ []
       none_under_first other =

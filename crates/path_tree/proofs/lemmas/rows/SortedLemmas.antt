@@ -111,7 +111,8 @@ module _ {K V : Type 0} (bytes_of : K → List ℕ) where
   itself e es = ap (λ o. cond (is_eq o) (Some e.1) (finds_at e.0 es))
       (tied_itself nat_list_cmp_total (bytes_of e.0))
 
-  -- the first of sorted entries isn't found in others that begin with a greater one
+  -- if e is less than f, and f is less than all of fs, looking up e in e and es doesn't find the
+  -- same as looking up e in f and fs
   not_after : (e f : K × V) (es fs : List (K × V))
       → AllByRecursion (λ l. keys_cmp bytes_of f.0 l ≡ Less) (keys_of fs)
       → keys_cmp bytes_of e.0 f.0 ≡ Less

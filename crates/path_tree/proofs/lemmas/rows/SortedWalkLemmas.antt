@@ -79,7 +79,8 @@ items_more path x (item ∷ items) =
 module _ {V : Type 0} (entries : List (Key × V)) (items : List (Path × V))
     (h : Listed entries items) (k : Key) (path : Path) (own : is_own k.items ≡ true)
     (represents : key_values k.items ≡ values path.bytes.now) where
-  -- one more whose key is greater than the last
+  -- if `entries` are listed for `items`, and k, the key of `path`, is greater than the last key of
+  -- the entries, if any, then the entries and k are listed for the items and `path`
   pub listed_more : (x : V)
       → ((front : List (Key × V)) (last : Key × V) → entries ≡ front ++ last ∷ []
       → is_lt (bytes_cmp last.0.items k.items) ≡ true)
@@ -93,7 +94,8 @@ module _ {V : Type 0} (entries : List (Key × V)) (items : List (Path × V))
         ∙ ap (λ v. rows_in items ++ (v, x) ∷ []) represents ∙ sym (items_more path x items);
   }
 
-  -- one whose key isn't greater
+  -- if `entries` are listed for `items`, the next item has the path `path`, and its key k isn't
+  -- greater than the last key of the entries, the paths of the iterator's items stop rising there
   pub stops : {S : Type 0} (steps : S → Option (Path × V) → S → Type 0) (all : S) (x : V) (after : S)
       → YieldsThen steps all items (Some (path, x)) after → (t : Bool) → t ≡ false
       → (entries ≡ [] → t ≡ true)

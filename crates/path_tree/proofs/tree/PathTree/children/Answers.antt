@@ -19,7 +19,7 @@ use Rattle.path_tree.proofs.tree.PathTree.children.Goals.{
   in-Some+in_default-begun_by+then-not-starts_with,
 }
 
--- the key does not start with the child that was found last, whatever the key is called
+-- if k is `key`, and `key` doesn't start with the child that was found last, neither does k
 without : (last : Option (Bor (List ℕ))) (key k : List ℕ)
     → IfSome last (λ child. starts_with eqb key child.now ≡ false) → key ≡ k
     → IfSome (option_map (λ (b : Bor (List ℕ)). b.now) last) (λ c. starts_with eqb k c ≡ false)
