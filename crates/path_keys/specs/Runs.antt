@@ -49,8 +49,8 @@ pub record TakesRun (s : List ℕ) (run : Run) : Type 0 where
 abbrev pub HoldsNone : List ℕ → Type 0
 HoldsNone s = (v : Value) (vs : List Value) → AllFit false (v ∷ vs) → key_of (v ∷ vs) ≡ s → ⊥
 
--- these bytes are the key of components that may follow others, whose bytes before other components
--- in a path are at most `max_len` bytes
+-- s is the key of components that may follow others, and the text of these components has at most
+-- `max_len` bytes
 pub record LeavesText (s : List ℕ) (max_len : ℕ) : Type 0 where
   pub ws : List Value
   pub fit : AllFit false ws

@@ -8,7 +8,8 @@ use Rattle.std.specs.Option.{option_copied}
 use Rattle.std.specs.Ordering.{is_eq}
 use Rattle.path_keys.specs.Ranges.{bytes_cmp}
 
--- the length of the first of these codes: 2 if it begins with 0, and else up to its first 0
+-- the length of the first of these codes: 2 if the bytes begin with 0, and otherwise the number of
+-- bytes up to and including the first 0
 abbrev pub first_code_len : List ℕ → ℕ
 first_code_len codes =
     let n = position_or_len (λ b. b == 0) codes in if n == 0 then 2 else n + 1
@@ -22,8 +23,8 @@ child_of base key =
 abbrev pub is_below : List ℕ → List ℕ → Bool
 is_below base key = starts_with eqb key base && nat_lt (length base) (length key)
 
--- an entry with the key of the child that its key starts with, and with its value if that is all of
--- its key
+-- the child of base with which the key of the entry e starts, and the value of e if the child is
+-- the whole key of e
 abbrev pub child_entry : {V : Type 0} → List ℕ → List ℕ × V → List ℕ × Option V
 child_entry base e =
     let child = child_of base e.0 in
@@ -33,9 +34,9 @@ child_entry base e =
 abbrev pub have_same_key : {A : Type 0} → List ℕ × A → List ℕ × A → Bool
 have_same_key e other = is_eq (bytes_cmp other.0 e.0)
 
--- the entries below base, in their order, each with the key of its child; of adjacent entries with
--- the same key only the first stays, which in path order is the entry that has all of its key, if
--- there is one
+-- the children of base with which the keys of the entries start, in the order of the entries; of
+-- adjacent children with the same key only the first stays, which in path order is the child that
+-- is the whole key of an entry, if there is one
 abbrev pub children_of : {V : Type 0} → List ℕ → List (List ℕ × V) → List (List ℕ × Option V)
 children_of base entries =
     dedup have_same_key (map (child_entry base) (filter (λ e. is_below base e.0) entries))

@@ -14,7 +14,7 @@ abbrev pub moved_rows : {V : Type 0} → List Value → List Value → List (Lis
     → List (List Value × V)
 moved_rows from to rows = map (moved_row from to) (rows_under from rows)
 
--- the rows with others inserted, the last one first
+-- the rows with the rows `others` inserted into them, the last of these first
 abbrev pub rows_with : {V : Type 0} → List (List Value × V) → List (List Value × V)
     → List (List Value × V)
 rows_with rows [] = rows

@@ -5,8 +5,8 @@ use Rattle.unix_path.specs.Parts.{Value, values}
 use Rattle.unix_path.specs.Rest.{rest}
 use Rattle.path_runs.specs.Rows.{value_at}
 
--- x is the value of the row with the longest components that the path s starts with, and
--- `rest_bytes` is the rest of s after them
+-- of the rows whose components the path s starts with, the row with the most components has the
+-- value x, and `rest_bytes` is the rest of s after these components
 pub record IsNearest {V : Type 0} (s : List ℕ) (rows : List (List Value × V)) (rest_bytes : List ℕ)
     (x : V) : Type 0 where
   pub base : List Value

@@ -10,8 +10,8 @@ use Rattle.path_keys.specs.Codes.{lowered}
 abbrev pub marked : ℕ → Value
 marked mark = if mark == 1 then RootDir else (if mark == 2 then CurDir else ParentDir)
 
--- the components of the rest of a key, after these bytes of a name, or after the 0 of a mark
--- (`None`)
+-- the components that the rest of a key represents if these first bytes of a name were read before
+-- it (`Some`), or if the 0 before a mark was read (`None`)
 unfoldable pub values_from : Option (List ℕ) → List ℕ → List Value
 values_from name [] = []
 values_from None (b ∷ key) = marked b ∷ values_from (Some []) key

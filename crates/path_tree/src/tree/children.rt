@@ -1,5 +1,5 @@
-//! The children of a base: the paths that are one component longer than the base, and with which
-//! the path of an entry starts.
+//! The children of a base. A child is the base and one more component, if an entry's path starts
+//! with them.
 ghost use Rattle.std.specs.Prelude.{◌≡◌, ◌==◌, ◌<◌, true, [], length, map};
 ghost use Rattle.std.specs.Prelude.{IfOk, IfSome, IsOk, OnOk, None, Some, false};
 ghost use Rattle.std.specs.Prelude.{if◌then◌else◌, eqb, option_map};
@@ -42,7 +42,7 @@ fn child_key<'a>(key: &'a [u8], base: &[u8]) -> &'a [u8]
     &key[..len]
 }
 
-// Sets `end` to the end of the range of the keys that start with `key`, which is not in the range.
+// Sets `end` to the end, exclusive, of the range of the keys that start with `key`.
 fn set_end(end: &mut Vec<u8>, key: &[u8]) -> Result<(), AllocError>
     requires own { is_own key.now ≡ true }
     requires some { 0 < length key.now }

@@ -29,8 +29,9 @@ fn code_len(part: Component<'_>) -> usize
     }
 }
 
-// Returns the rest of `path` after `base`, without leading filler. `path` must end where its last
-// component ends, and `base` must be `path` without some of its last components.
+// Returns the rest of `path` after `base` and the filler that follows `base`; all of `path` if
+// `base` is empty. `path` must end where its last component ends, and `base` must be `path` without
+// some of its last components.
 #[inline]
 fn rest_after<'a>(path: Path<'a>, base: Path<'_>) -> Path<'a>
     requires trimmed { rest path.bytes.now 0 0 ≡ path.bytes.now }

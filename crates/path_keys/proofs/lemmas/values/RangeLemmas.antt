@@ -31,7 +31,7 @@ greater_is a b h = grind (arith, nat_tests)
 equal_is : (a : ℕ) → nat_cmp a a ≡ Equal
 equal_is a = grind (arith, nat_tests)
 
--- bytes of which the first is greater are not less than the end of a range
+-- if b is less than c, bytes that begin with c are not less than the single byte `b + 1`
 above-not_less : (b c : ℕ) (key : List ℕ) → b < c → bytes_cmp (c ∷ key) ((b + 1) ∷ []) ≡ Less → ⊥
 above-not_less b c key l h = ⊎_elim
     (λ same.

@@ -61,7 +61,7 @@ words_with mask words hash =
     set words (bit_and hash mask) (word_with (get_or words (bit_and hash mask) 0) hash)
 
 module _ (mask : ℕ) (words : List ℕ) (hash : ℕ) (there : bit_and hash mask < length words) where
-  -- if there is a word for the hash, the words have the bit of the hash after it is set
+  -- if there is a word for the hash, the words have the bit of the hash after this bit is set
   pub has_bit-set : hash < 2 ^ 64 → has_bit mask (words_with mask words hash) hash ≡ true
   unfolding has_bit
   has_bit-set fits =
