@@ -14,7 +14,7 @@ abbrev pub first_code_len : List ℕ → ℕ
 first_code_len codes =
     let n = position_or_len (λ b. b == 0) codes in if n == 0 then 2 else n + 1
 
--- the bytes of base, and the first code that follows them in the key
+-- the child of base for the key: the bytes of base, and the first code that follows them in the key
 abbrev pub child_of : List ℕ → List ℕ → List ℕ
 child_of base key =
     let codes = drop (length base) key in base ++ take (first_code_len codes) codes

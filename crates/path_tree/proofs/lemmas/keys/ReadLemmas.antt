@@ -94,7 +94,8 @@ pub record Represents (key : List ℕ) (v : List Value) : Type 0 where
   pub own : is_own key ≡ true
   pub is : key_values key ≡ v
 
--- if `key` is the key of a path, it represents the components that are read from it
+-- if `key` is the key of a path, it represents `key_values key`, the components that are read from
+-- it
 pub own-represents : (key : List ℕ) → is_own key ≡ true → Represents key (key_values key)
 own-represents key own = record { own = own; is = refl }
 

@@ -76,8 +76,8 @@ can_cut s b alike ends some begins =
     (dot_inside s b alike ends (omega (arith, some, eqb-false n 1 more))) differs).no_prefix
     begins))))
 
--- if s ends where its last component ends, and b is s without its last m components and not empty,
--- the rest of s after b is t, the bytes of s after b and the filler that follows b
+-- if s ends where its last component ends, b is s without its last m components and not empty, and
+-- t is the bytes of s after b and after the filler that follows b, then t is the rest of s after b
 pub rest-after : (s b t : List ℕ) (m : ℕ) (j : ℕ) → rest s 0 0 ≡ s → b ≡ rest s 0 m → 0 < length b
     → AfterFiller (drop (length b) s) t → j ≤ length s → t ≡ drop j s → t ≡ stripped_of s b
 rest-after s b t m j trimmed is some past in_range t_is =

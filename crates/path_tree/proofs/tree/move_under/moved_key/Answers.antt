@@ -4,8 +4,8 @@ use Rattle.path_tree.specs.Read.{is_own, key_values}
 use Rattle.path_tree.proofs.lemmas.keys.MovedKeyLemmas.{moved_own, moved_values}
 use Rattle.path_tree.proofs.tree.move_under.moved_key.Goals as goal
 
--- the first `length key - length from` bytes of the bytes of `key` after its first `length from`
--- bytes are all of these
+-- `key` without its first `length from` bytes has at most `length key - length from` bytes, so
+-- taking that many bytes takes all of them
 whole_rest : (key from : List ℕ)
     → take (length key - length from) (drop (length from) key) ≡ drop (length from) key
 whole_rest key from = take_all (length key - length from) (drop (length from) key)
