@@ -1,6 +1,6 @@
 -- Entries that are inserted into rows, the last one first.
-use Rattle.std.proofs.Common.{◌≡◌, ◌∙◌, true, List, [], ◌∷◌, ◌++◌, ap, append_assoc, append-nil}
-use Rattle.std.proofs.Common.{refl, subst, sym}
+use Rattle.std.proofs.Common.{◌≡◌, ◌∙◌, true, List, [], ◌∷◌, ◌++◌, ap, append_assoc}
+use Rattle.std.proofs.Common.{refl, subst}
 use Rattle.std.specs.List.{AllByRecursion}
 use Rattle.std.specs.Map.{keys_of}
 use Rattle.unix_path.specs.Parts.{Value}
@@ -24,10 +24,6 @@ pub record PutsLast {V : Type 0} (all : List (Key × V)) (old : List (List Value
   pub rows : new ≡ rows_with old (key_rows done)
 
 module _ {V : Type 0} (all : List (Key × V)) (old : List (List Value × V)) where
-  -- at first no entry was inserted
-  pub puts_none : PutsLast all old all old
-  puts_none = record { done = []; split = sym (append-nil all); rows = refl }
-
   module _ (remaining : List (Key × V)) (new : List (List Value × V)) (h : PutsLast all old remaining new)
       (others : List (Key × V)) (k : Key) (x : V) (is : remaining ≡ others ++ (k, x) ∷ []) where
     -- the last of the others has the key of a path
@@ -45,8 +41,3 @@ module _ {V : Type 0} (all : List (Key × V)) (old : List (List Value × V)) whe
     key_rows remaining,
     (key_rows h.done, ap key_rows h.split ∙ key_rows-append remaining h.done, h.rows),
   )
-
-  -- at the end all entries were inserted
-  pub puts_all : (new : List (List Value × V)) → PutsLast all old [] new
-      → new ≡ rows_with old (key_rows all)
-  puts_all new h = h.rows ∙ ap (λ l. rows_with old (key_rows l)) (sym h.split)
