@@ -16,7 +16,7 @@ use Rattle.path_tree.specs.Rows.{Key, key_entries}
 use Rattle.path_tree.proofs.lemmas.keys.ChildKeyLemmas.{ChildKey}
 use Rattle.path_tree.proofs.lemmas.keys.IntervalLemmas.{interval, le_less}
 use Rattle.path_tree.proofs.lemmas.keys.RowLemmas.{keys_cmp}
-use Rattle.path_tree.proofs.lemmas.rows.EntryLemmas.{between-starts}
+use Rattle.path_tree.proofs.lemmas.rows.EntryLemmas.{between-starts, items_of}
 use Rattle.path_tree.proofs.lemmas.rows.WalkLemmas.{all_from_first, filter_all, sorted_first}
 use Rattle.path_tree.proofs.lemmas.rows.WalkLemmas.{sorted_others}
 
@@ -84,10 +84,6 @@ child-begun base c key child starts =
 -- the key is not less than the end of a range, and so is after the range
 abbrev pub is_after : List ℕ → Key → Bool
 is_after end k = is_le (bytes_cmp end k.items)
-
--- the bytes of a key
-abbrev pub items_of : Key → List ℕ
-items_of k = k.items
 
 -- what follows a key after a range is after the range too
 pub stays_after : (end : List ℕ) (k l : Key) → is_after end k ≡ true

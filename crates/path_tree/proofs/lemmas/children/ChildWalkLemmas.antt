@@ -22,16 +22,17 @@ use Rattle.path_tree.specs.Children.{child_entry, child_of, children_of, is_belo
 use Rattle.path_tree.specs.Read.{is_own}
 use Rattle.path_tree.specs.Rows.{Key, key_entries}
 use Rattle.path_tree.proofs.lemmas.children.ChildLemmas.{children-fresh, fresh}
-use Rattle.path_tree.proofs.lemmas.children.ChildLemmas.{goes_on_in, is_after, items_of}
+use Rattle.path_tree.proofs.lemmas.children.ChildLemmas.{goes_on_in, is_after}
 use Rattle.path_tree.proofs.lemmas.children.ChildLemmas.{new_child, none_more, pass_child}
 use Rattle.path_tree.proofs.lemmas.children.ChildLemmas.{stays_after}
 use Rattle.path_tree.proofs.lemmas.keys.ChildKeyLemmas.{ChildKey}
 use Rattle.path_tree.proofs.lemmas.keys.IntervalLemmas.{le_less}
 use Rattle.path_tree.proofs.lemmas.keys.RowLemmas.{AllOwn, Own, all_own, keys_cmp}
 use Rattle.path_tree.proofs.lemmas.rows.DifferenceLemmas.{some_append}
-use Rattle.path_tree.proofs.lemmas.rows.EntryLemmas.{between-starts}
+use Rattle.path_tree.proofs.lemmas.rows.EntryLemmas.{between-starts, items_of}
 use Rattle.path_tree.proofs.lemmas.rows.SortedLemmas.{sorted-more}
-use Rattle.path_tree.proofs.lemmas.rows.WalkLemmas.{all_kept, all_rest, filter-suffix, filter_alike}
+use Rattle.path_tree.proofs.lemmas.rows.WalkLemmas.{all_kept, all_rest, and-true, filter-suffix}
+use Rattle.path_tree.proofs.lemmas.rows.WalkLemmas.{filter_alike}
 use Rattle.path_tree.proofs.lemmas.rows.WalkLemmas.{kept_pass, length-filter_le, sorted_first}
 use Rattle.path_tree.proofs.lemmas.rows.WalkLemmas.{sorted_rest, suffix-filter}
 
@@ -40,11 +41,6 @@ pub begins_by : (key base k b : List ℕ) (t : Bool) → t ≡ starts_with eqb k
     → base ≡ b → t ≡ true → IsPrefixOf b k
 begins_by key base k b t is same alike holds =
     subst₂ IsPrefixOf alike same ((begins_told key base t is).0 holds)
-
--- a test and `true` is the test
-and-true : (b : Bool) → (b && true) ≡ b
-and-true true = refl
-and-true false = refl
 
 -- a key that starts with base and is longer is greater than base
 below_less : (base x : List ℕ) → is_below base x ≡ true → bytes_cmp base x ≡ Less

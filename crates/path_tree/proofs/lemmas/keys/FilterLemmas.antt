@@ -85,13 +85,13 @@ module _ (mask : ℕ) (words : List ℕ) (hash : ℕ) (there : bit_and hash mask
   stays place k is =
       let slot = bit_and hash mask in
       let word = get_or words slot 0 in
-      let marked = word_with word hash in
+      let new_word = word_with word hash in
       ⊎_elim
       (λ (same : place ≡ slot).
-      ap (λ p. digit (get_or (set words slot marked) p 0) k) same
-      ∙ ap (λ w. digit w k) (get_or-set_same words slot marked 0 there)
+      ap (λ p. digit (get_or (set words slot new_word) p 0) k) same
+      ∙ ap (λ w. digit w k) (get_or-set_same words slot new_word 0 there)
       ∙ digit-or_left word _ k (ap (λ p. digit (get_or words p 0) k) (sym same) ∙ is))
-      (λ other. ap (λ w. digit w k) (get_or-set_other words slot place marked 0 other) ∙ is)
+      (λ other. ap (λ w. digit w k) (get_or-set_other words slot place new_word 0 other) ∙ is)
       (cases_eq place slot)
 
   -- if the words have the bit of `other`, they still have it after the bit of `hash` is set
@@ -152,12 +152,12 @@ module _ {K V : Type 0} (bytes_of : K → List ℕ) (test : List ℕ → Bool) (
   lookup-filtered entries all =
       lookup-fails entries (recursion_from_All (λ k. test (bytes_of k) ≡ true) _ all)
 
--- the filter `marked` has the keys of all entries before the rest `remaining`: each filter that has
--- all keys of `marked` and the keys of `remaining` has the keys of all entries
+-- the filter `has` has the keys of all entries before the rest `remaining`: each filter that has all
+-- keys of `has` and the keys of `remaining` has the keys of all entries
 abbrev pub FiltersRest : {K V : Type 0} → (K → List ℕ) → (List ℕ → Bool) → List (K × V)
     → List (K × V) → Type 0
-FiltersRest bytes_of marked remaining all = (more : List ℕ → Bool)
-    → ((key : List ℕ) → marked key ≡ true → more key ≡ true)
+FiltersRest bytes_of has remaining all = (more : List ℕ → Bool)
+    → ((key : List ℕ) → has key ≡ true → more key ≡ true)
     → AllKeys bytes_of more remaining → AllKeys bytes_of more all
 
 -- if the filter `old` has the keys of all entries before e, and the filter `new` has the key of e
@@ -166,7 +166,7 @@ pub filters_more : {K V : Type 0} (bytes_of : K → List ℕ) (old new : List �
     (remaining all : List (K × V)) → FiltersRest bytes_of old (e ∷ remaining) all
     → new (bytes_of e.0) ≡ true → ((key : List ℕ) → old key ≡ true → new key ≡ true)
     → FiltersRest bytes_of new remaining all
-filters_more bytes_of old new e remaining all before marked kept =
+filters_more bytes_of old new e remaining all before has kept =
     λ more wider rest. before more (λ key is. wider key (kept key is))
     (All-cons (λ k. more (bytes_of k) ≡ true) e.0 (keys_of remaining)
-    (wider (bytes_of e.0) marked) rest)
+    (wider (bytes_of e.0) has) rest)

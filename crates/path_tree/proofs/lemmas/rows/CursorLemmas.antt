@@ -6,7 +6,6 @@ use Rattle.std.specs.Borrow.{Bor}
 use Rattle.std.specs.List.Sorted.{IsStrictlySortedBy}
 use Rattle.std.specs.Map.{keys_of, lookup}
 use Rattle.std.specs.Map.Iter.{TakesFirst, deref_pair}
-use Rattle.std.specs.Option.{is_some}
 use Rattle.std.specs.Ordering.{is_eq, ordering_reverse}
 use Rattle.path_keys.specs.Ranges.{bytes_cmp}
 use Rattle.path_tree.specs.Rows.{Key, entries_from, entry_at, key_entries}
@@ -36,14 +35,6 @@ pub entries_from-next : {V : Type 0} (next : Option (Bor Key × Bor V)) (old new
     → TakesFirst deref_pair old next new → entries_from next new ≡ old
 entries_from-next None old new takes = sym takes.0
 entries_from-next (Some first) old new takes = sym takes
-
--- if taking the first entry of `old` returns `next`, and `old` has no entries, `next` is None
-pub taken-some : {V : Type 0} (old : List (Key × V)) (next : Option (Bor Key × Bor V))
-    (new : List (Key × V)) → TakesFirst deref_pair old next new → key_entries old ≡ []
-    → is_some next ≡ true → ⊥
-taken-some old None new takes empty some = let d = some in cc
-taken-some old (Some first) new takes empty some =
-    let d = sym empty ∙ ap key_entries takes in cc
 
 -- if a walk is at the entry `is`, and taking the first entry of `rest` returns `next` and leaves
 -- `new`, then the entries from there on are `is`, then `next`, if any, and then `new`

@@ -27,7 +27,7 @@ use Rattle.path_tree.proofs.lemmas.keys.UnderLemmas.{both_true, first_true, seco
 use Rattle.path_tree.proofs.lemmas.rows.ManyLemmas.{starts_with-under}
 
 -- the bytes of a key
-abbrev items_of : Key → List ℕ
+abbrev pub items_of : Key → List ℕ
 items_of k = k.items
 
 -- if k is less than all keys of es, its bytes are less than the bytes of these keys

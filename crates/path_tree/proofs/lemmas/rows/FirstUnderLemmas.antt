@@ -11,17 +11,9 @@ use Rattle.path_keys.proofs.lemmas.values.RangeLemmas.{begins-lies_under}
 use Rattle.path_tree.specs.Rows.{Key, entries_under, key_entries}
 use Rattle.path_tree.proofs.lemmas.keys.IntervalLemmas.{interval, le_less}
 use Rattle.path_tree.proofs.lemmas.keys.RowLemmas.{keys_cmp}
-use Rattle.path_tree.proofs.lemmas.rows.WalkLemmas.{filter_alike, kept_pass, sorted_first}
+use Rattle.path_tree.proofs.lemmas.rows.EntryLemmas.{items_of}
+use Rattle.path_tree.proofs.lemmas.rows.WalkLemmas.{and-true, filter_alike, kept_pass, sorted_first}
 use Rattle.path_tree.proofs.lemmas.rows.WalkLemmas.{sorted_rest, suffix-filter}
-
--- the bytes of a key
-abbrev items_of : Key → List ℕ
-items_of k = k.items
-
--- `b && true` is b
-and-true : (b : Bool) → (b && true) ≡ b
-and-true true = refl
-and-true false = refl
 
 -- the key is not less than base
 abbrev is_from : List ℕ → Key → Bool

@@ -1,6 +1,6 @@
 -- Entries that are inserted into rows, the last one first.
-use Rattle.std.proofs.Common.{◌≡◌, ◌∙◌, true, List, [], ◌∷◌, ◌++◌, ap, append_assoc, append-nil}
-use Rattle.std.proofs.Common.{refl, subst, sym}
+use Rattle.std.proofs.Common.{◌≡◌, ◌∙◌, true, List, [], ◌∷◌, ◌++◌, ap, append_assoc}
+use Rattle.std.proofs.Common.{refl, subst}
 use Rattle.std.specs.List.{AllByRecursion}
 use Rattle.std.specs.Map.{keys_of}
 use Rattle.unix_path.specs.Parts.{Value}
@@ -25,10 +25,6 @@ pub record PutsLast {V : Type 0} (all : List (Key × V)) (old : List (List Value
   pub rows : new ≡ rows_with old (key_rows done)
 
 module _ {V : Type 0} (all : List (Key × V)) (old : List (List Value × V)) where
-  -- before the first insertion, all entries remain to be inserted
-  pub puts_none : PutsLast all old all old
-  puts_none = record { done = []; split = sym (append-nil all); rows = refl }
-
   module _ (remaining : List (Key × V)) (new : List (List Value × V)) (h : PutsLast all old remaining new)
       (others : List (Key × V)) (k : Key) (x : V) (is : remaining ≡ others ++ (k, x) ∷ []) where
     -- if all keys are keys of paths, so is k, the last key of `remaining`
@@ -46,8 +42,3 @@ module _ {V : Type 0} (all : List (Key × V)) (old : List (List Value × V)) whe
     key_rows remaining,
     (key_rows h.done, ap key_rows h.split ∙ key_rows-append remaining h.done, h.rows),
   )
-
-  -- if no entries remain to be inserted, `new` is the rows `old` with all entries inserted
-  pub puts_all : (new : List (List Value × V)) → PutsLast all old [] new
-      → new ≡ rows_with old (key_rows all)
-  puts_all new h = h.rows ∙ ap (λ l. rows_with old (key_rows l)) (sym h.split)

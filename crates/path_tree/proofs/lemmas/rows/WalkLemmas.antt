@@ -1,10 +1,15 @@
--- The rest of sorted entries, and the entries that a filter keeps.
-use Rattle.std.proofs.Common.{◌≡◌, Bool, true, false, List, [], ◌∷◌, ◌++◌, ap, refl, sym}
+-- The rest of sorted entries, and those that a filter keeps.
+use Rattle.std.proofs.Common.{◌≡◌, ◌&&◌, Bool, true, false, List, [], ◌∷◌, ◌++◌, ap, refl, sym}
 use Rattle.std.proofs.Common.{Ordering, Less, length, ◌≤◌, arith}
 use Rattle.std.specs.List.{AllByRecursion, filter}
 use Rattle.std.specs.List.Sorted.{IsStrictlySortedBy}
 use Rattle.std.specs.Map.{keys_of}
 use Rattle.unix_bytes.proofs.lemmas.lists.ListLemmas.{by_test}
+
+-- a test and `true` is the test
+pub and-true : (b : Bool) → (b && true) ≡ b
+and-true true = refl
+and-true false = refl
 
 module _ {K V : Type 0} (P : K → Type 0) where
   -- if P holds of all keys, it holds of the keys of the rest

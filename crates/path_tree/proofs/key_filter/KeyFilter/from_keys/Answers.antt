@@ -26,7 +26,7 @@ loop-key-preserved g c =
 
 pub returns : goal.returns
 returns g c =
-    let marked = may_contain c.loop-key.filter in
+    let has = may_contain c.loop-key.filter in
     let none : c.loop-key.key-iterator ≡ [] = search rules in
-    c.loop-key.invariant.2 marked (λ key is. is)
-    (subst (AllKeys (λ (k : Key). k.items) marked) (sym none) (All-nil _))
+    c.loop-key.invariant.2 has (λ key is. is)
+    (subst (AllKeys (λ (k : Key). k.items) has) (sym none) (All-nil _))
