@@ -2,6 +2,6 @@
 # Unpacks the archive x.tar here, unless it can't be listed or an entry would leave this directory.
 # The entries that would are printed.
 #
-# An entry may be a symbolic link that leads out of the directory, and a later entry may go through
-# it. upath can't see that; tar refuses it unless --absolute-names is given.
+# upath reads names: it can't see that an entry is a symbolic link, through which a later entry would
+# leave the directory.
 tar -tf x.tar > list && upath escapes < list && tar -xf x.tar
