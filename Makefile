@@ -10,23 +10,28 @@ FROM := $(or $(UNIX_PATH_FROM),$(if $(shell command -v rt 2> /dev/null),rt,asm))
 ifeq ($(filter $(FROM),rt asm),)
 $(error UNIX_PATH_FROM is asm or rt, and not $(FROM))
 endif
-PROGRAM = $(if $(filter asm,$(FROM)),build,crates/pathtool/out)/pathtool
+# The programs, each of which has a manual page.
+PROGRAMS := $(patsubst man/%.1,%,$(wildcard man/*.1))
+BUILT_PROGRAMS = $(foreach it,$(PROGRAMS),$(if $(filter asm,$(FROM)),build,crates/$(it)/out)/$(it))
+PROGRAM = $(filter %/pathtool,$(BUILT_PROGRAMS))
+UPATH = $(filter %/upath,$(BUILT_PROGRAMS))
 BUILT = $(if $(filter asm,$(FROM)),build,crates/unix_path_c/out)/libunix_path.a
 LIBRARIES = $(dir $(or $(UNIX_PATH_LIB),$(BUILT)))
 # Tools find the program and the archive by these variables.
-OVER = UNIX_PATH_PROGRAM='$(abspath $(PROGRAM))' \
+OVER = UNIX_PATH_PROGRAM='$(abspath $(PROGRAM))' UNIX_PATH_UPATH='$(abspath $(UPATH))' \
 	UNIX_PATH_LIB='$(abspath $(or $(UNIX_PATH_LIB),$(BUILT)))'
 INSTALL = PREFIX='$(PREFIX)' LIBDIR='$(LIBDIR)' INCLUDEDIR='$(INCLUDEDIR)' MANDIR='$(MANDIR)' \
-	DESTDIR='$(DESTDIR)' PROGRAM='$(PROGRAM)' LIBRARIES='$(LIBRARIES)' tools/install
+	DESTDIR='$(DESTDIR)' PROGRAMS='$(BUILT_PROGRAMS)' LIBRARIES='$(LIBRARIES)' tools/install
 JOBS = crates/path_jobs/out/path_jobs
 SOURCES := $(shell find crates.txt crates -name out -prune -o \
 	\( -name '*.rt' -o -name '*.antt' -o -name crates.txt \) -print)
 
-.PHONY: help run check test lib test-bindings install install_program install_library uninstall \
+.PHONY: help run upath check test lib test-bindings install install_program install_library uninstall \
 	program_to_install library_to_install bench bench_tools count differential io-faults dist always
 
 help:
 	@echo 'make run           runs pathtool on standard input. Proves and builds it first'
+	@echo 'make upath         builds upath and prints its path. Proves it first'
 	@echo 'make check         proves every crate, in about ten minutes; later only what changed'
 	@echo 'make test          the full test suite: every proof, test, mutant and vector, from scratch;'
 	@echo '                   about an hour; tools/gate_times.txt has its parts'
@@ -70,14 +75,19 @@ help:
 	@sed 's/^/  /' rattle-toolchain
 
 # Proof progress goes to standard error, so that standard output has only the answers.
-crates/pathtool/out/pathtool: $(SOURCES)
-	@tools/build pathtool >&2
+crates/pathtool/out/pathtool crates/upath/out/upath: $(SOURCES)
+	@tools/build $(notdir $@) >&2
 
 build/pathtool: always
 	@tools/from_asm build
 
+build/upath: build/pathtool
+
 run: $(PROGRAM)
 	@$(PROGRAM)
+
+upath: $(UPATH)
+	@echo $(UPATH)
 
 check:
 	@tools/prove
@@ -136,8 +146,9 @@ library_to_install: $(if $(UNIX_PATH_LIB),,$(PROGRAM))
 	@tools/from_asm check '$(LIBRARIES)'
 else
 program_to_install:
-	@tools/stamps.py check pathtool || tools/build pathtool >&2
-	@tools/stamps.py check pathtool
+	@for program in $(PROGRAMS); do \
+		tools/stamps.py check $$program || tools/build $$program >&2; \
+		tools/stamps.py check $$program || exit; done
 
 library_to_install:
 	@$(if $(UNIX_PATH_LIB),,tools/library > /dev/null)

@@ -6,7 +6,7 @@ import subprocess
 
 from assembly import faults_of
 from call_versions import MAP
-from repository import ROOT
+from repository import ROOT, read_programs
 
 ASM, MAKEFILE = f"{ROOT}/asm", f"{ROOT}/Makefile"
 # The C source that the program needs, which is written by hand, and the file that says how
@@ -40,7 +40,7 @@ def read_files(folder):
 
 def exports_of(name):
     """Returns the names that a file of assembly has to export: the library's calls, or main."""
-    if name.endswith("/pathtool.s"):
+    if os.path.basename(name)[:-len(".s")] in read_programs():
         return {"main"}
     with open(f"{ROOT}/{MAP}", encoding="utf-8") as file:
         return set(re.findall(r"\bunix_path_\w+(?=;)", file.read()))

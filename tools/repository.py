@@ -3,9 +3,11 @@ import collections
 import os
 
 ROOT = os.path.dirname(os.path.dirname(os.path.abspath(__file__)))
-# The program: the one that UNIX_PATH_PROGRAM names, or else the one that rt builds.
+# The program pathtool: the one that UNIX_PATH_PROGRAM names, or else the one that rt builds.
 PROGRAM = os.path.abspath(os.environ.get("UNIX_PATH_PROGRAM")
                           or f"{ROOT}/crates/pathtool/out/pathtool")
+# The program upath: the one that UNIX_PATH_UPATH names, or else the one that rt builds.
+UPATH = os.path.abspath(os.environ.get("UNIX_PATH_UPATH") or f"{ROOT}/crates/upath/out/upath")
 # The library for C: the archive that UNIX_PATH_LIB names, or else the one that rt builds.
 LIBRARY = os.path.abspath(os.environ.get("UNIX_PATH_LIB")
                           or f"{ROOT}/crates/unix_path_c/out/libunix_path.a")
@@ -30,6 +32,11 @@ def read_crates():
     """Returns the crates of crates.txt, each with the crates among them that it depends on."""
     lines = read_lines()
     return {name: [it for it in line.libraries if it in lines] for name, line in lines.items()}
+
+
+def read_programs():
+    """Returns the names of the programs that are installed. Each has a manual page."""
+    return sorted(name[:-len(".1")] for name in os.listdir(f"{ROOT}/man"))
 
 
 def is_program(crate):
