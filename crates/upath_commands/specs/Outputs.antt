@@ -1,0 +1,34 @@
+-- What a buffer and its writer do to the bytes that the writer holds.
+use Rattle.std.specs.Prelude.{◌≡◌, ℕ, List, ◌++◌, take, codes, Option}
+use Rattle.std.specs.Io.KnownBytes.{Appends}
+use Rattle.upath_commands.specs.declared.output.Output.{Output}
+use Rattle.upath_commands.specs.declared.output.RunError.{RunError}
+use Rattle.upath_commands.specs.declared.output.RunError.TheVariants.{Read, Write, Memory}
+
+-- the message that an error of a run is displayed as
+abbrev pub error_text : RunError → List ℕ
+error_text Read = codes "read error"
+error_text Write = codes "write error"
+error_text Memory = codes "out of memory"
+
+-- the writer
+abbrev pub written_to : {W : Type 0} → Output W → W
+written_to output = output.writer
+
+-- the bytes that are not yet written
+abbrev pub unwritten : {W : Type 0} → Output W → List ℕ
+unwritten output = output.buffer.items
+
+-- if the bytes are known, a prefix of bs was appended to them
+abbrev pub AppendsPrefix : Option (List ℕ) → Option (List ℕ) → List ℕ → Type 0
+AppendsPrefix old new bs = (n : ℕ) × Appends old new (take n bs)
+
+-- the bytes bs were added after the buffer, and some of its first bytes were appended to the
+-- known bytes; the others are in the buffer
+abbrev pub Emits : Option (List ℕ) → Option (List ℕ) → List ℕ → List ℕ → List ℕ → Type 0
+Emits old new buffer rest bs =
+    (written : List ℕ) × Appends old new written × (written ++ rest ≡ buffer ++ bs)
+
+-- a prefix of the buffer and bs was appended to the known bytes
+abbrev pub EmitsPrefix : Option (List ℕ) → Option (List ℕ) → List ℕ → List ℕ → Type 0
+EmitsPrefix old new buffer bs = AppendsPrefix old new (buffer ++ bs)

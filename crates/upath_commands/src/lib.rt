@@ -1,0 +1,17 @@
+//! What the program `upath` does with each path: its commands, records, and answers.
+//!
+//! Functions do not allocate unless they take an allocator or say so. A function that appends to a
+//! buffer allocates when that buffer grows, and fails if the allocation fails. After a failed
+//! allocation the contents of that buffer are unspecified. Everything here is lexical: symbolic
+//! links are not followed. Indices and lengths count bytes.
+#![tactic(auto)]
+
+mod answers;
+mod command;
+mod output;
+
+
+pub use answers::Answerer;
+pub use command::{Command, EscapesOptions, Invocation, JoinRule, Settings, UnderOptions};
+pub use output::{Output, RunError};
+

@@ -1,0 +1,173 @@
+//! A buffer before a writer.
+ghost use Rattle.std.specs.Prelude.{◌≡◌, [], OnOk, OnErr, IfOk, IfErr, Some};
+ghost use Rattle.std.specs.Fmt.{padded};
+ghost use Rattle.std.specs.Io.{WritesAtMost};
+ghost use Rattle.std.specs.Io.KnownBytes.{Appends, WriteAppends};
+ghost use Rattle.upath_commands.specs.Outputs.{AppendsPrefix, Emits, EmitsPrefix, unwritten};
+ghost use Rattle.upath_commands.specs.Outputs.{written_to, error_text};
+ghost use Rattle.upath_commands.specs.declared.output.RunError.TheVariants.{Memory};
+
+use crate::answers::Answerer;
+use std::alloc::{AllocError, Global};
+use std::error::Error;
+use std::fmt;
+use std::io;
+use std::io::{ErrorKind, Write};
+use unix_path::Path;
+
+// The output is written when at least so many bytes wait.
+const FULL: usize = 65536;
+
+/// The error of a run.
+///
+/// It is displayed as `read error`, `write error` or `out of memory`, padded like a string.
+///
+/// `RunError::Memory` is displayed as `out of memory`.
+#[derive(Clone, Copy, Debug, PartialEq, Eq)]
+pub enum RunError {
+    /// A read failed.
+    Read,
+    /// A write failed, or wrote nothing of one byte or more.
+    Write,
+    /// An allocation failed.
+    Memory,
+}
+
+/// Writes the message of the error, padded like a string.
+impl fmt::Display for RunError {
+    ghost output = { λ error. Some (error_text error) };
+
+    ghost styled_output = { λ error spec. Some (padded spec (error_text error)) };
+
+    fn fmt<W: fmt::Write>(&self, f: &mut fmt::Formatter<W>) -> fmt::Result {
+        f.pad(match self {
+            RunError::Read => "read error",
+            RunError::Write => "write error",
+            RunError::Memory => "out of memory",
+        })
+    }
+}
+
+impl Error for RunError {}
+
+/// Converts a failed allocation to `Memory`.
+impl From<AllocError> for RunError {
+    ghost from_gives = { λ error variant. variant ≡ Memory };
+
+    fn from(_: AllocError) -> RunError {
+        RunError::Memory
+    }
+}
+
+// Makes one write, again if the system interrupted it.
+fn write_once<W: Write>(writer: &mut W, bytes: &[u8]) -> io::Result<usize>
+    ensures bound { WritesAtMost result bytes.now }
+    ensures bytes { WriteAppends (W.contents writer.old) (W.contents writer.new) result bytes.now }
+{
+    for _ in 0..u64::MAX {
+        match writer.write(bytes) {
+            Err(error) if error.kind() == ErrorKind::Interrupted => {}
+            Err(error) => return Err(error),
+            Ok(count) => return Ok(count),
+        }
+    }
+    writer.write(bytes)
+}
+
+// Writes all bytes.
+fn write_all<W: Write>(writer: &mut W, bytes: &[u8]) -> Result<(), RunError>
+    ensures ok { OnOk result (Appends (W.contents writer.old) (W.contents writer.new) bytes.now) }
+    ensures err { OnErr result (AppendsPrefix (W.contents writer.old) (W.contents writer.new)
+        bytes.now) }
+    ensures only_write { IfErr result (λ error. error ≡ RunError.Write) }
+{
+    let mut at = 0;
+    while at < bytes.len() {
+        match write_once(writer, &bytes[at..]) {
+            Ok(0) => return Err(RunError::Write),
+            Ok(count) => at += count,
+            Err(_) => return Err(RunError::Write),
+        }
+    }
+    Ok(())
+}
+
+/// A writer, and the output that is not yet written.
+///
+/// The output is written once it has 64 KiB or more, or after each record.
+///
+/// `Output::new(alloc, writer, true)` writes the output after each record.
+#[derive(Drop)]
+pub struct Output<W> {
+    writer: W,
+    buffer: Vec<u8>,
+    is_line_buffered: bool,
+}
+
+impl<W: Write> Output<W> {
+    /// Creates an output without bytes before the writer.
+    ///
+    /// `Output::new(alloc, writer, false)` writes 64 KiB or more at once, and the rest by `finish`.
+    pub fn new(alloc: Global, writer: W, is_line_buffered: bool) -> Output<W>
+        ensures writer { written_to result ≡ writer }
+        ensures empty { unwritten result ≡ [] }
+    {
+        Output {
+            writer,
+            buffer: Vec::new(alloc),
+            is_line_buffered,
+        }
+    }
+
+    // Writes the bytes that wait.
+    fn write_out(&mut self) -> Result<(), RunError>
+        ensures ok { OnOk result (Emits (W.contents (written_to self.old))
+            (W.contents (written_to self.new)) (unwritten self.old) (unwritten self.new) []) }
+        ensures none { OnOk result (unwritten self.new ≡ []) }
+        ensures err { OnErr result (EmitsPrefix (W.contents (written_to self.old))
+            (W.contents (written_to self.new)) (unwritten self.old) []) }
+        ensures only_write { IfErr result (λ error. error ≡ RunError.Write) }
+    {
+        write_all(&mut self.writer, self.buffer.as_slice())?;
+        self.buffer.clear();
+        Ok(())
+    }
+
+    // Answers a path. Returns true if it is answered.
+    pub(crate) fn answer<A: Answerer>(
+        &mut self,
+        answerer: &A,
+        path: Path<'_>,
+    ) -> Result<bool, RunError>
+        ensures ok { OnOk result (Emits (W.contents (written_to self.old))
+            (W.contents (written_to self.new)) (unwritten self.old) (unwritten self.new)
+            (A.output answerer.now path.entry.bytes.now)) }
+        ensures answered { IfOk result (λ is_answered.
+            is_answered ≡ A.answered answerer.now path.entry.bytes.now) }
+        ensures err { OnErr result (EmitsPrefix (W.contents (written_to self.old))
+            (W.contents (written_to self.new)) (unwritten self.old)
+            (A.output answerer.now path.entry.bytes.now)) }
+        ensures no_read { IfErr result (λ error. (error ≡ RunError.Read) → ⊥) }
+    {
+        let is_answered = answerer.push_output(path, &mut self.buffer)?;
+        if self.is_line_buffered || self.buffer.len() >= FULL {
+            self.write_out()?;
+        }
+        Ok(is_answered)
+    }
+
+    // Writes the bytes that wait, and flushes.
+    pub(crate) fn finish(&mut self) -> Result<(), RunError>
+        ensures ok { OnOk result (Appends (W.contents (written_to self.old))
+            (W.contents (written_to self.new)) (unwritten self.old)) }
+        ensures err { OnErr result (AppendsPrefix (W.contents (written_to self.old))
+            (W.contents (written_to self.new)) (unwritten self.old)) }
+        ensures only_write { IfErr result (λ error. error ≡ RunError.Write) }
+    {
+        self.write_out()?;
+        if self.writer.flush().is_err() {
+            return Err(RunError::Write);
+        }
+        Ok(())
+    }
+}
