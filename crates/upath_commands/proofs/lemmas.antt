@@ -1,2 +1,4 @@
 -- The lemmas, by subject.
 pub mod OutputLemmas
+pub mod RecordLemmas
+pub mod EngineLemmas

@@ -9,9 +9,8 @@
 mod answers;
 mod command;
 mod output;
-
+mod records;
 
 pub use answers::Answerer;
 pub use command::{Command, EscapesOptions, Invocation, JoinRule, Settings, UnderOptions};
 pub use output::{Output, RunError};
-
