@@ -1,7 +1,8 @@
 -- What a buffer and its writer do to the bytes that the writer holds.
-use Rattle.std.specs.Prelude.{◌≡◌, ℕ, List, ◌++◌, take, codes, Option}
+use Rattle.std.specs.Prelude.{◌≡◌, ℕ, Bool, false, List, ◌++◌, take, codes, Option}
 use Rattle.std.specs.Io.KnownBytes.{Appends}
 use Rattle.upath_commands.specs.declared.output.Output.{Output}
+use Rattle.upath_commands.specs.declared.output.Refusals.{Refusals}
 use Rattle.upath_commands.specs.declared.output.RunError.{RunError}
 use Rattle.upath_commands.specs.declared.output.RunError.TheVariants.{Read, Write, Memory}
 
@@ -32,3 +33,15 @@ Emits old new buffer rest bs =
 -- a prefix of the buffer and bs was appended to the known bytes
 abbrev pub EmitsPrefix : Option (List ℕ) → Option (List ℕ) → List ℕ → List ℕ → Type 0
 EmitsPrefix old new buffer bs = AppendsPrefix old new (buffer ++ bs)
+
+-- the writer of reports
+abbrev pub told_to : {E : Type 0} → Refusals E → E
+told_to refusals = refusals.writer
+
+-- a write of a report has failed
+abbrev pub has_failed : {E : Type 0} → Refusals E → Bool
+has_failed refusals = refusals.has_failed
+
+-- unless a write has failed until `after`, bs was appended to the known bytes
+abbrev pub Tells : Bool → Bool → Option (List ℕ) → Option (List ℕ) → List ℕ → Type 0
+Tells before after old new bs = after ≡ false → (before ≡ false) × Appends old new bs

@@ -11,6 +11,8 @@ mod command;
 mod output;
 mod records;
 
-pub use answers::Answerer;
+
+pub use answers::{Answerer, answer_operands};
 pub use command::{Command, EscapesOptions, Invocation, JoinRule, Settings, UnderOptions};
-pub use output::{Output, RunError};
+pub use output::{Output, Refusals, RunError};
+pub use records::answer_input;

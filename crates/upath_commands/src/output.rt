@@ -1,10 +1,10 @@
-//! A buffer before a writer.
-ghost use Rattle.std.specs.Prelude.{◌≡◌, [], OnOk, OnErr, IfOk, IfErr, Some};
+//! What is written: answers, with a buffer before their writer, and reports.
+ghost use Rattle.std.specs.Prelude.{◌≡◌, [], false, OnOk, OnErr, IfOk, IfErr, Some};
 ghost use Rattle.std.specs.Fmt.{padded};
 ghost use Rattle.std.specs.Io.{WritesAtMost};
 ghost use Rattle.std.specs.Io.KnownBytes.{Appends, WriteAppends};
 ghost use Rattle.upath_commands.specs.Outputs.{AppendsPrefix, Emits, EmitsPrefix, unwritten};
-ghost use Rattle.upath_commands.specs.Outputs.{written_to, error_text};
+ghost use Rattle.upath_commands.specs.Outputs.{Tells, error_text, has_failed, told_to, written_to};
 ghost use Rattle.upath_commands.specs.declared.output.RunError.TheVariants.{Memory};
 
 use crate::answers::Answerer;
@@ -167,6 +167,53 @@ impl<W: Write> Output<W> {
         self.write_out()?;
         if self.writer.flush().is_err() {
             return Err(RunError::Write);
+        }
+        Ok(())
+    }
+}
+
+/// A writer of reports, whose failures are ignored.
+///
+/// After a failed write nothing more is written to it.
+///
+/// `Refusals::new(alloc, writer)` reports paths to `writer`.
+#[derive(Drop)]
+pub struct Refusals<E> {
+    writer: E,
+    line: Vec<u8>,
+    has_failed: bool,
+}
+
+impl<E: Write> Refusals<E> {
+    /// Creates reports to a writer that has not failed.
+    ///
+    /// `Refusals::new(alloc, writer)` reports paths to `writer`.
+    pub fn new(alloc: Global, writer: E) -> Refusals<E>
+        ensures writer { told_to result ≡ writer }
+        ensures failed { has_failed result ≡ false }
+    {
+        Refusals {
+            writer,
+            line: Vec::new(alloc),
+            has_failed: false,
+        }
+    }
+
+    // Reports a path without an answer.
+    pub(crate) fn report<A: Answerer>(
+        &mut self,
+        answerer: &A,
+        path: Path<'_>,
+    ) -> Result<(), RunError>
+        ensures told { OnOk result (Tells (has_failed self.old) (has_failed self.new)
+            (E.contents (told_to self.old)) (E.contents (told_to self.new))
+            (A.refusal answerer.now path.entry.bytes.now)) }
+        ensures only_memory { IfErr result (λ error. error ≡ RunError.Memory) }
+    {
+        self.line.clear();
+        answerer.push_refusal(path, &mut self.line)?;
+        if !self.has_failed {
+            self.has_failed = write_all(&mut self.writer, self.line.as_slice()).is_err();
         }
         Ok(())
     }

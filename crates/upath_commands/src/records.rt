@@ -1,12 +1,14 @@
 //! Reads records to the end of an input, and answers each as soon as it is read.
-ghost use Rattle.std.specs.Prelude.{◌≡◌, IfOk, IfErr, IfSome, OnOk, OnErr};
+ghost use Rattle.std.specs.Prelude.{◌≡◌, ◌++◌, IfOk, IfErr, IfSome, OnOk, OnErr};
 ghost use Rattle.std.specs.Io.BufRead.{take_through, strip_last, DropsThrough};
 ghost use Rattle.std.specs.List.{list_all};
-ghost use Rattle.upath_commands.specs.Outputs.{Emits, EmitsPrefix, unwritten, written_to};
-ghost use Rattle.upath_commands.specs.Records.{outputs_of, records_of};
+ghost use Rattle.std.specs.Io.KnownBytes.{Appends};
+ghost use Rattle.upath_commands.specs.Outputs.{AppendsPrefix, Emits, EmitsPrefix, Tells};
+ghost use Rattle.upath_commands.specs.Outputs.{has_failed, told_to, unwritten, written_to};
+ghost use Rattle.upath_commands.specs.Records.{outputs_of, records_of, refusal_unless};
 
-use crate::answers::Answerer;
-use crate::output::{Output, RunError};
+use crate::answers::{Answerer, answer_path};
+use crate::output::{Output, Refusals, RunError};
 use std::alloc::Global;
 use std::io::{BufRead, ErrorKind, Write};
 use unix_path::Path;
@@ -43,12 +45,13 @@ fn without_end(bytes: &[u8], end: u8) -> &[u8]
 }
 
 // Answers each record of an input. Returns true if all are answered.
-fn answer_records<A: Answerer, R: BufRead, W: Write>(
+fn answer_records<A: Answerer, R: BufRead, W: Write, E: Write>(
     alloc: Global,
     answerer: &A,
     end: u8,
     reader: &mut R,
     output: &mut Output<W>,
+    refusals: &mut Refusals<E>,
 ) -> Result<bool, RunError>
     ensures ok { OnOk result (IfSome (R.remaining reader.old) (λ input.
         Emits (W.contents (written_to output.old)) (W.contents (written_to output.new))
@@ -56,6 +59,11 @@ fn answer_records<A: Answerer, R: BufRead, W: Write>(
         (outputs_of (A.output answerer.now) (records_of end input)))) }
     ensures answered { IfOk result (λ are_answered. IfSome (R.remaining reader.old) (λ input.
         are_answered ≡ list_all (A.answered answerer.now) (records_of end input))) }
+    ensures told { OnOk result (IfSome (R.remaining reader.old) (λ input.
+        Tells (has_failed refusals.old) (has_failed refusals.new)
+        (E.contents (told_to refusals.old)) (E.contents (told_to refusals.new))
+        (outputs_of (refusal_unless (A.answered answerer.now) (A.refusal answerer.now))
+        (records_of end input)))) }
     ensures err { OnErr result (IfSome (R.remaining reader.old) (λ input.
         EmitsPrefix (W.contents (written_to output.old)) (W.contents (written_to output.new))
         (unwritten output.old) (outputs_of (A.output answerer.now) (records_of end input)))) }
@@ -68,8 +76,42 @@ fn answer_records<A: Answerer, R: BufRead, W: Write>(
             return Ok(are_answered);
         }
         let path = Path::from_bytes(without_end(record.as_slice(), end));
-        let is_answered = output.answer(answerer, path)?;
+        let is_answered = answer_path(answerer, path, output, refusals)?;
         are_answered = are_answered && is_answered;
     }
     Err(RunError::Read)
+}
+
+/// Answers each record of an input as soon as it is read, and flushes at the end. Returns true if
+/// all are answered.
+///
+/// A record ends at the byte `end`, which the last record may lack if it isn't empty. Only the
+/// longest record is kept. After an error a prefix of the output was written.
+///
+/// For an input without bytes nothing is written, and the result is true.
+pub fn answer_input<A: Answerer, R: BufRead, W: Write, E: Write>(
+    alloc: Global,
+    answerer: &A,
+    end: u8,
+    reader: &mut R,
+    output: &mut Output<W>,
+    refusals: &mut Refusals<E>,
+) -> Result<bool, RunError>
+    ensures ok { OnOk result (IfSome (R.remaining reader.old) (λ input.
+        Appends (W.contents (written_to output.old)) (W.contents (written_to output.new))
+        (unwritten output.old ++ outputs_of (A.output answerer.now) (records_of end input)))) }
+    ensures answered { IfOk result (λ are_answered. IfSome (R.remaining reader.old) (λ input.
+        are_answered ≡ list_all (A.answered answerer.now) (records_of end input))) }
+    ensures told { OnOk result (IfSome (R.remaining reader.old) (λ input.
+        Tells (has_failed refusals.old) (has_failed refusals.new)
+        (E.contents (told_to refusals.old)) (E.contents (told_to refusals.new))
+        (outputs_of (refusal_unless (A.answered answerer.now) (A.refusal answerer.now))
+        (records_of end input)))) }
+    ensures err { OnErr result (IfSome (R.remaining reader.old) (λ input.
+        AppendsPrefix (W.contents (written_to output.old)) (W.contents (written_to output.new))
+        (unwritten output.old ++ outputs_of (A.output answerer.now) (records_of end input)))) }
+{
+    let are_answered = answer_records(alloc, answerer, end, reader, output, refusals)?;
+    output.finish()?;
+    Ok(are_answered)
 }

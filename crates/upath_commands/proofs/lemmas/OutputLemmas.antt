@@ -1,11 +1,11 @@
 -- What is written and what waits in a buffer.
-use Rattle.std.proofs.Common.{◌≡◌, ℕ, List, [], ◌++◌, length, take, drop, Option, Some, None}
+use Rattle.std.proofs.Common.{◌≡◌, ℕ, Bool, List, [], ◌++◌, length, take, drop, Option, Some, None}
 use Rattle.std.proofs.Common.{Result, Ok, Err, OnErr, sym, ap, refl, subst, ◌∙◌, append_assoc}
 use Rattle.std.proofs.Common.{append-nil, take-append-drop}
 use Rattle.std.proofs.Math.Seq.{take-append_seam}
 use Rattle.std.proofs.KnownBytes.{Appends-trans, Appends-nil, Appends-kept, Keeps-trans}
 use Rattle.std.specs.Io.KnownBytes.{Appends, Keeps, WriteAppends}
-use Rattle.upath_commands.specs.Outputs.{AppendsPrefix, Emits, EmitsPrefix}
+use Rattle.upath_commands.specs.Outputs.{AppendsPrefix, Emits, EmitsPrefix, Tells}
 
 kept-Appends : (a b c : Option (List ℕ)) (bs : List ℕ) → Keeps a b → Appends b c bs
     → Appends a c bs
@@ -88,3 +88,32 @@ EmitsPrefix-more a b buffer xs ys h =
 pub Emits-written : (a b : Option (List ℕ)) (buffer rest : List ℕ) → Appends a b buffer
     → rest ≡ [] → Emits a b buffer rest []
 Emits-written a b buffer rest h e = (buffer, h, ap (λ l. buffer ++ l) e)
+
+-- the bytes xs were added, and then a call failed
+pub EmitsPrefix-of : (a b : Option (List ℕ)) (first second xs : List ℕ)
+    → Emits a b first second xs → EmitsPrefix a b first xs
+EmitsPrefix-of a b first second xs (v, p, e) = AppendsPrefix-of a b v second (first ++ xs) p e
+
+-- what was emitted, and then written
+pub Emits-finish : (a b c : Option (List ℕ)) (first second xs : List ℕ)
+    → Emits a b first second xs → Appends b c second → Appends a c (first ++ xs)
+Emits-finish a b c first second xs (v, p, e) q =
+    subst (Appends a c) e (Appends-trans a b c v second p q)
+
+-- what was emitted, and then only a prefix of what waited was written
+pub Emits-finish_fail : (a b c : Option (List ℕ)) (first second xs : List ℕ)
+    → Emits a b first second xs → AppendsPrefix b c second → AppendsPrefix a c (first ++ xs)
+Emits-finish_fail a b c first second xs (v, p, e) q =
+    AppendsPrefix-then a b c v second [] (first ++ xs) p q
+    (ap (λ l. v ++ l) (append-nil second) ∙ e)
+
+-- nothing was told
+pub Tells-none : (a : Option (List ℕ)) (failed : Bool) → Tells failed failed a a []
+Tells-none a failed = λ e. (e, Appends-nil a)
+
+-- xs was told, and then ys
+pub Tells-then : (a b c : Option (List ℕ)) (first second third : Bool) (xs ys : List ℕ)
+    → Tells first second a b xs → Tells second third b c ys → Tells first third a c (xs ++ ys)
+Tells-then a b c first second third xs ys p q =
+    λ e. let (d, more) = q e in let (f, so_far) = p d in
+    (f, Appends-trans a b c xs ys so_far more)

@@ -1,4 +1,4 @@
-use Rattle.upath_commands.specs.Outputs.{unwritten, written_to}
+use Rattle.upath_commands.specs.Outputs.{has_failed, told_to, unwritten, written_to}
 use Rattle.upath_commands.proofs.lemmas.EngineLemmas.{Answers}
 use Rattle.upath_commands.proofs.records.answer_records.Given as goal
 
@@ -7,10 +7,21 @@ invariant-loop g l =
     Answers (record {
       output = g.A.Answerer.output l.answerer;
       answered = g.A.Answerer.answered l.answerer;
-      end = l.end;
+      refusal = g.A.Answerer.refusal l.answerer;
     })
+    l.end
     (g.R.Read.remaining l.initial.reader)
     (g.R.Read.remaining l.reader)
-    (g.W.Write.contents (written_to l.initial.output))
-    (g.W.Write.contents (written_to l.output)) (unwritten l.initial.output)
-    (unwritten l.output) l.are_answered
+    (record {
+      written = g.W.Write.contents (written_to l.initial.output);
+      buffer = unwritten l.initial.output;
+      told = g.E.Write.contents (told_to l.initial.refusals);
+      failed = has_failed l.initial.refusals;
+    })
+    (record {
+      written = g.W.Write.contents (written_to l.output);
+      buffer = unwritten l.output;
+      told = g.E.Write.contents (told_to l.refusals);
+      failed = has_failed l.refusals;
+    })
+    l.are_answered
