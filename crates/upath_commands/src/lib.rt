@@ -8,7 +8,9 @@
 
 mod answers;
 mod command;
+mod names;
 mod output;
+mod push;
 mod records;
 
 
