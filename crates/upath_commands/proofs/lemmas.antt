@@ -2,3 +2,5 @@
 pub mod OutputLemmas
 pub mod RecordLemmas
 pub mod EngineLemmas
+pub mod AnswerLemmas
+pub mod PartLemmas

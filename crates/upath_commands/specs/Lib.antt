@@ -1,3 +1,5 @@
 pub mod Outputs
 pub mod Records
+pub mod Escaping
 pub mod Answers
+pub mod Commands

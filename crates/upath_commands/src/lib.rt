@@ -7,11 +7,16 @@
 #![tactic(auto)]
 
 mod answers;
+mod bases;
 mod command;
+mod escapes;
+mod joins;
 mod names;
 mod output;
+mod parts;
 mod push;
 mod records;
+mod task;
 
 
 pub use answers::{Answerer, answer_operands};

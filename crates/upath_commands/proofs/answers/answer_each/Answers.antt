@@ -1,6 +1,4 @@
-use Rattle.std.proofs.Common.{rules, arith, subst, length}
-use Rattle.std.proofs.lemmas.List.{at_drop_more}
-use Rattle.upath_commands.specs.Records.{paths_of}
+use Rattle.std.proofs.Common.{rules}
 use Rattle.upath_commands.proofs.lemmas.EngineLemmas.{Progress-at, Progress-fail, Progress-next}
 use Rattle.upath_commands.proofs.lemmas.OutputLemmas.{OnErr-of}
 use Rattle.upath_commands.proofs.answers.answer_each.Goals.{then-are_answered, else-are_answered}
