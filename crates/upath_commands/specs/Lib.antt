@@ -3,3 +3,5 @@ pub mod Records
 pub mod Escaping
 pub mod Answers
 pub mod Commands
+pub mod Refusals
+pub mod Tasks

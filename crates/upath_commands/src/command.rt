@@ -1,96 +1,97 @@
-//! What a list of arguments asks for.
+//! What `upath` is asked to do.
+
 use unix_path::Path;
 
-/// How `join` treats a path.
+/// What happens to a path that is joined to a root.
 ///
-/// `JoinRule::Trusted` joins any path.
+/// `JoinRule::Beneath` refuses `..`, and `JoinRule::InRoot` joins it as the root itself.
 #[derive(Clone, Copy, Debug, PartialEq, Eq)]
 pub enum JoinRule {
-    /// Any path is joined.
+    /// The path is trusted: one with a root replaces the root that it is joined to.
     Trusted,
-    /// A path that escapes is refused. The join is resolved.
+    /// A path that escapes is refused.
     Beneath,
-    /// A path that escapes stays at the root. The join is resolved.
+    /// A path that escapes is kept at the root.
     InRoot,
-    /// A path with a root or any `..` is refused. The join is verbatim.
+    /// A path with a `..` or a root is refused.
     Verbatim,
 }
 
-/// The options of `escapes`.
+/// The options of the command `escapes`.
 ///
-/// With `inverted`, the paths that don't escape pass.
+/// `upath escapes -v` sets `inverted`.
 #[derive(Clone, Copy)]
 pub struct EscapesOptions {
-    /// Passes the paths that don't escape.
+    /// The other paths pass: those that don't escape.
     pub inverted: bool,
-    /// Says why a path escapes.
+    /// The reason comes before each path that escapes.
     pub with_reason: bool,
 }
 
-/// The options of `under`.
+/// The options of the command `under`.
 ///
-/// With `inverted`, the paths that are not below the base pass.
+/// `upath under --strip a` sets `stripped`.
 #[derive(Clone, Copy)]
 pub struct UnderOptions {
-    /// Passes the paths that are not below the base.
+    /// The other paths pass: those that are not below the base.
     pub inverted: bool,
-    /// Passes what follows the base.
+    /// Only what follows the base is written.
     pub stripped: bool,
-    /// Doesn't resolve.
+    /// The paths are compared without resolving them, as by `Path::starts_with`.
     pub by_parts: bool,
 }
 
 /// What is done with each path.
 ///
-/// `Command::Canon` answers `a//b` with `a/b`.
+/// `upath strip a` asks for `Command::Strip` of the path `a`.
 #[derive(Clone, Copy)]
 pub enum Command<'a> {
-    /// The canonical form.
+    /// Writes the canonical form.
     Canon,
-    /// The path resolved lexically.
+    /// Writes the path with each `..` resolved lexically.
     Resolve,
-    /// The parent.
+    /// Writes the parent.
     Parent,
-    /// The file name.
+    /// Writes the file name.
     Name,
-    /// The file stem.
+    /// Writes the file stem.
     Stem,
-    /// The extension.
+    /// Writes the extension.
     Extension,
-    /// The components.
+    /// Writes each component.
     Parts,
-    /// The components, from the last one.
+    /// Writes each component, the last one first.
     PartsFromBack,
-    /// The path joined to a root.
+    /// Writes this root, joined with the path.
     Join(JoinRule, Path<'a>),
-    /// What follows a base.
+    /// Writes what follows this base.
     Strip(Path<'a>),
-    /// The relative path from a directory.
+    /// Writes the relative path from this directory.
     Relative(Path<'a>),
-    /// The path, if it escapes.
+    /// Passes on paths that escape.
     Escapes(EscapesOptions),
-    /// The path, if it is below a base.
+    /// Passes on paths at this base or below it.
     Under(UnderOptions, Path<'a>),
 }
 
 /// The options that every command has.
 ///
-/// With `null`, records end at a NUL.
+/// `upath canon -zq` sets `null` and `quiet`.
 #[derive(Clone, Copy)]
 pub struct Settings {
-    /// Records end at a NUL, not at a newline.
+    /// Records end with a NUL, not with a newline.
     pub null: bool,
-    /// Each answer follows the path as it was.
+    /// Each answer comes after its path.
     pub pair: bool,
     /// Nothing is written.
     pub quiet: bool,
-    /// The output is written after each record.
+    /// Each record is written at once.
     pub line_buffered: bool,
 }
 
 /// What a list of arguments asks for.
 ///
-/// `Invocation::Help` asks for the help text.
+/// `upath equal a b` asks for `Invocation::Equal` of the paths `a` and `b`.
 #[derive(Drop)]
 pub enum Invocation<'a> {
     /// The help text.
@@ -99,6 +100,6 @@ pub enum Invocation<'a> {
     Version,
     /// Whether two paths are equal.
     Equal(Settings, Path<'a>, Path<'a>),
-    /// A command for each of these paths, or for each path on standard input if there are none.
+    /// A command for each of these paths, or for the paths on standard input if there are none.
     Each(Command<'a>, Settings, Vec<Path<'a>>),
 }

@@ -15,6 +15,7 @@ mod names;
 mod output;
 mod parts;
 mod push;
+mod reasons;
 mod records;
 mod task;
 
@@ -23,3 +24,4 @@ pub use answers::{Answerer, answer_operands};
 pub use command::{Command, EscapesOptions, Invocation, JoinRule, Settings, UnderOptions};
 pub use output::{Output, Refusals, RunError};
 pub use records::answer_input;
+pub use task::Task;
