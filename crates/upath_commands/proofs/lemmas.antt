@@ -4,3 +4,4 @@ pub mod RecordLemmas
 pub mod EngineLemmas
 pub mod AnswerLemmas
 pub mod PartLemmas
+pub mod RunLemmas

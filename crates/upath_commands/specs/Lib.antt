@@ -5,3 +5,4 @@ pub mod Answers
 pub mod Commands
 pub mod Refusals
 pub mod Tasks
+pub mod Runs

@@ -1,5 +1,5 @@
 //! What is written: answers, with a buffer before their writer, and reports.
-ghost use Rattle.std.specs.Prelude.{◌≡◌, [], false, OnOk, OnErr, IfOk, IfErr, Some};
+ghost use Rattle.std.specs.Prelude.{◌≡◌, ◌++◌, [], false, true, OnOk, OnErr, IfOk, IfErr, Some};
 ghost use Rattle.std.specs.Fmt.{padded};
 ghost use Rattle.std.specs.Io.{WritesAtMost};
 ghost use Rattle.std.specs.Io.KnownBytes.{Appends, WriteAppends};
@@ -154,6 +154,20 @@ impl<W: Write> Output<W> {
             self.write_out()?;
         }
         Ok(is_answered)
+    }
+
+    // Writes the bytes that wait and a text, and flushes. Returns true.
+    pub(crate) fn write_text(&mut self, text: &[u8]) -> Result<bool, RunError>
+        ensures ok { OnOk result (Appends (W.contents (written_to self.old))
+            (W.contents (written_to self.new)) (unwritten self.old ++ text.now)) }
+        ensures always { IfOk result (λ is. is ≡ true) }
+        ensures err { OnErr result (AppendsPrefix (W.contents (written_to self.old))
+            (W.contents (written_to self.new)) (unwritten self.old ++ text.now)) }
+        ensures no_read { IfErr result (λ error. (error ≡ RunError.Read) → ⊥) }
+    {
+        self.buffer.extend_from_slice(text)?;
+        self.finish()?;
+        Ok(true)
     }
 
     // Writes the bytes that wait, and flushes.

@@ -8,7 +8,7 @@ use unix_bytes::bytes::UnixStr;
 use unix_path::Path;
 
 // Returns the byte that ends a record.
-fn end_of(settings: Settings) -> u8
+pub(crate) fn end_of(settings: Settings) -> u8
     ensures { result ≡ end_of settings }
 {
     if settings.null { 0 } else { b'\n' }

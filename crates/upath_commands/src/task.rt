@@ -51,8 +51,8 @@ fn push_command(
 /// `Task::new(Command::Canon, settings)` answers `a//b` with `a/b`.
 #[derive(Clone, Copy)]
 pub struct Task<'a> {
-    command: Command<'a>,
-    settings: Settings,
+    pub(crate) command: Command<'a>,
+    pub(crate) settings: Settings,
 }
 
 impl<'a> Task<'a> {
