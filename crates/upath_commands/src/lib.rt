@@ -1,0 +1,12 @@
+//! The commands of `upath`: what its arguments ask for, and what is done with each path.
+//!
+//! Arguments, paths and records are bytes, and need not be valid UTF-8. Functions do not allocate
+//! unless they take an allocator or say so.
+#![tactic(auto)]
+
+mod command;
+mod options;
+mod usage;
+
+pub use command::{Command, EscapesOptions, Invocation, JoinRule, Settings, UnderOptions};
+pub use usage::{UsageError, UsageErrorKind};
