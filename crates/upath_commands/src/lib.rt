@@ -5,6 +5,7 @@
 #![tactic(auto)]
 
 mod command;
+mod items;
 mod options;
 mod usage;
 

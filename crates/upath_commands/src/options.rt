@@ -91,8 +91,8 @@ pub fn option_by_letter(letter: u8) -> Option<Flag>
     }
 }
 
-// Returns true if and only if these are the same bytes.
-fn is(bytes: &[u8], name: &[u8]) -> bool
+/// Returns true if and only if these are the same bytes.
+pub fn is(bytes: &[u8], name: &[u8]) -> bool
     ensures { result ≡ bytes_eq bytes.now name.now }
 {
     bytes == name
