@@ -1,2 +1,4 @@
 pub mod Options
 pub mod Items
+pub mod Invocations
+pub mod Arguments

@@ -112,13 +112,13 @@ same_option a b = option_number a == option_number b
 abbrev pub option_by_letter : ℕ → Option Flag
 option_by_letter letter =
     option_map (λ row. row.flag)
-        (find (λ row. option_map_or (λ b. letter == b) row.letter false) options)
+    (find (λ row. option_map_or (λ b. letter == b) row.letter false) options)
 
 -- the option with this long name
 abbrev pub option_by_name : List ℕ → Option Flag
 option_by_name name =
     option_map (λ row. row.flag)
-        (find (λ row. option_map_or (bytes_eq name) row.name false) options)
+    (find (λ row. option_map_or (bytes_eq name) row.name false) options)
 
 -- the command has the option
 abbrev pub has_option : Verb → Flag → Bool

@@ -74,7 +74,11 @@ fn push_with_value<'a>(
             push_item(ItemKind::Value, value, items)
         }
         ItemKind::Option(_) => {
-            push_item(ItemKind::Wrong(UsageErrorKind::UnexpectedValue), argument, items)
+            push_item(
+                ItemKind::Wrong(UsageErrorKind::UnexpectedValue),
+                argument,
+                items,
+            )
         }
         _ => push_item(kind, argument, items),
     }
@@ -125,10 +129,7 @@ fn push_argument<'a>(argument: &'a [u8], items: &mut Vec<Item<'a>>) -> Result<()
 }
 
 // Appends an operand for each argument.
-fn push_operands<'a>(
-    arguments: &[Path<'a>],
-    items: &mut Vec<Item<'a>>,
-) -> Result<(), AllocError>
+fn push_operands<'a>(arguments: &[Path<'a>], items: &mut Vec<Item<'a>>) -> Result<(), AllocError>
     ensures { OnOk result (map item_value items.new.items
         ≡ map item_value items.old.items ++ map operand (map path_bytes arguments.now)) }
 {
@@ -139,10 +140,7 @@ fn push_operands<'a>(
 }
 
 /// Returns what the arguments say.
-pub fn items_of<'a>(
-    alloc: Global,
-    arguments: &[Path<'a>],
-) -> Result<Vec<Item<'a>>, AllocError>
+pub fn items_of<'a>(alloc: Global, arguments: &[Path<'a>]) -> Result<Vec<Item<'a>>, AllocError>
     ensures { IfOk result (λ items. map item_value items.items
         ≡ items_after false (map path_bytes arguments.now)) }
 {

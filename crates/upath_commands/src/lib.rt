@@ -4,10 +4,13 @@
 //! unless they take an allocator or say so.
 #![tactic(auto)]
 
+mod arguments;
 mod command;
 mod items;
 mod options;
+mod searches;
 mod usage;
 
+pub use arguments::invocation_of;
 pub use command::{Command, EscapesOptions, Invocation, JoinRule, Settings, UnderOptions};
 pub use usage::{UsageError, UsageErrorKind};
