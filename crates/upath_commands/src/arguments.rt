@@ -119,7 +119,7 @@ fn each<'a>(
     Ok(Invocation::Each(command, settings_of(items), operands))
 }
 
-// Returns the meaning of `join`, `strip` or `under` with these operands.
+// Returns the meaning of `join` with these operands.
 fn join_of<'a>(
     name: Path<'a>,
     items: &[Item<'a>],
@@ -254,11 +254,34 @@ fn meaning_of_items<'a>(
     command_of(items, operands)
 }
 
-/// Returns what the arguments ask for, or why they are wrong usage.
+/// Returns what the arguments, without the program's name, ask for, or why they are wrong usage.
 ///
-/// Fails only if an allocation fails.
+/// The rules are those of GNU's programs:
+/// - An argument that begins with `--` is a long option, and one that begins with `-` is one short
+///   option for each letter after the dash. All others are operands, and so is a single `-`.
+/// - Options may come before and after operands. A `--` ends them: it is no operand, and everything
+///   after it is.
+/// - `--from` takes the next argument as its value, whatever that is, or what follows the `=` of
+///   `--from=DIR`. No other option takes a value.
+/// - Names of options and commands are written out: abbreviations are unknown.
+/// - An option may be repeated. The last `--from` counts.
 ///
-/// For `canon` and `a` it is `Invocation::Each` of `Command::Canon` and the path `a`.
+/// The first operand is the command. `join`, `strip` and `under` take the next one as ROOT or BASE,
+/// `equal` takes exactly two, and all others are paths.
+///
+/// The first `--help` or `--version` wins over everything else, wrong usage included. Otherwise the
+/// first of these is reported:
+/// 1. an unknown option, a `--from` without a value, or a value for another option;
+/// 2. no command, or an unknown one;
+/// 3. an option that this command doesn't have;
+/// 4. without `-z`, an operand with a newline;
+/// 5. two of `--beneath`, `--in-root` and `--verbatim`;
+/// 6. a missing or surplus operand, or no `--from` for `relative`.
+///
+/// Allocates for what the arguments say, and for the operands. Fails only if an allocation fails.
+///
+/// For `canon`, `-z` and `a` it is `Invocation::Each` of `Command::Canon`, of settings with `null`,
+/// and of the path `a`.
 #[tactic(auto, unfolding(crate::specs::Arguments::meaning_of))]
 pub fn invocation_of<'a>(
     alloc: Global,

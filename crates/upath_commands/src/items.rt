@@ -1,4 +1,4 @@
-//! Splits arguments into options, their values and operands.
+//! What arguments say before the command is known: options, their values, and operands.
 ghost use Rattle.std.specs.Prelude.{◌≡◌, ◌++◌, ◌≤◌, ◌∷◌, [], IfOk, OnOk, map, length, false};
 ghost use Rattle.upath_commands.specs.Items.{argument_items, item_value, items_after, known};
 ghost use Rattle.upath_commands.specs.Items.{letter_items, long_items, operand, path_bytes};
@@ -11,24 +11,28 @@ use unix_bytes::search::find_byte;
 use unix_path::Path;
 
 /// What an argument says, or a letter of it.
+///
+/// `a` is an `ItemKind::Operand`.
 #[derive(Clone, Copy)]
 pub enum ItemKind {
     /// An operand.
     Operand,
-    /// An option.
+    /// An option, which is known.
     Option(Flag),
     /// The value of the option before it.
     Value,
-    /// Wrong usage.
+    /// Wrong usage, whatever the command is.
     Wrong(UsageErrorKind),
 }
 
-/// What an argument says, with its bytes.
+/// What an argument says, or a letter of it, with its bytes.
+///
+/// `-zp` has two items, whose bytes are `z` and `p`.
 #[derive(Clone, Copy)]
 pub struct Item<'a> {
-    /// What they say.
+    /// What the bytes say.
     pub kind: ItemKind,
-    /// The argument, the letter, or the value.
+    /// The argument, or the letter of a short option, or the value after a `=`.
     pub bytes: Path<'a>,
 }
 
@@ -74,11 +78,8 @@ fn push_with_value<'a>(
             push_item(ItemKind::Value, value, items)
         }
         ItemKind::Option(_) => {
-            push_item(
-                ItemKind::Wrong(UsageErrorKind::UnexpectedValue),
-                argument,
-                items,
-            )
+            let kind = ItemKind::Wrong(UsageErrorKind::UnexpectedValue);
+            push_item(kind, argument, items)
         }
         _ => push_item(kind, argument, items),
     }
@@ -139,7 +140,9 @@ fn push_operands<'a>(arguments: &[Path<'a>], items: &mut Vec<Item<'a>>) -> Resul
     Ok(())
 }
 
-/// Returns what the arguments say.
+/// Returns what the arguments say, in their order.
+///
+/// The items of `canon` and `--null` are an operand and `Flag::Null`.
 pub fn items_of<'a>(alloc: Global, arguments: &[Path<'a>]) -> Result<Vec<Item<'a>>, AllocError>
     ensures { IfOk result (λ items. map item_value items.items
         ≡ items_after false (map path_bytes arguments.now)) }

@@ -1,10 +1,12 @@
-//! The names of options and commands, and which command has which option.
+//! The options and the commands: their names, and which command has which option.
 ghost use Rattle.std.specs.Prelude.{◌≡◌};
 ghost use Rattle.std.specs.Str.{bytes_eq};
 ghost use Rattle.upath_commands.specs.Options.{has_option, option_by_letter, option_by_name};
 ghost use Rattle.upath_commands.specs.Options.{same_option, verb_by_name};
 
 /// An option.
+///
+/// `-z` and `--null` are both `Flag::Null`.
 #[derive(Clone, Copy, PartialEq, Eq)]
 pub enum Flag {
     /// `-z` or `--null`.
@@ -39,7 +41,9 @@ pub enum Flag {
     ByParts,
 }
 
-/// The first operand: a command, without its options.
+/// A command, without its options and operands.
+///
+/// `ext` is `Verb::Extension`.
 #[derive(Clone, Copy, PartialEq, Eq)]
 pub enum Verb {
     /// `canon`.
@@ -70,14 +74,9 @@ pub enum Verb {
     Equal,
 }
 
-/// Returns true if and only if the options are the same.
-pub fn is_option(option: Flag, other: Flag) -> bool
-    ensures { result ≡ same_option option other }
-{
-    option == other
-}
-
-/// Returns the option with this letter.
+/// Returns the option with this letter, or `None` if no option has it.
+///
+/// For `b'z'` it is `Flag::Null`.
 pub fn option_by_letter(letter: u8) -> Option<Flag>
     ensures { result ≡ option_by_letter letter }
 {
@@ -91,14 +90,19 @@ pub fn option_by_letter(letter: u8) -> Option<Flag>
     }
 }
 
-/// Returns true if and only if these are the same bytes.
+/// Returns true if and only if the bytes are this name.
+///
+/// `is(b"--", b"--")` is true.
 pub fn is(bytes: &[u8], name: &[u8]) -> bool
     ensures { result ≡ bytes_eq bytes.now name.now }
 {
     bytes == name
 }
 
-/// Returns the option with this long name.
+/// Returns the option with this long name, or `None` if no option has it. A name that is cut short
+/// is another name.
+///
+/// For `null` it is `Flag::Null`, and for `nul` there is none.
 pub fn option_by_name(name: &[u8]) -> Option<Flag>
     ensures { result ≡ option_by_name name.now }
 {
@@ -120,7 +124,9 @@ pub fn option_by_name(name: &[u8]) -> Option<Flag>
     }
 }
 
-/// Returns the command with this name.
+/// Returns the command with this name, or `None` if no command has it.
+///
+/// For `ext` it is `Verb::Extension`.
 pub fn verb_by_name(name: &[u8]) -> Option<Verb>
     ensures { result ≡ verb_by_name name.now }
 {
@@ -143,6 +149,8 @@ pub fn verb_by_name(name: &[u8]) -> Option<Verb>
 }
 
 /// Returns true if and only if the command has the option.
+///
+/// `Verb::Parts` has `Flag::FromBack`, and no other command has.
 pub fn has_option(verb: Verb, option: Flag) -> bool
     ensures { result ≡ has_option verb option }
 {

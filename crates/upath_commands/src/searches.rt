@@ -1,26 +1,29 @@
 //! Searches among the items of a list of arguments.
 ghost use Rattle.std.specs.Prelude.{◌≡◌, IfOk, map, option_map};
 ghost use Rattle.upath_commands.specs.Arguments.{fault_of, first_of, from_dir, has, operand_of};
-ghost use Rattle.upath_commands.specs.Arguments.{has_newline, newline_fault, refusal_of, request_of};
+ghost use Rattle.upath_commands.specs.Arguments.{has_newline, newline_fault, refusal_of};
+ghost use Rattle.upath_commands.specs.Arguments.{request_of};
 ghost use Rattle.upath_commands.specs.Invocations.{invocation_value, usage_value};
 ghost use Rattle.upath_commands.specs.Items.{item_value, path_bytes};
 ghost use Rattle.std.specs.List.{filter_map};
 
 use crate::command::Invocation;
 use crate::items::{Item, ItemKind};
-use crate::options::{Flag, Verb, has_option, is_option};
+use crate::options::{Flag, Verb, has_option};
 use crate::usage::{UsageError, UsageErrorKind};
 use std::alloc::{AllocError, Global};
 use unix_bytes::search::find_byte;
 use unix_path::Path;
 
 /// Returns true if and only if the option is among the items.
+///
+/// Among the items of `-z` is `Flag::Null`.
 pub fn has(items: &[Item<'_>], option: Flag) -> bool
     ensures { result ≡ has (map item_value items.now) option }
 {
     for item in items {
         if let ItemKind::Option(given) = item.kind {
-            if is_option(given, option) {
+            if given == option {
                 return true;
             }
         }
@@ -28,7 +31,9 @@ pub fn has(items: &[Item<'_>], option: Flag) -> bool
     false
 }
 
-/// Returns the invocation of the first `--help` or `--version`.
+/// Returns what the first `--help` or `--version` asks for, or `None` if there is neither.
+///
+/// For the items of `canon` and `--help` it is `Invocation::Help`.
 pub fn request_in<'a>(items: &[Item<'a>]) -> Option<Invocation<'a>>
     ensures { option_map invocation_value result ≡ first_of request_of (map item_value items.now) }
 {
@@ -42,7 +47,9 @@ pub fn request_in<'a>(items: &[Item<'a>]) -> Option<Invocation<'a>>
     None
 }
 
-/// Returns the first wrong usage that is one for every command.
+/// Returns the first item that is wrong usage whatever the command is, or `None` if there is none.
+///
+/// For the items of `canon` and `--nul` it is an unknown option.
 pub fn fault_in<'a>(items: &[Item<'a>]) -> Option<UsageError<'a>>
     ensures { option_map usage_value result ≡ first_of fault_of (map item_value items.now) }
 {
@@ -57,7 +64,10 @@ pub fn fault_in<'a>(items: &[Item<'a>]) -> Option<UsageError<'a>>
     None
 }
 
-/// Returns the first option that the command doesn't have.
+/// Returns the first option that the command doesn't have, as an unknown option, or `None` if it
+/// has all of them.
+///
+/// For `Verb::Canon` and the items of `canon` and `-b` it is `b`.
 pub fn refusal_in<'a>(verb: Verb, items: &[Item<'a>]) -> Option<UsageError<'a>>
     ensures { option_map usage_value result
         ≡ first_of (refusal_of verb) (map item_value items.now) }
@@ -75,7 +85,9 @@ pub fn refusal_in<'a>(verb: Verb, items: &[Item<'a>]) -> Option<UsageError<'a>>
     None
 }
 
-/// Returns the value of the last `--from`.
+/// Returns the value of the last `--from`, or `None` if there is no `--from`.
+///
+/// For the items of `--from=a` it is `a`.
 pub fn from_dir<'a>(items: &[Item<'a>]) -> Option<Path<'a>>
     ensures { option_map path_bytes result ≡ from_dir (map item_value items.now) }
 {
@@ -88,7 +100,9 @@ pub fn from_dir<'a>(items: &[Item<'a>]) -> Option<Path<'a>>
     dir
 }
 
-/// Returns the operands.
+/// Returns the operands, in their order.
+///
+/// For the items of `canon`, `-z` and `a` they are `canon` and `a`.
 pub fn operands_in<'a>(alloc: Global, items: &[Item<'a>]) -> Result<Vec<Path<'a>>, AllocError>
     ensures { IfOk result (λ operands. map path_bytes operands.items
         ≡ filter_map operand_of (map item_value items.now)) }
@@ -109,7 +123,10 @@ fn has_newline(bytes: &[u8]) -> bool
     find_byte(bytes, b'\n') < bytes.len()
 }
 
-/// Returns the first operand with a newline, unless records end with a NUL.
+/// Returns the first operand with a newline, as wrong usage. Returns `None` if no operand has a
+/// newline, or if `-z` is among the items.
+///
+/// For the items of `-z` there is none.
 pub fn newline_in<'a>(items: &[Item<'_>], operands: &[Path<'a>]) -> Option<UsageError<'a>>
     ensures { option_map usage_value result
         ≡ newline_fault (map item_value items.now) (map path_bytes operands.now) }

@@ -7,39 +7,39 @@ use unix_path::Path;
 /// `upath cannon` is an `UnknownCommand`.
 #[derive(Clone, Copy, Debug, PartialEq, Eq)]
 pub enum UsageErrorKind {
-    /// There is no command. The argument is empty.
+    /// There is no operand, and so no command. The error's argument is empty.
     MissingCommand,
-    /// No command has this name.
+    /// The first operand, which is the error's argument, is not the name of a command.
     UnknownCommand,
-    /// No option has this name or this letter, or the command doesn't have this option.
+    /// The command doesn't have this option, or no command has it.
     UnknownOption,
-    /// This option has no value.
+    /// The last argument is this option, which needs a value.
     MissingValue,
-    /// This option takes no value.
+    /// This argument gives a value to an option that takes none.
     UnexpectedValue,
-    /// The options for joins contradict each other. The argument is the command.
+    /// Two options of this command contradict each other.
     ContradictoryOptions,
-    /// ROOT is missing after this command.
+    /// This command needs the operand ROOT.
     MissingRoot,
-    /// BASE is missing after this command.
+    /// This command needs the operand BASE.
     MissingBase,
     /// This command needs the option `--from`.
     MissingFrom,
     /// This command needs two operands.
     MissingPair,
-    /// This operand is one too many.
+    /// The command has this operand too many.
     UnexpectedOperand,
-    /// This operand has a newline, and there is no `-z`.
+    /// This operand has a newline, although newlines end the records.
     NewlineInOperand,
 }
 
-/// Wrong usage: its kind, and the argument that shows it.
+/// Wrong usage: its kind, and the argument that it is about.
 ///
-/// For `upath canon --nul` the argument is `--nul`.
+/// For `upath canon --nul` the argument is `--nul`, and for `upath join` it is `join`.
 #[derive(Clone, Copy)]
 pub struct UsageError<'a> {
     /// What is wrong.
     pub kind: UsageErrorKind,
-    /// The argument, or for a short option only its letter.
+    /// The argument, with its dashes and its value, or only the letter of a short option.
     pub argument: Path<'a>,
 }
