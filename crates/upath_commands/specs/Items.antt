@@ -55,9 +55,13 @@ long_items argument text =
     then with_value argument (after_first is_equals_sign text) named
     else (named, argument) ∷ []
 
+-- the item of a letter after a `-`
+abbrev pub letter_item : ℕ → ItemValue
+letter_item letter = (known (option_by_letter letter), letter ∷ [])
+
 -- an item for each letter after a `-`
 abbrev pub letter_items : List ℕ → List ItemValue
-letter_items letters = map (λ b. (known (option_by_letter b), b ∷ [])) letters
+letter_items letters = map letter_item letters
 
 -- the items of an argument that may be an option; a single `-` is an operand
 abbrev pub argument_items : List ℕ → List ItemValue

@@ -4,6 +4,7 @@
 //! unless they take an allocator or say so.
 #![tactic(auto)]
 
+pub mod argument_laws;
 mod arguments;
 mod command;
 mod items;

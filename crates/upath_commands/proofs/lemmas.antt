@@ -1,0 +1,3 @@
+-- The lemmas, by subject.
+pub mod MeaningLemmas
+pub mod ItemLemmas
