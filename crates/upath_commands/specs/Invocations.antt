@@ -1,5 +1,6 @@
 -- Commands and invocations with bytes in place of paths.
 use Rattle.std.specs.Prelude.{ℕ, List, map, Result, Ok, Err}
+use Rattle.unix_path.specs.declared.path.Path.{Path}
 use Rattle.upath_commands.specs.declared.command.Command.{Command}
 use Rattle.upath_commands.specs.declared.command.Command.TheVariants as command
 use Rattle.upath_commands.specs.declared.command.EscapesOptions.{EscapesOptions}
@@ -10,7 +11,6 @@ use Rattle.upath_commands.specs.declared.command.Settings.{Settings}
 use Rattle.upath_commands.specs.declared.command.UnderOptions.{UnderOptions}
 use Rattle.upath_commands.specs.declared.usage.UsageError.{UsageError}
 use Rattle.upath_commands.specs.declared.usage.UsageErrorKind.{UsageErrorKind}
-use Rattle.upath_commands.specs.Items.{path_bytes}
 
 -- what is done with each path
 pub data CommandValue : Type 0 where
@@ -42,6 +42,10 @@ UsageValue = UsageErrorKind × List ℕ
 -- a list of arguments has one meaning, or it is wrong usage
 abbrev pub Meaning : Type 0
 Meaning = Result InvocationValue UsageValue
+
+-- the bytes of a path
+abbrev pub path_bytes : Path → List ℕ
+path_bytes path = path.bytes.now
 
 -- the command, with the bytes that its view points to
 abbrev pub command_value : Command → CommandValue

@@ -4,7 +4,6 @@ use Rattle.std.specs.Prelude.{Option, Some, None, codes, map, drop, if◌then◌
 use Rattle.std.specs.Option.{is_some}
 use Rattle.std.specs.List.{before_first, after_first, position, starts_with}
 use Rattle.std.specs.Str.{byte, bytes_eq}
-use Rattle.unix_path.specs.declared.path.Path.{Path}
 use Rattle.upath_commands.specs.declared.items.Item.{Item}
 use Rattle.upath_commands.specs.declared.items.ItemKind.{ItemKind}
 use Rattle.upath_commands.specs.declared.items.ItemKind.TheVariants as kind
@@ -13,11 +12,8 @@ use Rattle.upath_commands.specs.declared.options.Flag.TheVariants as option
 use Rattle.upath_commands.specs.declared.usage.UsageErrorKind.TheVariants.{UnknownOption}
 use Rattle.upath_commands.specs.declared.usage.UsageErrorKind.TheVariants.{MissingValue}
 use Rattle.upath_commands.specs.declared.usage.UsageErrorKind.TheVariants.{UnexpectedValue}
+use Rattle.upath_commands.specs.Invocations.{path_bytes}
 use Rattle.upath_commands.specs.Options.{option_by_letter, option_by_name}
-
--- the bytes of a path
-abbrev pub path_bytes : Path → List ℕ
-path_bytes path = path.bytes.now
 
 -- what an argument says, with its bytes
 abbrev pub ItemValue : Type 0

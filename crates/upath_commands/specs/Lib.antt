@@ -1,5 +1,5 @@
+pub mod Invocations
 pub mod Options
 pub mod Items
-pub mod Invocations
 pub mod Arguments
 pub mod ArgumentLaws

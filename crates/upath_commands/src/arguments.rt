@@ -5,8 +5,9 @@ ghost use Rattle.upath_commands.specs.Arguments.{escapes_options, join_rule, mea
 ghost use Rattle.upath_commands.specs.Arguments.{command_meaning, meaning_of_items};
 ghost use Rattle.upath_commands.specs.Arguments.{meaning_of_verb, operand_of, settings_of};
 ghost use Rattle.upath_commands.specs.Arguments.{each, equal_meaning, join_meaning, under_options};
-ghost use Rattle.upath_commands.specs.Invocations.{command_value, meaning_value, usage_value};
-ghost use Rattle.upath_commands.specs.Items.{item_value, path_bytes};
+ghost use Rattle.upath_commands.specs.Invocations.{command_value, meaning_value, path_bytes};
+ghost use Rattle.upath_commands.specs.Invocations.{usage_value};
+ghost use Rattle.upath_commands.specs.Items.{item_value};
 
 use crate::command::{Command, EscapesOptions, Invocation, JoinRule, Settings, UnderOptions};
 use crate::items::{Item, items_of};

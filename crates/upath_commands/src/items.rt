@@ -1,7 +1,8 @@
 //! What arguments say before the command is known: options, their values, and operands.
 ghost use Rattle.std.specs.Prelude.{◌≡◌, ◌++◌, ◌≤◌, ◌∷◌, [], IfOk, OnOk, map, length, false};
 ghost use Rattle.upath_commands.specs.Items.{argument_items, item_value, items_after, known};
-ghost use Rattle.upath_commands.specs.Items.{letter_items, long_items, operand, path_bytes};
+ghost use Rattle.upath_commands.specs.Items.{letter_items, long_items, operand};
+ghost use Rattle.upath_commands.specs.Invocations.{path_bytes};
 ghost use Rattle.upath_commands.specs.Items.{with_value};
 
 use crate::options::{Flag, is, option_by_letter, option_by_name};

@@ -3,8 +3,8 @@ ghost use Rattle.std.specs.Prelude.{◌≡◌, IfOk, map, option_map};
 ghost use Rattle.upath_commands.specs.Arguments.{fault_of, first_of, from_dir, has, operand_of};
 ghost use Rattle.upath_commands.specs.Arguments.{has_newline, newline_fault, refusal_of};
 ghost use Rattle.upath_commands.specs.Arguments.{request_of};
-ghost use Rattle.upath_commands.specs.Invocations.{invocation_value, usage_value};
-ghost use Rattle.upath_commands.specs.Items.{item_value, path_bytes};
+ghost use Rattle.upath_commands.specs.Invocations.{invocation_value, path_bytes, usage_value};
+ghost use Rattle.upath_commands.specs.Items.{item_value};
 ghost use Rattle.std.specs.List.{filter_map};
 
 use crate::command::Invocation;

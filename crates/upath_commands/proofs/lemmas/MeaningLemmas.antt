@@ -5,8 +5,8 @@ use Rattle.upath_commands.specs.declared.options.Flag.{Flag}
 use Rattle.upath_commands.specs.declared.options.Flag.TheVariants as option
 use Rattle.upath_commands.specs.declared.options.Verb.{Verb}
 use Rattle.upath_commands.specs.declared.options.Verb.TheVariants as verb
-use Rattle.upath_commands.specs.Arguments.{command_meaning, each, each_after, equal_meaning, fault_of}
-use Rattle.upath_commands.specs.Arguments.{first_of, found_meaning, from_dir, has, join_meaning}
+use Rattle.upath_commands.specs.Arguments.{command_meaning, each, each_after, equal_meaning}
+use Rattle.upath_commands.specs.Arguments.{fault_of, first_of, found_meaning, from_dir, has, join_meaning}
 use Rattle.upath_commands.specs.Arguments.{join_rule, meaning_of_verb, newline_fault, refusal_of}
 use Rattle.upath_commands.specs.Arguments.{refuse, relative_meaning, request_of, request_or}
 use Rattle.upath_commands.specs.Arguments.{settings_of, escapes_options, under_options}

@@ -1,5 +1,6 @@
 use Rattle.std.proofs.Common.{◌≡◌, ◌++◌, map, drop, false}
-use Rattle.upath_commands.specs.Items.{item_value, items_after, path_bytes}
+use Rattle.upath_commands.specs.Items.{item_value, items_after}
+use Rattle.upath_commands.specs.Invocations.{path_bytes}
 use Rattle.upath_commands.proofs.items.items_of.Given as goal
 
 -- the items so far, followed by those of the remaining arguments, are the items of all arguments

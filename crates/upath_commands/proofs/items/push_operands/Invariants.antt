@@ -1,5 +1,6 @@
 use Rattle.std.proofs.Common.{◌≡◌, ◌++◌, map, take}
-use Rattle.upath_commands.specs.Items.{item_value, operand, path_bytes}
+use Rattle.upath_commands.specs.Items.{item_value, operand}
+use Rattle.upath_commands.specs.Invocations.{path_bytes}
 use Rattle.upath_commands.proofs.items.push_operands.Given as goal
 
 abbrev pub invariant-loop-argument : goal.invariant-loop-argument

@@ -1,6 +1,7 @@
 use Rattle.std.proofs.Common.{◌≡◌, map, drop, option_map}
 use Rattle.std.specs.List.{filter_map, last_or}
-use Rattle.upath_commands.specs.Items.{item_value, path_bytes}
+use Rattle.upath_commands.specs.Items.{item_value}
+use Rattle.upath_commands.specs.Invocations.{path_bytes}
 use Rattle.upath_commands.specs.Arguments.{from_dir, value_of}
 use Rattle.upath_commands.proofs.searches.from_dir.Given as goal
 

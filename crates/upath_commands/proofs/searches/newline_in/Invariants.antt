@@ -1,6 +1,6 @@
 use Rattle.std.proofs.Common.{◌≡◌, map, drop}
 use Rattle.std.specs.List.{find}
-use Rattle.upath_commands.specs.Items.{path_bytes}
+use Rattle.upath_commands.specs.Invocations.{path_bytes}
 use Rattle.upath_commands.specs.Arguments.{has_newline}
 use Rattle.upath_commands.proofs.searches.newline_in.Given as goal
 

@@ -1,6 +1,7 @@
 use Rattle.std.proofs.Common.{◌≡◌, ◌++◌, map, drop}
 use Rattle.std.specs.List.{filter_map}
-use Rattle.upath_commands.specs.Items.{item_value, path_bytes}
+use Rattle.upath_commands.specs.Items.{item_value}
+use Rattle.upath_commands.specs.Invocations.{path_bytes}
 use Rattle.upath_commands.specs.Arguments.{operand_of}
 use Rattle.upath_commands.proofs.searches.operands_in.Given as goal
 
