@@ -6,9 +6,9 @@ use Rattle.upath_commands.specs.declared.options.Flag.TheVariants as option
 use Rattle.upath_commands.specs.declared.options.Verb.{Verb}
 use Rattle.upath_commands.specs.declared.options.Verb.TheVariants as verb
 use Rattle.upath_commands.specs.Arguments.{command_meaning, each, each_after, equal_meaning}
-use Rattle.upath_commands.specs.Arguments.{fault_of, first_of, found_meaning, from_dir, has, join_meaning}
-use Rattle.upath_commands.specs.Arguments.{join_rule, meaning_of_verb, newline_fault, refusal_of}
-use Rattle.upath_commands.specs.Arguments.{refuse, relative_meaning, request_of, request_or}
+use Rattle.upath_commands.specs.Arguments.{fault_of, first_of, found_meaning, from_dir, has}
+use Rattle.upath_commands.specs.Arguments.{join_meaning, join_rule, meaning_of_verb, newline_fault}
+use Rattle.upath_commands.specs.Arguments.{refusal_of, refuse, relative_meaning, request_of, request_or}
 use Rattle.upath_commands.specs.Arguments.{settings_of, escapes_options, under_options}
 use Rattle.upath_commands.specs.Invocations.{CommandValue, Meaning, UsageValue}
 use Rattle.upath_commands.specs.Invocations as value

@@ -14,7 +14,8 @@ returns c = λ a b letters more before after plain not_a not_b.
     ap meaning_of_items (items_after-plains before _ plain
     ∙ ap (λ items. map operand before ++ items)
     (items_after-short a (letters ++ b ∷ more) after not_a
-    ∙ ap (λ items. items ++ items_after false after) (map-append letter_item (a ∷ letters) (b ∷ more))
+    ∙ ap (λ items. items ++ items_after false after)
+    (map-append letter_item (a ∷ letters) (b ∷ more))
     ∙ append_assoc first second (items_after false after)
     ∙ sym (items_after-short a letters (short (b ∷ more) ∷ after) not_a
     ∙ ap (λ items. first ++ items) (items_after-short b more after not_b)))
