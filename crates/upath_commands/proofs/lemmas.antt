@@ -1,4 +1,6 @@
 -- The lemmas, by subject.
+pub mod MeaningLemmas
+pub mod ItemLemmas
 pub mod OutputLemmas
 pub mod RecordLemmas
 pub mod EngineLemmas

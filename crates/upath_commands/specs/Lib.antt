@@ -1,3 +1,8 @@
+pub mod Invocations
+pub mod Options
+pub mod Items
+pub mod Arguments
+pub mod ArgumentLaws
 pub mod Outputs
 pub mod Records
 pub mod Escaping
