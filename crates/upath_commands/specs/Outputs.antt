@@ -20,6 +20,10 @@ written_to output = output.writer
 abbrev pub unwritten : {W : Type 0} → Output W → List ℕ
 unwritten output = output.buffer.items
 
+-- the output is written after each record
+abbrev pub is_line_buffered : {W : Type 0} → Output W → Bool
+is_line_buffered output = output.is_line_buffered
+
 -- if the bytes are known, a prefix of bs was appended to them
 abbrev pub AppendsPrefix : Option (List ℕ) → Option (List ℕ) → List ℕ → Type 0
 AppendsPrefix old new bs = (n : ℕ) × Appends old new (take n bs)

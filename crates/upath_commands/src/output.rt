@@ -1,9 +1,11 @@
 //! What is written: answers, with a buffer before their writer, and reports.
-ghost use Rattle.std.specs.Prelude.{◌≡◌, ◌++◌, [], false, true, OnOk, OnErr, IfOk, IfErr, Some};
+ghost use Rattle.std.specs.Prelude.{◌≡◌, ◌≢◌, ◌<◌, ◌++◌, [], length, false, true, OnOk, OnErr, IfOk, IfErr, Some};
 ghost use Rattle.std.specs.Fmt.{padded};
 ghost use Rattle.std.specs.Io.{WritesAtMost};
+ghost use Rattle.std.specs.IoError.{error_kind};
 ghost use Rattle.std.specs.Io.KnownBytes.{Appends, WriteAppends};
 ghost use Rattle.upath_commands.specs.Outputs.{AppendsPrefix, Emits, EmitsPrefix, unwritten};
+ghost use Rattle.upath_commands.specs.Outputs.{is_line_buffered};
 ghost use Rattle.upath_commands.specs.Outputs.{Tells, error_text, has_failed, told_to, written_to};
 ghost use Rattle.upath_commands.specs.declared.output.RunError.TheVariants.{Memory};
 
@@ -63,6 +65,7 @@ impl From<AllocError> for RunError {
 fn write_once<W: Write>(writer: &mut W, bytes: &[u8]) -> io::Result<usize>
     ensures bound { WritesAtMost result bytes.now }
     ensures bytes { WriteAppends (W.contents writer.old) (W.contents writer.new) result bytes.now }
+    ensures retried { IfErr result (λ error. error_kind error ≢ ErrorKind.Interrupted) }
 {
     for _ in 0..u64::MAX {
         match writer.write(bytes) {
@@ -71,7 +74,7 @@ fn write_once<W: Write>(writer: &mut W, bytes: &[u8]) -> io::Result<usize>
             Ok(count) => return Ok(count),
         }
     }
-    writer.write(bytes)
+    Err(io::Error::from(ErrorKind::Other))
 }
 
 // Writes all bytes.
@@ -144,6 +147,8 @@ impl<W: Write> Output<W> {
             (A.output answerer.now path.entry.bytes.now)) }
         ensures answered { IfOk result (λ is_answered.
             is_answered ≡ A.answered answerer.now path.entry.bytes.now) }
+        ensures bounded { OnOk result (length (unwritten self.new) < 65536) }
+        ensures lines { OnOk result (is_line_buffered self.old ≡ true → unwritten self.new ≡ []) }
         ensures err { OnErr result (EmitsPrefix (W.contents (written_to self.old))
             (W.contents (written_to self.new)) (unwritten self.old)
             (A.output answerer.now path.entry.bytes.now)) }
