@@ -10,4 +10,5 @@ pub mod Answers
 pub mod Commands
 pub mod Refusals
 pub mod Tasks
+pub mod Usage
 pub mod Runs

@@ -4,9 +4,8 @@ use Rattle.std.specs.Str.{byte}
 use Rattle.unix_path.specs.Parts.{is_rooted, values}
 use Rattle.path_within.specs.Escapes.{has_root_or_parent_dir}
 use Rattle.upath_commands.specs.Escaping.{escapes}
-use Rattle.upath_commands.specs.declared.command.Command.{Command}
-use Rattle.upath_commands.specs.declared.command.Command.TheVariants.{Parent, Name, Stem, Extension}
-use Rattle.upath_commands.specs.declared.command.Command.TheVariants.{Join, Strip, Relative}
+use Rattle.upath_commands.specs.Invocations.{CommandValue, Parent, Name, Stem, Extension}
+use Rattle.upath_commands.specs.Invocations.{Join, Strip, Relative}
 use Rattle.upath_commands.specs.declared.command.JoinRule.{JoinRule}
 use Rattle.upath_commands.specs.declared.command.JoinRule.TheVariants.{Beneath, Verbatim}
 use Rattle.upath_commands.specs.declared.command.Settings.{Settings}
@@ -22,7 +21,7 @@ join_reason Verbatim p =
 join_reason _ p = codes "has a NUL byte"
 
 -- why the command has no answer to p; none if it always has one, or if a missing one is the answer
-abbrev pub reason_of : Command → List ℕ → Option (List ℕ)
+abbrev pub reason_of : CommandValue → List ℕ → Option (List ℕ)
 reason_of Parent p = Some (codes "no parent")
 reason_of Name p = Some (codes "no file name")
 reason_of Stem p = Some (codes "no file name")
@@ -38,6 +37,6 @@ reason_line p None = []
 reason_line p (Some reason) = codes "upath: " ++ (p ++ (codes ": " ++ (reason ++ byte "\n" ∷ [])))
 
 -- what is said of a path without an answer
-abbrev pub refusal_of : Command → Settings → List ℕ → List ℕ
+abbrev pub refusal_of : CommandValue → Settings → List ℕ → List ℕ
 refusal_of command settings p =
     if settings.quiet then [] else reason_line p (reason_of command p)

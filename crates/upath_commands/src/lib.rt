@@ -32,6 +32,6 @@ pub use arguments::invocation_of;
 pub use command::{Command, EscapesOptions, Invocation, JoinRule, Settings, UnderOptions};
 pub use output::{Output, Refusals, RunError};
 pub use records::answer_input;
-pub use runs::{Texts, is_line_buffered, run, status_of};
+pub use runs::{Texts, run_arguments};
 pub use task::Task;
 pub use usage::{UsageError, UsageErrorKind};

@@ -7,9 +7,12 @@ ghost use Rattle.std.specs.Io.KnownBytes.{Appends, WriteAppends};
 ghost use Rattle.upath_commands.specs.Outputs.{AppendsPrefix, Emits, EmitsPrefix, unwritten};
 ghost use Rattle.upath_commands.specs.Outputs.{is_line_buffered};
 ghost use Rattle.upath_commands.specs.Outputs.{Tells, error_text, has_failed, told_to, written_to};
+ghost use Rattle.upath_commands.specs.Invocations.{usage_value};
+ghost use Rattle.upath_commands.specs.Usage.{usage_line};
 ghost use Rattle.upath_commands.specs.declared.output.RunError.TheVariants.{Memory};
 
 use crate::answers::Answerer;
+use crate::usage::{UsageError, push_usage};
 use std::alloc::{AllocError, Global};
 use std::error::Error;
 use std::fmt;
@@ -99,7 +102,7 @@ fn write_all<W: Write>(writer: &mut W, bytes: &[u8]) -> Result<(), RunError>
 ///
 /// The output is written once it has 64 KiB or more, or after each record.
 ///
-/// `Output::new(alloc, writer, true)` writes the output after each record.
+/// `Output::new(alloc, writer)` is an output without bytes.
 #[derive(Drop)]
 pub struct Output<W> {
     writer: W,
@@ -110,16 +113,25 @@ pub struct Output<W> {
 impl<W: Write> Output<W> {
     /// Creates an output without bytes before the writer.
     ///
-    /// `Output::new(alloc, writer, false)` writes 64 KiB or more at once, and the rest by `finish`.
-    pub fn new(alloc: Global, writer: W, is_line_buffered: bool) -> Output<W>
+    /// `Output::new(alloc, writer)` writes 64 KiB or more at once, and the rest at the end.
+    pub fn new(alloc: Global, writer: W) -> Output<W>
         ensures writer { written_to result ≡ writer }
         ensures empty { unwritten result ≡ [] }
     {
         Output {
             writer,
             buffer: Vec::new(alloc),
-            is_line_buffered,
+            is_line_buffered: false,
         }
+    }
+
+    // Sets whether the output is written after each record.
+    pub(crate) fn buffer_lines(&mut self, does_buffer: bool)
+        ensures writer { written_to self.new ≡ written_to self.old }
+        ensures bytes { unwritten self.new ≡ unwritten self.old }
+        ensures lines { is_line_buffered self.new ≡ does_buffer }
+    {
+        self.is_line_buffered = does_buffer;
     }
 
     // Writes the bytes that wait.
@@ -231,6 +243,21 @@ impl<E: Write> Refusals<E> {
     {
         self.line.clear();
         answerer.push_refusal(path, &mut self.line)?;
+        if !self.has_failed {
+            self.has_failed = write_all(&mut self.writer, self.line.as_slice()).is_err();
+        }
+        Ok(())
+    }
+
+    // Reports wrong usage.
+    pub(crate) fn report_usage(&mut self, error: UsageError<'_>) -> Result<(), RunError>
+        ensures told { OnOk result (Tells (has_failed self.old) (has_failed self.new)
+            (E.contents (told_to self.old)) (E.contents (told_to self.new))
+            (usage_line (usage_value error.entry))) }
+        ensures only_memory { IfErr result (λ error. error ≡ RunError.Memory) }
+    {
+        self.line.clear();
+        push_usage(error, &mut self.line)?;
         if !self.has_failed {
             self.has_failed = write_all(&mut self.writer, self.line.as_slice()).is_err();
         }

@@ -1,5 +1,6 @@
 //! Why a path has no answer.
 ghost use Rattle.std.specs.Prelude.{◌≡◌, ◌++◌, OnOk, option_map};
+ghost use Rattle.upath_commands.specs.Invocations.{command_value};
 ghost use Rattle.upath_commands.specs.Refusals.{join_reason, reason_line, reason_of};
 
 use crate::command::{Command, JoinRule};
@@ -24,7 +25,7 @@ fn join_reason(rule: JoinRule, path: Path<'_>) -> &'static [u8]
 // Returns why a path has no answer that has none.
 pub(crate) fn reason_of(command: Command<'_>, path: Path<'_>) -> Option<&'static [u8]>
     ensures { option_map (λ reason. reason.now) result
-        ≡ reason_of command.entry path.entry.bytes.now }
+        ≡ reason_of (command_value command.entry) path.entry.bytes.now }
 {
     match command {
         Command::Parent => Some(b"no parent"),

@@ -7,14 +7,20 @@ ghost use Rattle.upath_commands.specs.Outputs.{AppendsPrefix, Tells, has_failed,
 ghost use Rattle.upath_commands.specs.Outputs.{unwritten, written_to};
 ghost use Rattle.upath_commands.specs.Runs.{each_output, each_refusals, input_read, paths_asked};
 ghost use Rattle.upath_commands.specs.Runs.{run_answered, run_input, run_output, run_refusals};
-ghost use Rattle.upath_commands.specs.Runs.{is_line_buffered, status_of};
+ghost use Rattle.upath_commands.specs.Runs.{input_for, messages_for, output_for, status_for};
+ghost use Rattle.upath_commands.specs.Arguments.{meaning_of};
+ghost use Rattle.upath_commands.specs.Invocations.{command_value, invocation_value, usage_value};
+ghost use Rattle.upath_commands.specs.Records.{paths_of};
+ghost use Rattle.upath_commands.specs.Usage.{usage_line};
 
 use crate::answers::answer_operands;
+use crate::arguments::invocation_of;
 use crate::command::{Command, Invocation, Settings};
 use crate::output::{Output, Refusals, RunError};
 use crate::push::end_of;
 use crate::records::answer_input;
 use crate::task::Task;
+use crate::usage::UsageError;
 use std::alloc::Global;
 use std::io::{BufRead, Write};
 use unix_path::Path;
@@ -40,36 +46,33 @@ fn run_each<R: BufRead, W: Write, E: Write>(
     output: &mut Output<W>,
     refusals: &mut Refusals<E>,
 ) -> Result<bool, RunError>
-    ensures ok { OnOk result (IfSome (input_read operands.now (R.remaining reader.old))
+    ensures ok { OnOk result (IfSome (input_read (paths_of operands.now) (R.remaining reader.old))
         (λ input. Appends (W.contents (written_to output.old))
         (W.contents (written_to output.new)) (unwritten output.old
-        ++ each_output command.entry settings (paths_asked settings operands.now input)))) }
+        ++ each_output (command_value command.entry) settings (paths_asked settings (paths_of operands.now) input)))) }
     ensures answered { IfOk result (λ are_answered.
-        IfSome (input_read operands.now (R.remaining reader.old)) (λ input. are_answered
-        ≡ list_all (is_answered command.entry) (paths_asked settings operands.now input))) }
-    ensures told { OnOk result (IfSome (input_read operands.now (R.remaining reader.old))
+        IfSome (input_read (paths_of operands.now) (R.remaining reader.old)) (λ input. are_answered
+        ≡ list_all (is_answered (command_value command.entry)) (paths_asked settings (paths_of operands.now) input))) }
+    ensures told { OnOk result (IfSome (input_read (paths_of operands.now) (R.remaining reader.old))
         (λ input. Tells (has_failed refusals.old) (has_failed refusals.new)
         (E.contents (told_to refusals.old)) (E.contents (told_to refusals.new))
-        (each_refusals command.entry settings (paths_asked settings operands.now input)))) }
-    ensures err { OnErr result (IfSome (input_read operands.now (R.remaining reader.old))
+        (each_refusals (command_value command.entry) settings (paths_asked settings (paths_of operands.now) input)))) }
+    ensures err { OnErr result (IfSome (input_read (paths_of operands.now) (R.remaining reader.old))
         (λ input. AppendsPrefix (W.contents (written_to output.old))
         (W.contents (written_to output.new)) (unwritten output.old
-        ++ each_output command.entry settings (paths_asked settings operands.now input)))) }
+        ++ each_output (command_value command.entry) settings (paths_asked settings (paths_of operands.now) input)))) }
 {
     let task = Task { command, settings };
+    output.buffer_lines(settings.line_buffered);
     if operands.is_empty() {
         return answer_input(alloc, &task, end_of(settings), reader, output, refusals);
     }
     answer_operands(&task, operands, output, refusals)
 }
 
-/// Does what an invocation asks for. Returns true if all paths are answered, or if the answer is
-/// yes.
-///
-/// After an error a prefix of the output was written.
-///
-/// For `Invocation::Help` it writes the help text, and returns true.
-pub fn run<R: BufRead, W: Write, E: Write>(
+// Does what an invocation asks for. Returns true if all paths are answered, or if the answer is
+// yes. After an error a prefix of the output was written.
+fn run<R: BufRead, W: Write, E: Write>(
     alloc: Global,
     invocation: &Invocation<'_>,
     texts: Texts<'_>,
@@ -77,21 +80,22 @@ pub fn run<R: BufRead, W: Write, E: Write>(
     output: &mut Output<W>,
     refusals: &mut Refusals<E>,
 ) -> Result<bool, RunError>
-    ensures ok { OnOk result (IfSome (run_input invocation.now (R.remaining reader.old))
-        (λ input. Appends (W.contents (written_to output.old))
-        (W.contents (written_to output.new))
-        (unwritten output.old ++ run_output texts.entry invocation.now input))) }
-    ensures answered { IfOk result (λ are_answered.
-        IfSome (run_input invocation.now (R.remaining reader.old))
-        (λ input. are_answered ≡ run_answered invocation.now input)) }
-    ensures told { OnOk result (IfSome (run_input invocation.now (R.remaining reader.old))
+    ensures ok { let value = invocation_value invocation.now in
+        OnOk result (IfSome (run_input value (R.remaining reader.old))
+        (λ input. Appends (W.contents (written_to output.old)) (W.contents (written_to output.new))
+        (unwritten output.old ++ run_output texts.entry value input))) }
+    ensures answered { let value = invocation_value invocation.now in
+        IfOk result (λ are_answered. IfSome (run_input value (R.remaining reader.old))
+        (λ input. are_answered ≡ run_answered value input)) }
+    ensures told { let value = invocation_value invocation.now in
+        OnOk result (IfSome (run_input value (R.remaining reader.old))
         (λ input. Tells (has_failed refusals.old) (has_failed refusals.new)
         (E.contents (told_to refusals.old)) (E.contents (told_to refusals.new))
-        (run_refusals invocation.now input))) }
-    ensures err { OnErr result (IfSome (run_input invocation.now (R.remaining reader.old))
-        (λ input. AppendsPrefix (W.contents (written_to output.old))
-        (W.contents (written_to output.new))
-        (unwritten output.old ++ run_output texts.entry invocation.now input))) }
+        (run_refusals value input))) }
+    ensures err { let value = invocation_value invocation.now in
+        OnErr result (IfSome (run_input value (R.remaining reader.old)) (λ input.
+        AppendsPrefix (W.contents (written_to output.old)) (W.contents (written_to output.new))
+        (unwritten output.old ++ run_output texts.entry value input))) }
 {
     match invocation {
         Invocation::Help => output.write_text(texts.help),
@@ -112,27 +116,60 @@ pub fn run<R: BufRead, W: Write, E: Write>(
     }
 }
 
-/// Returns true if the output is to be written after each record.
-///
-/// For `Invocation::Help` it is false.
-pub fn is_line_buffered(invocation: &Invocation<'_>) -> bool
-    ensures { result ≡ is_line_buffered invocation.now }
+// Says on standard error what is wrong with the arguments. Returns the status of wrong usage.
+fn refuse_usage<E: Write>(
+    error: UsageError<'_>,
+    refusals: &mut Refusals<E>,
+) -> Result<u8, RunError>
+    ensures status { IfOk result (λ status. status ≡ 2) }
+    ensures told { OnOk result (Tells (has_failed refusals.old) (has_failed refusals.new)
+        (E.contents (told_to refusals.old)) (E.contents (told_to refusals.new))
+        (usage_line (usage_value error.entry))) }
 {
-    match invocation {
-        Invocation::Each(_, settings, _) => settings.line_buffered,
-        _ => false,
-    }
+    refusals.report_usage(error)?;
+    Ok(2)
 }
 
-/// Returns the exit status for the result of a run: 0 for true, 1 for false, and 3 for an error.
+/// Does what the arguments ask for. Returns the exit status: 0 if all paths are answered or the
+/// answer is yes, 1 if not, and 2 for wrong usage.
 ///
-/// For `Err(RunError::Read)` it is 3.
-pub fn status_of(outcome: Result<bool, RunError>) -> u8
-    ensures { result ≡ status_of outcome }
+/// For wrong usage nothing is read or written, and `refusals` says what is wrong. After an error a
+/// prefix of the output was written.
+///
+/// For `equal`, `a` and `a/.` the status is 0.
+pub fn run_arguments<R: BufRead, W: Write, E: Write>(
+    alloc: Global,
+    arguments: &[Path<'_>],
+    texts: Texts<'_>,
+    reader: &mut R,
+    output: &mut Output<W>,
+    refusals: &mut Refusals<E>,
+) -> Result<u8, RunError>
+    ensures ok { let meaning = meaning_of (paths_of arguments.now) in
+        OnOk result (IfSome (input_for meaning (R.remaining reader.old)) (λ input.
+        Appends (W.contents (written_to output.old)) (W.contents (written_to output.new))
+        (unwritten output.old ++ output_for texts.entry meaning input))) }
+    ensures status { let meaning = meaning_of (paths_of arguments.now) in
+        IfOk result (λ status. IfSome (input_for meaning (R.remaining reader.old))
+        (λ input. status ≡ status_for meaning input)) }
+    ensures told { let meaning = meaning_of (paths_of arguments.now) in
+        OnOk result (IfSome (input_for meaning (R.remaining reader.old))
+        (λ input. Tells (has_failed refusals.old) (has_failed refusals.new)
+        (E.contents (told_to refusals.old)) (E.contents (told_to refusals.new))
+        (messages_for meaning input))) }
+    ensures err { let meaning = meaning_of (paths_of arguments.now) in
+        OnErr result (IfSome (input_for meaning (R.remaining reader.old)) (λ input.
+        AppendsPrefix (W.contents (written_to output.old)) (W.contents (written_to output.new))
+        (unwritten output.old ++ output_for texts.entry meaning input))) }
 {
-    match outcome {
-        Ok(true) => 0,
-        Ok(false) => 1,
-        Err(_) => 3,
+    match invocation_of(alloc, arguments)? {
+        Ok(invocation) => {
+            let is_answered = run(alloc, &invocation, texts, reader, output, refusals)?;
+            Ok(if is_answered { 0 } else { 1 })
+        }
+        Err(error) => {
+            output.finish()?;
+            refuse_usage(error, refusals)
+        }
     }
 }

@@ -2,6 +2,7 @@
 ghost use Rattle.std.specs.Prelude.{◌≡◌};
 ghost use Rattle.upath_commands.specs.Commands.{answers_of, is_answered};
 ghost use Rattle.upath_commands.specs.Answers.{record_output, Pushes};
+ghost use Rattle.upath_commands.specs.Invocations.{command_value};
 ghost use Rattle.upath_commands.specs.Refusals.{refusal_of};
 ghost use Rattle.upath_commands.specs.Tasks.{task_command, task_settings};
 
@@ -26,8 +27,8 @@ fn push_command(
     out: &mut Vec<u8>,
 ) -> Result<bool, AllocError>
     ensures { Pushes result out.old.items out.new.items settings path.entry.bytes.now
-        (answers_of command.entry path.entry.bytes.now)
-        (is_answered command.entry path.entry.bytes.now) }
+        (answers_of (command_value command.entry) path.entry.bytes.now)
+        (is_answered (command_value command.entry) path.entry.bytes.now) }
 {
     match command {
         Command::Canon => push_canon(path, settings, out),
@@ -60,7 +61,7 @@ impl<'a> Task<'a> {
     ///
     /// `Task::new(Command::Parent, settings)` has no answer to `/`.
     pub fn new(command: Command<'a>, settings: Settings) -> Task<'a>
-        ensures command { task_command result ≡ command.entry }
+        ensures command { task_command result ≡ command_value command.entry }
         ensures settings { task_settings result ≡ settings }
     {
         Task { command, settings }

@@ -3,10 +3,10 @@ use Rattle.std.proofs.Common.{◌≡◌, ℕ, ◌<◌, Bool, List, [], ◌∷◌
 use Rattle.std.proofs.Common.{Ok, Err, OnOk, OnErr, IfOk, subst, arith}
 use Rattle.std.specs.List.{list_all}
 use Rattle.unix_path.specs.declared.path.Path.{Path}
-use Rattle.upath_commands.specs.declared.command.Command.{Command}
 use Rattle.upath_commands.specs.declared.command.Settings.{Settings}
 use Rattle.upath_commands.specs.Answers.{end_of}
 use Rattle.upath_commands.specs.Commands.{is_answered}
+use Rattle.upath_commands.specs.Invocations.{CommandValue}
 use Rattle.upath_commands.specs.Outputs.{AppendsPrefix, Tells}
 use Rattle.upath_commands.specs.Records.{paths_of, records_of}
 use Rattle.upath_commands.specs.Runs.{each_output, each_refusals, input_read, paths_asked}
@@ -15,14 +15,14 @@ use Rattle.upath_commands.specs.Runs.{each_output, each_refusals, input_read, pa
 asked_input : (P : List (List ℕ) → Type 0) (settings : Settings) (operands : List Path)
     (known : Option (List ℕ)) (end : ℕ) → operands ≡ [] → end ≡ end_of settings
     → IfSome known (λ input. P (records_of end input))
-    → IfSome (input_read operands known) (λ input. P (paths_asked settings operands input))
+    → IfSome (input_read (paths_of operands) known) (λ input. P (paths_asked settings (paths_of operands) input))
 asked_input P settings operands known end e d h =
     rw e (subst (λ end. IfSome known (λ input. P (records_of end input))) d h)
 
 -- with operands, what holds of them holds of the paths asked for
 asked_operands : (P : List (List ℕ) → Type 0) (settings : Settings) (operands : List Path)
     (known : Option (List ℕ)) → 0 < length operands → P (paths_of operands)
-    → IfSome (input_read operands known) (λ input. P (paths_asked settings operands input))
+    → IfSome (input_read (paths_of operands) known) (λ input. P (paths_asked settings (paths_of operands) input))
 asked_operands P settings [] known l h = absurd (omega arith)
 asked_operands P settings (path ∷ paths) known l h = h
 
@@ -40,21 +40,21 @@ if_ok (Ok x) f h = f x h
 if_ok (Err e) f h = tt
 
 -- what a run over an input or over operands has said
-module _ {E : Type 0} (r : Result Bool E) (command : Command) (settings : Settings)
+module _ {E : Type 0} (r : Result Bool E) (command : CommandValue) (settings : Settings)
     (operands : List Path) (known : Option (List ℕ)) where
   pub answered_input : (end : ℕ) → operands ≡ [] → end ≡ end_of settings
       → IfOk r (λ are. IfSome known
       (λ input. are ≡ list_all (is_answered command) (records_of end input)))
-      → IfOk r (λ are. IfSome (input_read operands known)
-      (λ input. are ≡ list_all (is_answered command) (paths_asked settings operands input)))
+      → IfOk r (λ are. IfSome (input_read (paths_of operands) known)
+      (λ input. are ≡ list_all (is_answered command) (paths_asked settings (paths_of operands) input)))
   answered_input end e d h =
       if_ok r (λ are k. asked_input (λ paths. are ≡ list_all (is_answered command) paths) settings
       operands known end e d k) h
 
   pub answered_operands : 0 < length operands
       → IfOk r (λ are. are ≡ list_all (is_answered command) (paths_of operands))
-      → IfOk r (λ are. IfSome (input_read operands known)
-      (λ input. are ≡ list_all (is_answered command) (paths_asked settings operands input)))
+      → IfOk r (λ are. IfSome (input_read (paths_of operands) known)
+      (λ input. are ≡ list_all (is_answered command) (paths_asked settings (paths_of operands) input)))
   answered_operands l h =
       if_ok r (λ are k. asked_operands (λ paths. are ≡ list_all (is_answered command) paths)
       settings operands known l k) h
@@ -63,8 +63,8 @@ module _ {E : Type 0} (r : Result Bool E) (command : Command) (settings : Settin
       → operands ≡ [] → end ≡ end_of settings
       → OnOk r (IfSome known (λ input. Tells before after old new
       (each_refusals command settings (records_of end input))))
-      → OnOk r (IfSome (input_read operands known) (λ input. Tells before after old new
-      (each_refusals command settings (paths_asked settings operands input))))
+      → OnOk r (IfSome (input_read (paths_of operands) known) (λ input. Tells before after old new
+      (each_refusals command settings (paths_asked settings (paths_of operands) input))))
   told_input end before after old new e d h =
       on_ok r (asked_input
       (λ paths. Tells before after old new (each_refusals command settings paths)) settings
@@ -72,8 +72,8 @@ module _ {E : Type 0} (r : Result Bool E) (command : Command) (settings : Settin
 
   pub told_operands : (before after : Bool) (old new : Option (List ℕ)) → 0 < length operands
       → OnOk r (Tells before after old new (each_refusals command settings (paths_of operands)))
-      → OnOk r (IfSome (input_read operands known) (λ input. Tells before after old new
-      (each_refusals command settings (paths_asked settings operands input))))
+      → OnOk r (IfSome (input_read (paths_of operands) known) (λ input. Tells before after old new
+      (each_refusals command settings (paths_asked settings (paths_of operands) input))))
   told_operands before after old new l h =
       on_ok r (asked_operands
       (λ paths. Tells before after old new (each_refusals command settings paths)) settings
@@ -83,8 +83,8 @@ module _ {E : Type 0} (r : Result Bool E) (command : Command) (settings : Settin
       → operands ≡ [] → end ≡ end_of settings
       → OnErr r (IfSome known (λ input. AppendsPrefix old new
       (buffer ++ each_output command settings (records_of end input))))
-      → OnErr r (IfSome (input_read operands known) (λ input. AppendsPrefix old new
-      (buffer ++ each_output command settings (paths_asked settings operands input))))
+      → OnErr r (IfSome (input_read (paths_of operands) known) (λ input. AppendsPrefix old new
+      (buffer ++ each_output command settings (paths_asked settings (paths_of operands) input))))
   err_input end old new buffer e d h =
       on_err r (asked_input
       (λ paths. AppendsPrefix old new (buffer ++ each_output command settings paths)) settings
@@ -93,8 +93,8 @@ module _ {E : Type 0} (r : Result Bool E) (command : Command) (settings : Settin
   pub err_operands : (old new : Option (List ℕ)) (buffer : List ℕ) → 0 < length operands
       → OnErr r (AppendsPrefix old new
       (buffer ++ each_output command settings (paths_of operands)))
-      → OnErr r (IfSome (input_read operands known) (λ input. AppendsPrefix old new
-      (buffer ++ each_output command settings (paths_asked settings operands input))))
+      → OnErr r (IfSome (input_read (paths_of operands) known) (λ input. AppendsPrefix old new
+      (buffer ++ each_output command settings (paths_asked settings (paths_of operands) input))))
   err_operands old new buffer l h =
       on_err r (asked_operands
       (λ paths. AppendsPrefix old new (buffer ++ each_output command settings paths)) settings
