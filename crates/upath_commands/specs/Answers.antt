@@ -13,7 +13,7 @@ use Rattle.path_runs.specs.Spelling.{spelling_of}
 use Rattle.path_within.specs.Below.{below_of, has_nul, names_below}
 use Rattle.path_within.specs.Escapes.{has_root_or_parent_dir}
 use Rattle.path_within.specs.RelativePaths.{relative_path_of}
-use Rattle.path_within.specs.Resolved.{resolved_bytes_of}
+use Rattle.path_within.specs.Resolved.{resolved_bytes_of, resolved_of}
 use Rattle.upath_commands.specs.Escaping.{escapes}
 use Rattle.upath_commands.specs.declared.command.EscapesOptions.{EscapesOptions}
 use Rattle.upath_commands.specs.declared.command.JoinRule.{JoinRule}
@@ -57,9 +57,9 @@ PushesFound result old new settings p found =
 abbrev pub joined_of : JoinRule → List ℕ → List ℕ → Option (List ℕ)
 joined_of Trusted root p = Some (join_of root p)
 joined_of Beneath root p =
-    if escapes p || has_nul p then None else Some (resolved_bytes_of (join_of root p))
+    if escapes p || has_nul p then None else Some (below_of root (resolved_of (values p)))
 joined_of InRoot root p =
-    if has_nul p then None else Some (below_of (resolved_bytes_of root) (names_below (values p)))
+    if has_nul p then None else Some (below_of root (names_below (values p)))
 joined_of Verbatim root p =
     if has_root_or_parent_dir (values p) || has_nul p then None else Some (join_of root p)
 

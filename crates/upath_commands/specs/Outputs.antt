@@ -1,16 +1,22 @@
 -- What a buffer and its writer do to the bytes that the writer holds.
-use Rattle.std.specs.Prelude.{◌≡◌, ℕ, Bool, false, List, ◌++◌, take, codes, Option}
+use Rattle.std.specs.Prelude.{◌≡◌, ◌⊎◌, ℕ, Bool, false, List, ◌++◌, take, codes, Option}
 use Rattle.std.specs.Io.KnownBytes.{Appends}
 use Rattle.upath_commands.specs.declared.output.Output.{Output}
 use Rattle.upath_commands.specs.declared.output.Refusals.{Refusals}
 use Rattle.upath_commands.specs.declared.output.RunError.{RunError}
-use Rattle.upath_commands.specs.declared.output.RunError.TheVariants.{Read, Write, Memory}
+use Rattle.upath_commands.specs.declared.output.RunError.TheVariants.{Read, Write, Closed}
+use Rattle.upath_commands.specs.declared.output.RunError.TheVariants.{Memory}
 
 -- the message that an error of a run is displayed as
 abbrev pub error_text : RunError → List ℕ
 error_text Read = codes "read error"
 error_text Write = codes "write error"
+error_text Closed = codes "output is closed"
 error_text Memory = codes "out of memory"
+
+-- the error is one of a write, neither of a read nor of an allocation
+abbrev pub IsOfWrite : RunError → Type 0
+IsOfWrite error = (error ≡ Write) ⊎ (error ≡ Closed)
 
 -- the writer
 abbrev pub written_to : {W : Type 0} → Output W → W

@@ -1,14 +1,15 @@
 //! Answers that are paths joined to a root.
-ghost use Rattle.std.specs.Prelude.{◌≡◌};
+ghost use Rattle.std.specs.Prelude.{◌≡◌, Some};
+ghost use Rattle.path_within.specs.Below.{below_of};
+ghost use Rattle.path_within.specs.Requests.{request_names};
 ghost use Rattle.upath_commands.specs.Answers.{joined_of, PushesFound};
 ghost use Rattle.upath_commands.specs.declared.command.JoinRule.TheVariants.{Beneath, InRoot};
 ghost use Rattle.upath_commands.specs.declared.command.JoinRule.TheVariants.{Trusted, Verbatim};
 
 use crate::command::{JoinRule, Settings};
-use crate::escapes::escapes;
 use crate::push::push_answer;
-use path_within::within::{join_verbatim, join_within};
-use path_within::{Request, Root, WithinError, has_nul};
+use path_within::within::join_verbatim;
+use path_within::{Request, Root, WithinError};
 use std::alloc::AllocError;
 use unix_path::Path;
 
@@ -26,7 +27,23 @@ fn push_trusted(
     push_answer(path, answer.as_path().bytes, settings, out)
 }
 
-// Answers with the resolved join of a path that doesn't escape.
+// Answers with the root's bytes, and then the names of a request.
+fn push_request(
+    root: Path<'_>,
+    path: Path<'_>,
+    request: Request<'_>,
+    settings: Settings,
+    out: &mut Vec<u8>,
+) -> Result<bool, AllocError>
+    ensures { PushesFound result out.old.items out.new.items settings path.entry.bytes.now
+        (Some (below_of root.entry.bytes.now (request_names request.entry))) }
+{
+    let root = Root::verbatim(*out.allocator(), root)?;
+    let answer = root.join(*out.allocator(), request)?;
+    push_answer(path, answer.as_path().bytes, settings, out)
+}
+
+// Answers with the join of a path that doesn't escape, below the root as spelled.
 fn push_beneath(
     root: Path<'_>,
     path: Path<'_>,
@@ -36,17 +53,13 @@ fn push_beneath(
     ensures { PushesFound result out.old.items out.new.items settings path.entry.bytes.now
         (joined_of Beneath root.entry.bytes.now path.entry.bytes.now) }
 {
-    if escapes(path) || has_nul(path.bytes) {
-        return Ok(false);
+    match Request::beneath(path) {
+        Ok(request) => push_request(root, path, request, settings, out),
+        Err(_) => Ok(false),
     }
-    let Ok(answer) = join_within(*out.allocator(), root, path) else {
-        // Any other error is a failed allocation.
-        return Err(AllocError);
-    };
-    push_answer(path, answer.as_path().bytes, settings, out)
 }
 
-// Answers with the resolved join of a path that stays at the root.
+// Answers with the join of a path that stays at the root, below the root as spelled.
 fn push_in_root(
     root: Path<'_>,
     path: Path<'_>,
@@ -56,12 +69,10 @@ fn push_in_root(
     ensures { PushesFound result out.old.items out.new.items settings path.entry.bytes.now
         (joined_of InRoot root.entry.bytes.now path.entry.bytes.now) }
 {
-    let Ok(request) = Request::in_root(path) else {
-        return Ok(false);
-    };
-    let root = Root::new(*out.allocator(), root)?;
-    let answer = root.join(*out.allocator(), request)?;
-    push_answer(path, answer.as_path().bytes, settings, out)
+    match Request::in_root(path) {
+        Ok(request) => push_request(root, path, request, settings, out),
+        Err(_) => Ok(false),
+    }
 }
 
 // Answers with the join of a path that has neither a root nor any `..`.

@@ -1,11 +1,12 @@
 //! What is written: answers, with a buffer before their writer, and reports.
-ghost use Rattle.std.specs.Prelude.{◌≡◌, ◌≢◌, ◌<◌, ◌++◌, [], length, false, true, OnOk, OnErr, IfOk, IfErr, Some};
+ghost use Rattle.std.specs.Prelude.{◌≡◌, ◌≢◌, ◌↔◌, ◌<◌, ◌++◌, [], length, false, true};
+ghost use Rattle.std.specs.Prelude.{OnOk, OnErr, IfOk, IfErr, Some};
 ghost use Rattle.std.specs.Fmt.{padded};
 ghost use Rattle.std.specs.Io.{WritesAtMost};
 ghost use Rattle.std.specs.IoError.{error_kind};
 ghost use Rattle.std.specs.Io.KnownBytes.{Appends, WriteAppends};
 ghost use Rattle.upath_commands.specs.Outputs.{AppendsPrefix, Emits, EmitsPrefix, unwritten};
-ghost use Rattle.upath_commands.specs.Outputs.{is_line_buffered};
+ghost use Rattle.upath_commands.specs.Outputs.{IsOfWrite, is_line_buffered};
 ghost use Rattle.upath_commands.specs.Outputs.{Tells, error_text, has_failed, told_to, written_to};
 ghost use Rattle.upath_commands.specs.Invocations.{usage_value};
 ghost use Rattle.upath_commands.specs.Usage.{usage_line};
@@ -25,7 +26,8 @@ const FULL: usize = 65536;
 
 /// The error of a run.
 ///
-/// It is displayed as `read error`, `write error` or `out of memory`, padded like a string.
+/// It is displayed as `read error`, `write error`, `output is closed` or `out of memory`, padded
+/// like a string.
 ///
 /// `RunError::Memory` is displayed as `out of memory`.
 #[derive(Clone, Copy, Debug, PartialEq, Eq)]
@@ -34,6 +36,8 @@ pub enum RunError {
     Read,
     /// A write failed, or wrote nothing of one byte or more.
     Write,
+    /// Nobody reads the output any more: the pipe is closed.
+    Closed,
     /// An allocation failed.
     Memory,
 }
@@ -48,6 +52,7 @@ impl fmt::Display for RunError {
         f.pad(match self {
             RunError::Read => "read error",
             RunError::Write => "write error",
+            RunError::Closed => "output is closed",
             RunError::Memory => "out of memory",
         })
     }
@@ -80,19 +85,31 @@ fn write_once<W: Write>(writer: &mut W, bytes: &[u8]) -> io::Result<usize>
     Err(io::Error::from(ErrorKind::Other))
 }
 
+// Returns the error of a run for that of a write.
+fn write_error(error: &io::Error) -> RunError
+    ensures closed { (result ≡ RunError.Closed) ↔ (error_kind error.now ≡ ErrorKind.BrokenPipe) }
+    ensures only_write { IsOfWrite result }
+{
+    if error.kind() == ErrorKind::BrokenPipe {
+        RunError::Closed
+    } else {
+        RunError::Write
+    }
+}
+
 // Writes all bytes.
 fn write_all<W: Write>(writer: &mut W, bytes: &[u8]) -> Result<(), RunError>
     ensures ok { OnOk result (Appends (W.contents writer.old) (W.contents writer.new) bytes.now) }
     ensures err { OnErr result (AppendsPrefix (W.contents writer.old) (W.contents writer.new)
         bytes.now) }
-    ensures only_write { IfErr result (λ error. error ≡ RunError.Write) }
+    ensures only_write { IfErr result IsOfWrite }
 {
     let mut at = 0;
     while at < bytes.len() {
         match write_once(writer, &bytes[at..]) {
             Ok(0) => return Err(RunError::Write),
             Ok(count) => at += count,
-            Err(_) => return Err(RunError::Write),
+            Err(error) => return Err(write_error(&error)),
         }
     }
     Ok(())
@@ -141,7 +158,7 @@ impl<W: Write> Output<W> {
         ensures none { OnOk result (unwritten self.new ≡ []) }
         ensures err { OnErr result (EmitsPrefix (W.contents (written_to self.old))
             (W.contents (written_to self.new)) (unwritten self.old) []) }
-        ensures only_write { IfErr result (λ error. error ≡ RunError.Write) }
+        ensures only_write { IfErr result IsOfWrite }
     {
         write_all(&mut self.writer, self.buffer.as_slice())?;
         self.buffer.clear();
@@ -193,13 +210,13 @@ impl<W: Write> Output<W> {
             (W.contents (written_to self.new)) (unwritten self.old)) }
         ensures err { OnErr result (AppendsPrefix (W.contents (written_to self.old))
             (W.contents (written_to self.new)) (unwritten self.old)) }
-        ensures only_write { IfErr result (λ error. error ≡ RunError.Write) }
+        ensures only_write { IfErr result IsOfWrite }
     {
         self.write_out()?;
-        if self.writer.flush().is_err() {
-            return Err(RunError::Write);
+        match self.writer.flush() {
+            Ok(()) => Ok(()),
+            Err(error) => Err(write_error(&error)),
         }
-        Ok(())
     }
 }
 

@@ -3,7 +3,7 @@ ghost use Rattle.std.specs.Prelude.{◌≡◌, ◌++◌, IfOk, IfErr, IfSome, On
 ghost use Rattle.std.specs.Io.BufRead.{take_through, strip_last, DropsThrough};
 ghost use Rattle.std.specs.List.{list_all};
 ghost use Rattle.std.specs.Io.KnownBytes.{Appends};
-ghost use Rattle.upath_commands.specs.Outputs.{AppendsPrefix, Emits, EmitsPrefix, Tells};
+ghost use Rattle.upath_commands.specs.Outputs.{AppendsPrefix, Emits, EmitsPrefix, IsOfWrite, Tells};
 ghost use Rattle.upath_commands.specs.Outputs.{has_failed, told_to, unwritten, written_to};
 ghost use Rattle.upath_commands.specs.Records.{outputs_of, records_of, refusal_unless};
 
@@ -24,7 +24,7 @@ fn read_record<R: BufRead>(
         bytes.new.items ≡ take_through end input)) }
     ensures rest { OnOk result (DropsThrough (R.remaining reader.old)
         (R.remaining reader.new) end) }
-    ensures no_write { IfErr result (λ error. (error ≡ RunError.Write) → ⊥) }
+    ensures no_write { IfErr result (λ error. IsOfWrite error → ⊥) }
 {
     bytes.clear();
     match reader.read_until(end, bytes) {

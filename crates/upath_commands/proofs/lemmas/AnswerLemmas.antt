@@ -3,7 +3,7 @@ use Rattle.std.proofs.Common.{◌≡◌, ℕ, ◌+◌, ◌<◌, ◌≤◌, Bool,
 use Rattle.std.proofs.Common.{take, drop, Decides, refl, sym, ap, arith}
 use Rattle.std.proofs.Common.{rules, inl, inr, ⊎_elim, count_by, ◌⊎◌, true≢false, zero-add}
 use Rattle.std.proofs.Common.{Result, Ok, Err, IfOk, IsOk, ◌↔◌, option_map, Some}
-use Rattle.std.specs.Result.{result_ok}
+use Rattle.std.specs.Result.{result_ok, is_err, IsErrOf}
 use Rattle.unix_path.specs.declared.path.Path.{Path}
 use Rattle.std.specs.List.{range_with_len, starts_with}
 use Rattle.std.proofs.lemmas.List.{take_all}
@@ -15,7 +15,10 @@ use Rattle.unix_path.specs.Parts.{Value, is_rooted, values}
 use Rattle.unix_path.specs.Prefixes.{IsPrefixOf, stripped_of}
 use Rattle.unix_path.proofs.lemmas.callers.CallerLemmas.{same_value-Decides}
 use Rattle.unix_path.proofs.lemmas.rests.RootLemmas.{rooted-IsPrefixOf}
+use Rattle.path_within.specs.Below.{has_nul}
 use Rattle.path_within.specs.Escapes.{Escapes, GoesAbove, is_name, is_parent_dir}
+use Rattle.path_within.specs.declared.request.RequestError.{RequestError}
+use Rattle.path_within.specs.declared.request.RequestError.TheVariants as error
 use Rattle.upath_commands.specs.Answers.{rest_after}
 use Rattle.upath_commands.specs.Escaping.{escapes, goes_above}
 use Rattle.upath_commands.proofs.lemmas.RecordLemmas.{by_test}
@@ -81,6 +84,34 @@ escapes-Decides p =
       λ h. ⊎_elim (λ r. or_left (is_rooted p) (goes_above (values p)) (root.1 r))
           (λ a. or_right (is_rooted p) (goes_above (values p)) (goes_above-from (values p) a)) h,
     )
+
+-- a check of a path that has to stay beneath its root fails if the path escapes or has a NUL
+pub beneath-is_err : {T : Type 0} (r : Result T RequestError) (p : List ℕ)
+    → (IsErrOf r error.Rooted ↔ (is_rooted p ≡ true))
+    → (IsErrOf r error.Escapes ↔ ((is_rooted p ≡ false) × Escapes (values p)))
+    → (IsErrOf r error.Nul ↔ ((Escapes (values p) → ⊥) × (has_nul p ≡ true)))
+    → is_err r ≡ (escapes p || has_nul p)
+beneath-is_err (Err error.Rooted) p root above nul =
+    sym (or_left (escapes p) (has_nul p)
+    (or_left (is_rooted p) (goes_above (values p)) (root.0 refl)))
+beneath-is_err (Err error.Escapes) p root above nul =
+    sym (or_left (escapes p) (has_nul p) ((escapes-Decides p).1 (above.0 refl).1))
+beneath-is_err (Err error.Nul) p root above nul =
+    sym (or_right (escapes p) (has_nul p) (nul.0 refl).1)
+beneath-is_err (Ok x) p root above nul =
+    by_test (escapes p || has_nul p) (λ e. absurd (refused e)) sym
+  where
+    escaping : Escapes (values p) → ⊥
+    escaping h =
+        by_test (is_rooted p)
+        (λ e. true≢false (sym (ap is_err (root.1 e))))
+        (λ e. true≢false (sym (ap is_err (above.1 (e, h)))))
+
+    refused : (escapes p || has_nul p) ≡ true → ⊥
+    refused e =
+        ⊎_elim (λ is. escaping ((escapes-Decides p).0 is))
+        (λ has. true≢false (sym (ap is_err (nul.1 (escaping, has)))))
+        (or_cases (escapes p) (has_nul p) e)
 
 -- the test of two lists of components decides whether the first starts with the second
 pub starts_with-Decides : (w v : List Value) → Decides (starts_with same_value w v) (IsPrefixOf v w)
