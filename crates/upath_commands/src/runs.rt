@@ -46,21 +46,26 @@ fn run_each<R: BufRead, W: Write, E: Write>(
     output: &mut Output<W>,
     refusals: &mut Refusals<E>,
 ) -> Result<bool, RunError>
-    ensures ok { OnOk result (IfSome (input_read (paths_of operands.now) (R.remaining reader.old))
-        (λ input. Appends (W.contents (written_to output.old))
-        (W.contents (written_to output.new)) (unwritten output.old
-        ++ each_output (command_value command.entry) settings (paths_asked settings (paths_of operands.now) input)))) }
-    ensures answered { IfOk result (λ are_answered.
-        IfSome (input_read (paths_of operands.now) (R.remaining reader.old)) (λ input. are_answered
-        ≡ list_all (is_answered (command_value command.entry)) (paths_asked settings (paths_of operands.now) input))) }
-    ensures told { OnOk result (IfSome (input_read (paths_of operands.now) (R.remaining reader.old))
+    ensures ok { let paths = paths_of operands.now in
+        OnOk result (IfSome (input_read paths (R.remaining reader.old)) (λ input.
+        Appends (W.contents (written_to output.old)) (W.contents (written_to output.new))
+        (unwritten output.old
+        ++ each_output (command_value command.entry) settings (paths_asked settings paths input)))) }
+    ensures answered { let paths = paths_of operands.now in
+        IfOk result (λ are_answered. IfSome (input_read paths (R.remaining reader.old))
+        (λ input. are_answered ≡ list_all (is_answered (command_value command.entry))
+        (paths_asked settings paths input))) }
+    ensures told { let paths = paths_of operands.now in
+        OnOk result (IfSome (input_read paths (R.remaining reader.old))
         (λ input. Tells (has_failed refusals.old) (has_failed refusals.new)
         (E.contents (told_to refusals.old)) (E.contents (told_to refusals.new))
-        (each_refusals (command_value command.entry) settings (paths_asked settings (paths_of operands.now) input)))) }
-    ensures err { OnErr result (IfSome (input_read (paths_of operands.now) (R.remaining reader.old))
-        (λ input. AppendsPrefix (W.contents (written_to output.old))
-        (W.contents (written_to output.new)) (unwritten output.old
-        ++ each_output (command_value command.entry) settings (paths_asked settings (paths_of operands.now) input)))) }
+        (each_refusals (command_value command.entry) settings
+        (paths_asked settings paths input)))) }
+    ensures err { let paths = paths_of operands.now in
+        OnErr result (IfSome (input_read paths (R.remaining reader.old)) (λ input.
+        AppendsPrefix (W.contents (written_to output.old)) (W.contents (written_to output.new))
+        (unwritten output.old
+        ++ each_output (command_value command.entry) settings (paths_asked settings paths input)))) }
 {
     let task = Task { command, settings };
     output.buffer_lines(settings.line_buffered);
