@@ -12,6 +12,6 @@ mod options;
 mod searches;
 mod usage;
 
-pub use arguments::invocation_of;
+pub use arguments::{argument_paths, invocation_of};
 pub use command::{Command, EscapesOptions, Invocation, JoinRule, Settings, UnderOptions};
 pub use usage::{UsageError, UsageErrorKind};
