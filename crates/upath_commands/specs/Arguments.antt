@@ -5,7 +5,6 @@ use Rattle.std.specs.Option.{is_some, option_or}
 use Rattle.std.specs.List.{filter_map, filter, find, last_or, list_any, position}
 use Rattle.std.specs.Str.{byte}
 use Rattle.upath_commands.specs.declared.command.JoinRule.{JoinRule}
-use Rattle.upath_commands.specs.declared.command.JoinRule.TheVariants.{Trusted}
 use Rattle.upath_commands.specs.declared.command.JoinRule.TheVariants as rule
 use Rattle.upath_commands.specs.declared.command.Settings.{Settings}
 use Rattle.upath_commands.specs.declared.command.EscapesOptions.{EscapesOptions}

@@ -295,3 +295,19 @@ pub fn invocation_of<'a>(
     let operands = operands_in(alloc, items.as_slice())?;
     Ok(meaning_of_items(items.as_slice(), operands))
 }
+
+/// Returns the arguments as paths, in the same memory.
+///
+/// Allocates for the list. Fails only if that allocation fails.
+///
+/// For the bytes `canon` and `-z` it returns the paths `canon` and `-z`.
+pub fn argument_paths(alloc: Global, arguments: &[Vec<u8>]) -> Result<Vec<Path<'_>>, AllocError>
+    ensures { IfOk result (λ paths. map path_bytes paths.items
+        ≡ map (λ argument. argument.items) arguments.now) }
+{
+    let mut paths = Vec::new(alloc);
+    for argument in arguments {
+        paths.push(Path::from_bytes(argument.as_slice()))?;
+    }
+    Ok(paths)
+}

@@ -94,12 +94,12 @@ pub struct Settings {
 /// `upath equal a b` asks for `Invocation::Equal` of the paths `a` and `b`.
 #[derive(Drop)]
 pub enum Invocation<'a> {
-    /// The help text.
+    /// Write the help text.
     Help,
-    /// The version.
+    /// Write the version.
     Version,
-    /// Whether two paths are equal.
+    /// Compare two paths. Nothing is written, and the status answers.
     Equal(Settings, Path<'a>, Path<'a>),
-    /// A command for each of these paths, or for the paths on standard input if there are none.
+    /// Run a command for each of these paths, or for the paths on standard input if there are none.
     Each(Command<'a>, Settings, Vec<Path<'a>>),
 }

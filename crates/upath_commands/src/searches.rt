@@ -17,7 +17,7 @@ use unix_path::Path;
 
 /// Returns true if and only if the option is among the items.
 ///
-/// Among the items of `-z` is `Flag::Null`.
+/// It is true for the items of `-z` and `Flag::Null`.
 pub fn has(items: &[Item<'_>], option: Flag) -> bool
     ensures { result ≡ has (map item_value items.now) option }
 {

@@ -4,7 +4,7 @@ use std::alloc::{AllocError, Global};
 use unix_path::Path;
 use upath_commands::{
     Command, EscapesOptions, Invocation, JoinRule, Settings, UnderOptions, UsageError,
-    invocation_of,
+    argument_paths, invocation_of,
 };
 
 // A word, and the bytes of a path.
@@ -103,12 +103,13 @@ fn push_error(alloc: Global, out: &mut Vec<u8>, error: UsageError<'_>) -> Result
 fn meaning(alloc: Global, line: &str) -> Result<Vec<u8>, AllocError> {
     let mut arguments = Vec::new(alloc);
     for word in line.split(' ').filter(|word| !word.is_empty()) {
-        arguments.push(Path {
-            bytes: word.as_bytes(),
-        })?;
+        let mut argument = Vec::new(alloc);
+        argument.extend_from_slice(word.as_bytes())?;
+        arguments.push(argument)?;
     }
     let mut out = Vec::new(alloc);
-    match invocation_of(alloc, arguments.as_slice())? {
+    let paths = argument_paths(alloc, arguments.as_slice())?;
+    match invocation_of(alloc, paths.as_slice())? {
         Ok(invocation) => push_invocation(&mut out, invocation)?,
         Err(error) => push_error(alloc, &mut out, error)?,
     }

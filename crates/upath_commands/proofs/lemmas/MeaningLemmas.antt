@@ -8,7 +8,8 @@ use Rattle.upath_commands.specs.declared.options.Verb.TheVariants as verb
 use Rattle.upath_commands.specs.Arguments.{command_meaning, each, each_after, equal_meaning}
 use Rattle.upath_commands.specs.Arguments.{fault_of, first_of, found_meaning, from_dir, has}
 use Rattle.upath_commands.specs.Arguments.{join_meaning, join_rule, meaning_of_verb, newline_fault}
-use Rattle.upath_commands.specs.Arguments.{refusal_of, refuse, relative_meaning, request_of, request_or}
+use Rattle.upath_commands.specs.Arguments.{refusal_of, refuse, relative_meaning, request_of}
+use Rattle.upath_commands.specs.Arguments.{request_or}
 use Rattle.upath_commands.specs.Arguments.{settings_of, escapes_options, under_options}
 use Rattle.upath_commands.specs.Invocations.{CommandValue, Meaning, UsageValue}
 use Rattle.upath_commands.specs.Invocations as value
