@@ -73,3 +73,9 @@ status_of (Err error) = 3
 abbrev pub is_line_buffered : Invocation → Bool
 is_line_buffered (Each command settings operands) = settings.line_buffered
 is_line_buffered _ = false
+
+-- nothing is to be written
+abbrev pub is_quiet : Invocation → Bool
+is_quiet (Equal settings a b) = settings.quiet
+is_quiet (Each command settings operands) = settings.quiet
+is_quiet _ = false

@@ -25,5 +25,5 @@ pub use answers::{Answerer, answer_operands};
 pub use command::{Command, EscapesOptions, Invocation, JoinRule, Settings, UnderOptions};
 pub use output::{Output, Refusals, RunError};
 pub use records::answer_input;
-pub use runs::{Texts, is_line_buffered, run, status_of};
+pub use runs::{Texts, is_line_buffered, is_quiet, run, status_of};
 pub use task::Task;

@@ -7,7 +7,7 @@ ghost use Rattle.upath_commands.specs.Outputs.{AppendsPrefix, Tells, has_failed,
 ghost use Rattle.upath_commands.specs.Outputs.{unwritten, written_to};
 ghost use Rattle.upath_commands.specs.Runs.{each_output, each_refusals, input_read, paths_asked};
 ghost use Rattle.upath_commands.specs.Runs.{run_answered, run_input, run_output, run_refusals};
-ghost use Rattle.upath_commands.specs.Runs.{is_line_buffered, status_of};
+ghost use Rattle.upath_commands.specs.Runs.{is_line_buffered, is_quiet, status_of};
 
 use crate::answers::answer_operands;
 use crate::command::{Command, Invocation, Settings};
@@ -120,6 +120,18 @@ pub fn is_line_buffered(invocation: &Invocation<'_>) -> bool
 {
     match invocation {
         Invocation::Each(_, settings, _) => settings.line_buffered,
+        _ => false,
+    }
+}
+
+/// Returns true if nothing is to be written.
+///
+/// For `Invocation::Help` it is false.
+pub fn is_quiet(invocation: &Invocation<'_>) -> bool
+    ensures { result ≡ is_quiet invocation.now }
+{
+    match invocation {
+        Invocation::Equal(settings, _, _) | Invocation::Each(_, settings, _) => settings.quiet,
         _ => false,
     }
 }

@@ -1,10 +1,7 @@
 -- Tests in answers, and what they decide.
 use Rattle.std.proofs.Common.{◌≡◌, ℕ, ◌+◌, ◌<◌, ◌≤◌, Bool, true, false, ◌||◌, nat_lt, List, length}
-use Rattle.std.proofs.Common.{take, drop, Decides, refl, sym, ap, arith}
+use Rattle.std.proofs.Common.{take, drop, Decides, refl, sym, arith}
 use Rattle.std.proofs.Common.{rules, inl, inr, ⊎_elim, count_by, ◌⊎◌, true≢false, zero-add}
-use Rattle.std.proofs.Common.{Result, Ok, Err, IfOk, IsOk, ◌↔◌, option_map, Some}
-use Rattle.std.specs.Result.{result_ok}
-use Rattle.unix_path.specs.declared.path.Path.{Path}
 use Rattle.std.specs.List.{range_with_len, starts_with}
 use Rattle.std.proofs.lemmas.List.{take_all}
 use Rattle.std.proofs.lemmas.List.Folds.{Any-from_list_any, list_any_at}
@@ -12,11 +9,10 @@ use Rattle.std.proofs.lemmas.List.FromFn.{length-range_with_len, get_or-range_wi
 use Rattle.std.proofs.lemmas.Slice.Eq.{starts_is}
 use Rattle.unix_path.specs.Order.{same_value}
 use Rattle.unix_path.specs.Parts.{Value, is_rooted, values}
-use Rattle.unix_path.specs.Prefixes.{IsPrefixOf, stripped_of}
+use Rattle.unix_path.specs.Prefixes.{IsPrefixOf}
 use Rattle.unix_path.proofs.lemmas.callers.CallerLemmas.{same_value-Decides}
 use Rattle.unix_path.proofs.lemmas.rests.RootLemmas.{rooted-IsPrefixOf}
 use Rattle.path_within.specs.Escapes.{Escapes, GoesAbove, is_name, is_parent_dir}
-use Rattle.upath_commands.specs.Answers.{rest_after}
 use Rattle.upath_commands.specs.Escaping.{escapes, goes_above}
 use Rattle.upath_commands.proofs.lemmas.RecordLemmas.{by_test}
 
@@ -74,6 +70,7 @@ or_cases false b e = inr e
 
 -- the test decides whether a path escapes
 pub escapes-Decides : (p : List ℕ) → Decides (escapes p) (Escapes (values p))
+unfolding escapes
 escapes-Decides p =
     let root = rooted-IsPrefixOf p (is_rooted p) refl in (
       λ e. ⊎_elim (λ r. inl (root.0 r)) (λ a. inr (goes_above-to (values p) a))
@@ -88,17 +85,3 @@ starts_with-Decides w v = let (to, from) = starts_is same_value-Decides w v _ re
   λ e. (drop (length v) w, sym (to e)),
   λ (more, e). from more (sym e),
 )
-
--- what is left of a path after a base, as a call returns it
-pub rest_after-is : {E : Type 0} (r : Result Path E) (base p : List ℕ)
-    → (IsOk r ↔ IsPrefixOf (values base) (values p))
-    → IfOk r (λ rest. rest.bytes.now ≡ stripped_of p base)
-    → option_map (λ rest. rest.bytes.now) (result_ok r) ≡ rest_after base p
-rest_after-is (Ok rest) base p h e =
-    rw ((starts_with-Decides (values p) (values base)).1 (h.0 (search rules)))
-    (ap (λ bytes. Some bytes) e)
-rest_after-is (Err error) base p h e =
-    by_test (starts_with same_value (values p) (values base))
-    (λ t. absurd (true≢false
-        (sym (h.1 ((starts_with-Decides (values p) (values base)).0 t)))))
-    (λ t. rw t refl)
