@@ -11,5 +11,5 @@ goes_above vs =
     (range_with_len 0 (length vs + 1))
 
 -- the path has a root, or some prefix of its components has more `..` than names
-abbrev pub escapes : List ℕ → Bool
+unfoldable pub escapes : List ℕ → Bool
 escapes p = is_rooted p || goes_above (values p)

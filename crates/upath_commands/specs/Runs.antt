@@ -1,5 +1,5 @@
 -- What an invocation writes, and its exit status.
-use Rattle.std.specs.Prelude.{ℕ, Bool, true, List, [], ◌∷◌, Option, Some, Result, Ok, Err}
+use Rattle.std.specs.Prelude.{ℕ, Bool, true, false, List, [], ◌∷◌, Option, Some, Result, Ok, Err}
 use Rattle.std.specs.Prelude.{if◌then◌else◌}
 use Rattle.std.specs.List.{list_all}
 use Rattle.std.specs.Ordering.{is_eq}
@@ -80,3 +80,9 @@ messages_for (Err usage) input = usage_line usage
 abbrev pub status_for : Meaning → List ℕ → ℕ
 status_for (Ok invocation) input = if run_answered invocation input then 0 else 1
 status_for (Err usage) input = 2
+
+-- nothing is written, neither answers nor messages
+abbrev pub is_quiet : InvocationValue → Bool
+is_quiet (Equal settings a b) = settings.quiet
+is_quiet (Each command settings operands) = settings.quiet
+is_quiet _ = false

@@ -15,6 +15,7 @@ use std::alloc::AllocError;
 use unix_path::Path;
 
 // Returns what follows the base, if the path starts with its components.
+#[tactic(auto, using(crate::proofs::TestLemmas::rest_after_found))]
 fn rest_after<'a>(base: Path<'_>, path: Path<'a>) -> Option<Path<'a>>
     ensures { option_map (λ rest. rest.bytes.now) result
         ≡ rest_after base.entry.bytes.now path.entry.bytes.now }

@@ -27,12 +27,8 @@ mod searches;
 mod task;
 mod usage;
 
-<<<<<<< HEAD
 pub use answers::{Answerer, answer_operands};
-pub use arguments::invocation_of;
-=======
 pub use arguments::{argument_paths, invocation_of};
->>>>>>> u1
 pub use command::{Command, EscapesOptions, Invocation, JoinRule, Settings, UnderOptions};
 pub use output::{Output, Refusals, RunError};
 pub use records::answer_input;

@@ -1,7 +1,7 @@
 //! What is written: answers, with a buffer before their writer, and reports.
 ghost use Rattle.std.specs.Prelude.{◌≡◌, ◌≢◌, ◌↔◌, ◌<◌, ◌++◌, [], length, false, true};
-ghost use Rattle.std.specs.Prelude.{OnOk, OnErr, IfOk, IfErr, Some};
-ghost use Rattle.std.specs.Fmt.{padded};
+ghost use Rattle.std.specs.Prelude.{OnOk, OnErr, IfOk, IfErr, codes, ◌∷◌};
+ghost use Rattle.std.specs.Str.{byte};
 ghost use Rattle.std.specs.Io.{WritesAtMost};
 ghost use Rattle.std.specs.IoError.{error_kind};
 ghost use Rattle.std.specs.Io.KnownBytes.{Appends, WriteAppends};
@@ -15,8 +15,6 @@ ghost use Rattle.upath_commands.specs.declared.output.RunError.TheVariants.{Memo
 use crate::answers::Answerer;
 use crate::usage::{UsageError, push_usage};
 use std::alloc::{AllocError, Global};
-use std::error::Error;
-use std::fmt;
 use std::io;
 use std::io::{ErrorKind, Write};
 use unix_path::Path;
@@ -26,10 +24,7 @@ const FULL: usize = 65536;
 
 /// The error of a run.
 ///
-/// It is displayed as `read error`, `write error`, `output is closed` or `out of memory`, padded
-/// like a string.
-///
-/// `RunError::Memory` is displayed as `out of memory`.
+/// `RunError::from(AllocError)` is `RunError::Memory`.
 #[derive(Clone, Copy, Debug, PartialEq, Eq)]
 pub enum RunError {
     /// A read failed.
@@ -41,24 +36,6 @@ pub enum RunError {
     /// An allocation failed.
     Memory,
 }
-
-/// Writes the message of the error, padded like a string.
-impl fmt::Display for RunError {
-    ghost output = { λ error. Some (error_text error) };
-
-    ghost styled_output = { λ error spec. Some (padded spec (error_text error)) };
-
-    fn fmt<W: fmt::Write>(&self, f: &mut fmt::Formatter<W>) -> fmt::Result {
-        f.pad(match self {
-            RunError::Read => "read error",
-            RunError::Write => "write error",
-            RunError::Closed => "output is closed",
-            RunError::Memory => "out of memory",
-        })
-    }
-}
-
-impl Error for RunError {}
 
 /// Converts a failed allocation to `Memory`.
 impl From<AllocError> for RunError {
@@ -280,4 +257,35 @@ impl<E: Write> Refusals<E> {
         }
         Ok(())
     }
+
+    // Reports why a run failed.
+    pub(crate) fn report_error(&mut self, error: RunError) {
+        self.line.clear();
+        if push_error(error, &mut self.line).is_ok() && !self.has_failed {
+            self.has_failed = write_all(&mut self.writer, self.line.as_slice()).is_err();
+        }
+    }
+}
+
+// Returns the message for an error.
+fn message_of(error: RunError) -> &'static [u8]
+    ensures { result.now ≡ error_text error }
+{
+    match error {
+        RunError::Read => b"read error",
+        RunError::Write => b"write error",
+        RunError::Closed => b"output is closed",
+        RunError::Memory => b"out of memory",
+    }
+}
+
+// Appends the line for an error.
+fn push_error(error: RunError, out: &mut Vec<u8>) -> Result<(), AllocError>
+    ensures { OnOk result (out.new.items
+        ≡ out.old.items ++ (codes "upath: " ++ (error_text error ++ byte "\n" ∷ []))) }
+{
+    out.extend_from_slice(b"upath: ")?;
+    out.extend_from_slice(message_of(error))?;
+    out.push(b'\n')?;
+    Ok(())
 }

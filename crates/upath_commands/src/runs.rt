@@ -1,5 +1,5 @@
 //! What is done for a list of arguments.
-ghost use Rattle.std.specs.Prelude.{◌≡◌, ◌++◌, IfOk, IfSome, OnOk, OnErr};
+ghost use Rattle.std.specs.Prelude.{◌≡◌, ◌<◌, ◌≤◌, ◌++◌, [], IfOk, IfSome, OnOk, OnErr};
 ghost use Rattle.std.specs.Io.KnownBytes.{Appends};
 ghost use Rattle.std.specs.List.{list_all};
 ghost use Rattle.upath_commands.specs.Commands.{is_answered};
@@ -7,11 +7,11 @@ ghost use Rattle.upath_commands.specs.Outputs.{AppendsPrefix, Tells, has_failed,
 ghost use Rattle.upath_commands.specs.Outputs.{unwritten, written_to};
 ghost use Rattle.upath_commands.specs.Runs.{each_output, each_refusals, input_read, paths_asked};
 ghost use Rattle.upath_commands.specs.Runs.{run_answered, run_input, run_output, run_refusals};
-ghost use Rattle.upath_commands.specs.Runs.{input_for, messages_for, output_for, status_for};
+ghost use Rattle.upath_commands.specs.Runs.{input_for, is_quiet, messages_for, output_for};
+ghost use Rattle.upath_commands.specs.Runs.{status_for};
 ghost use Rattle.upath_commands.specs.Arguments.{meaning_of};
-ghost use Rattle.upath_commands.specs.Invocations.{command_value, invocation_value, usage_value};
+ghost use Rattle.upath_commands.specs.Invocations.{command_value, invocation_value};
 ghost use Rattle.upath_commands.specs.Records.{paths_of};
-ghost use Rattle.upath_commands.specs.Usage.{usage_line};
 
 use crate::answers::answer_operands;
 use crate::arguments::invocation_of;
@@ -20,7 +20,6 @@ use crate::output::{Output, Refusals, RunError};
 use crate::push::end_of;
 use crate::records::answer_input;
 use crate::task::Task;
-use crate::usage::UsageError;
 use std::alloc::Global;
 use std::io::{BufRead, Write};
 use unix_path::Path;
@@ -121,35 +120,27 @@ fn run<R: BufRead, W: Write, E: Write>(
     }
 }
 
-// Says on standard error what is wrong with the arguments. Returns the status of wrong usage.
-fn refuse_usage<E: Write>(
-    error: UsageError<'_>,
-    refusals: &mut Refusals<E>,
-) -> Result<u8, RunError>
-    ensures status { IfOk result (λ status. status ≡ 2) }
-    ensures told { OnOk result (Tells (has_failed refusals.old) (has_failed refusals.new)
-        (E.contents (told_to refusals.old)) (E.contents (told_to refusals.new))
-        (usage_line (usage_value error.entry))) }
+// Returns true if nothing is to be written.
+fn is_quiet(invocation: &Invocation<'_>) -> bool
+    ensures { result ≡ is_quiet (invocation_value invocation.now) }
 {
-    refusals.report_usage(error)?;
-    Ok(2)
+    match invocation {
+        Invocation::Equal(settings, _, _) | Invocation::Each(_, settings, _) => settings.quiet,
+        _ => false,
+    }
 }
 
-/// Does what the arguments ask for. Returns the exit status: 0 if all paths are answered or the
-/// answer is yes, 1 if not, and 2 for wrong usage.
-///
-/// For wrong usage nothing is read or written, and `refusals` says what is wrong. After an error a
-/// prefix of the output was written.
-///
-/// For `equal`, `a` and `a/.` the status is 0.
-pub fn run_arguments<R: BufRead, W: Write, E: Write>(
+// Does what the arguments ask for. Returns the exit status if nothing fails. Otherwise returns the
+// error, or `None` if nothing is said of it.
+fn status_for<R: BufRead, W: Write, E: Write>(
     alloc: Global,
     arguments: &[Path<'_>],
     texts: Texts<'_>,
     reader: &mut R,
     output: &mut Output<W>,
     refusals: &mut Refusals<E>,
-) -> Result<u8, RunError>
+) -> Result<u8, Option<RunError>>
+    requires { unwritten output.old ≡ [] }
     ensures ok { let meaning = meaning_of (paths_of arguments.now) in
         OnOk result (IfSome (input_for meaning (R.remaining reader.old)) (λ input.
         Appends (W.contents (written_to output.old)) (W.contents (written_to output.new))
@@ -157,6 +148,7 @@ pub fn run_arguments<R: BufRead, W: Write, E: Write>(
     ensures status { let meaning = meaning_of (paths_of arguments.now) in
         IfOk result (λ status. IfSome (input_for meaning (R.remaining reader.old))
         (λ input. status ≡ status_for meaning input)) }
+    ensures range { IfOk result (λ status. status < 3) }
     ensures told { let meaning = meaning_of (paths_of arguments.now) in
         OnOk result (IfSome (input_for meaning (R.remaining reader.old))
         (λ input. Tells (has_failed refusals.old) (has_failed refusals.new)
@@ -167,14 +159,61 @@ pub fn run_arguments<R: BufRead, W: Write, E: Write>(
         AppendsPrefix (W.contents (written_to output.old)) (W.contents (written_to output.new))
         (unwritten output.old ++ output_for texts.entry meaning input))) }
 {
-    match invocation_of(alloc, arguments)? {
-        Ok(invocation) => {
-            let is_answered = run(alloc, &invocation, texts, reader, output, refusals)?;
-            Ok(if is_answered { 0 } else { 1 })
-        }
-        Err(error) => {
-            output.finish()?;
-            refuse_usage(error, refusals)
+    match invocation_of(alloc, arguments) {
+        Err(_) => Err(Some(RunError::Memory)),
+        Ok(Ok(invocation)) => match run(alloc, &invocation, texts, reader, output, refusals) {
+            Ok(true) => Ok(0),
+            Ok(false) => Ok(1),
+            Err(_) if is_quiet(&invocation) => Err(None),
+            Err(error) => Err(Some(error)),
+        },
+        Ok(Err(error)) => match refusals.report_usage(error) {
+            Ok(()) => Ok(2),
+            Err(error) => Err(Some(error)),
+        },
+    }
+}
+
+/// Does what the arguments ask for. Returns the exit status: 0 if all paths are answered or the
+/// answer is yes, 1 if not, 2 for wrong usage, and 3 if a read, a write or an allocation fails.
+///
+/// For wrong usage nothing is read or written, and `refusals` says what is wrong. With the status 3
+/// a prefix of the output was written.
+///
+/// For `equal`, `a` and `a/.` the status is 0.
+pub fn run_arguments<R: BufRead, W: Write, E: Write>(
+    alloc: Global,
+    arguments: &[Path<'_>],
+    texts: Texts<'_>,
+    reader: &mut R,
+    output: &mut Output<W>,
+    refusals: &mut Refusals<E>,
+) -> u8
+    requires { unwritten output.old ≡ [] }
+    ensures ok { let meaning = meaning_of (paths_of arguments.now) in
+        result < 3 → IfSome (input_for meaning (R.remaining reader.old)) (λ input.
+        Appends (W.contents (written_to output.old)) (W.contents (written_to output.new))
+        (output_for texts.entry meaning input)) }
+    ensures status { let meaning = meaning_of (paths_of arguments.now) in
+        result < 3 → IfSome (input_for meaning (R.remaining reader.old))
+        (λ input. result ≡ status_for meaning input) }
+    ensures range { result ≤ 3 }
+    ensures told { let meaning = meaning_of (paths_of arguments.now) in
+        result < 3 → IfSome (input_for meaning (R.remaining reader.old))
+        (λ input. Tells (has_failed refusals.old) (has_failed refusals.new)
+        (E.contents (told_to refusals.old)) (E.contents (told_to refusals.new))
+        (messages_for meaning input)) }
+    ensures failed { let meaning = meaning_of (paths_of arguments.now) in
+        result ≡ 3 → IfSome (input_for meaning (R.remaining reader.old)) (λ input.
+        AppendsPrefix (W.contents (written_to output.old)) (W.contents (written_to output.new))
+        (output_for texts.entry meaning input)) }
+{
+    match status_for(alloc, arguments, texts, reader, output, refusals) {
+        Ok(status) => status,
+        Err(None) | Err(Some(RunError::Closed)) => 3,
+        Err(Some(error)) => {
+            refusals.report_error(error);
+            3
         }
     }
 }

@@ -12,14 +12,13 @@ use Rattle.std.proofs.lemmas.List.FromFn.{length-range_with_len, get_or-range_wi
 use Rattle.std.proofs.lemmas.Slice.Eq.{starts_is}
 use Rattle.unix_path.specs.Order.{same_value}
 use Rattle.unix_path.specs.Parts.{Value, is_rooted, values}
-use Rattle.unix_path.specs.Prefixes.{IsPrefixOf, stripped_of}
+use Rattle.unix_path.specs.Prefixes.{IsPrefixOf}
 use Rattle.unix_path.proofs.lemmas.callers.CallerLemmas.{same_value-Decides}
 use Rattle.unix_path.proofs.lemmas.rests.RootLemmas.{rooted-IsPrefixOf}
 use Rattle.path_within.specs.Below.{has_nul}
 use Rattle.path_within.specs.Escapes.{Escapes, GoesAbove, is_name, is_parent_dir}
 use Rattle.path_within.specs.declared.request.RequestError.{RequestError}
 use Rattle.path_within.specs.declared.request.RequestError.TheVariants as error
-use Rattle.upath_commands.specs.Answers.{rest_after}
 use Rattle.upath_commands.specs.Escaping.{escapes, goes_above}
 use Rattle.upath_commands.proofs.lemmas.RecordLemmas.{by_test}
 
@@ -77,6 +76,7 @@ or_cases false b e = inr e
 
 -- the test decides whether a path escapes
 pub escapes-Decides : (p : List ℕ) → Decides (escapes p) (Escapes (values p))
+unfolding escapes
 escapes-Decides p =
     let root = rooted-IsPrefixOf p (is_rooted p) refl in (
       λ e. ⊎_elim (λ r. inl (root.0 r)) (λ a. inr (goes_above-to (values p) a))
@@ -91,6 +91,7 @@ pub beneath-is_err : {T : Type 0} (r : Result T RequestError) (p : List ℕ)
     → (IsErrOf r error.Escapes ↔ ((is_rooted p ≡ false) × Escapes (values p)))
     → (IsErrOf r error.Nul ↔ ((Escapes (values p) → ⊥) × (has_nul p ≡ true)))
     → is_err r ≡ (escapes p || has_nul p)
+unfolding escapes
 beneath-is_err (Err error.Rooted) p root above nul =
     sym (or_left (escapes p) (has_nul p)
     (or_left (is_rooted p) (goes_above (values p)) (root.0 refl)))
@@ -119,17 +120,3 @@ starts_with-Decides w v = let (to, from) = starts_is same_value-Decides w v _ re
   λ e. (drop (length v) w, sym (to e)),
   λ (more, e). from more (sym e),
 )
-
--- what is left of a path after a base, as a call returns it
-pub rest_after-is : {E : Type 0} (r : Result Path E) (base p : List ℕ)
-    → (IsOk r ↔ IsPrefixOf (values base) (values p))
-    → IfOk r (λ rest. rest.bytes.now ≡ stripped_of p base)
-    → option_map (λ rest. rest.bytes.now) (result_ok r) ≡ rest_after base p
-rest_after-is (Ok rest) base p h e =
-    rw ((starts_with-Decides (values p) (values base)).1 (h.0 (search rules)))
-    (ap (λ bytes. Some bytes) e)
-rest_after-is (Err error) base p h e =
-    by_test (starts_with same_value (values p) (values base))
-    (λ t. absurd (true≢false
-        (sym (h.1 ((starts_with-Decides (values p) (values base)).0 t)))))
-    (λ t. rw t refl)

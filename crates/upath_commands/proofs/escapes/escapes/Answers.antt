@@ -1,6 +1,6 @@
 use Rattle.std.proofs.lemmas.Bool.Decides.{same_from_decides}
-use Rattle.upath_commands.proofs.lemmas.AnswerLemmas.{escapes-Decides}
 use Rattle.upath_commands.specs.Escaping.{escapes}
+use Rattle.upath_commands.proofs.lemmas.AnswerLemmas.{escapes-Decides}
 use Rattle.upath_commands.proofs.escapes.escapes.Goals as goal
 
 pub returns : goal.returns
