@@ -48,6 +48,10 @@ EmitsPrefix old new buffer bs = AppendsPrefix old new (buffer ++ bs)
 abbrev pub told_to : {E : Type 0} → Refusals E → E
 told_to refusals = refusals.writer
 
+-- the line that is to be reported
+abbrev pub line_of : {E : Type 0} → Refusals E → List ℕ
+line_of refusals = refusals.line.items
+
 -- a write of a report has failed
 abbrev pub has_failed : {E : Type 0} → Refusals E → Bool
 has_failed refusals = refusals.has_failed

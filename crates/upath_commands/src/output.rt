@@ -6,7 +6,7 @@ ghost use Rattle.std.specs.Io.{WritesAtMost};
 ghost use Rattle.std.specs.IoError.{error_kind};
 ghost use Rattle.std.specs.Io.KnownBytes.{Appends, WriteAppends};
 ghost use Rattle.upath_commands.specs.Outputs.{AppendsPrefix, Emits, EmitsPrefix, unwritten};
-ghost use Rattle.upath_commands.specs.Outputs.{IsOfWrite, is_line_buffered};
+ghost use Rattle.upath_commands.specs.Outputs.{IsOfWrite, is_line_buffered, line_of};
 ghost use Rattle.upath_commands.specs.Outputs.{Tells, error_text, has_failed, told_to, written_to};
 ghost use Rattle.upath_commands.specs.Invocations.{usage_value};
 ghost use Rattle.upath_commands.specs.Usage.{usage_line};
@@ -224,6 +224,16 @@ impl<E: Write> Refusals<E> {
         }
     }
 
+    // Writes the line, unless a write has failed before.
+    fn send(&mut self)
+        ensures told { Tells (has_failed self.old) (has_failed self.new)
+            (E.contents (told_to self.old)) (E.contents (told_to self.new)) (line_of self.old) }
+    {
+        if !self.has_failed {
+            self.has_failed = write_all(&mut self.writer, self.line.as_slice()).is_err();
+        }
+    }
+
     // Reports a path without an answer.
     pub(crate) fn report<A: Answerer>(
         &mut self,
@@ -237,9 +247,7 @@ impl<E: Write> Refusals<E> {
     {
         self.line.clear();
         answerer.push_refusal(path, &mut self.line)?;
-        if !self.has_failed {
-            self.has_failed = write_all(&mut self.writer, self.line.as_slice()).is_err();
-        }
+        self.send();
         Ok(())
     }
 
@@ -252,17 +260,15 @@ impl<E: Write> Refusals<E> {
     {
         self.line.clear();
         push_usage(error, &mut self.line)?;
-        if !self.has_failed {
-            self.has_failed = write_all(&mut self.writer, self.line.as_slice()).is_err();
-        }
+        self.send();
         Ok(())
     }
 
     // Reports why a run failed.
     pub(crate) fn report_error(&mut self, error: RunError) {
         self.line.clear();
-        if push_error(error, &mut self.line).is_ok() && !self.has_failed {
-            self.has_failed = write_all(&mut self.writer, self.line.as_slice()).is_err();
+        if push_error(error, &mut self.line).is_ok() {
+            self.send();
         }
     }
 }
