@@ -196,3 +196,12 @@ meaning_of_items items =
 -- the meaning of these arguments
 unfoldable pub meaning_of : List (List ℕ) → Meaning
 meaning_of arguments = meaning_of_items (items_after false arguments)
+
+-- the command that is the first of these operands
+abbrev pub first_verb : List (List ℕ) → Option Verb
+first_verb [] = None
+first_verb (name ∷ operands) = verb_by_name name
+
+-- the command that is the first operand among these arguments
+abbrev pub verb_asked : List (List ℕ) → Option Verb
+verb_asked arguments = first_verb (filter_map operand_of (items_after false arguments))

@@ -4,6 +4,7 @@ ghost use Rattle.std.specs.List.{filter_map};
 ghost use Rattle.upath_commands.specs.Arguments.{escapes_options, join_rule, meaning_of};
 ghost use Rattle.upath_commands.specs.Arguments.{command_meaning, meaning_of_items};
 ghost use Rattle.upath_commands.specs.Arguments.{meaning_of_verb, operand_of, settings_of};
+ghost use Rattle.upath_commands.specs.Arguments.{verb_asked};
 ghost use Rattle.upath_commands.specs.Arguments.{each, equal_meaning, join_meaning, under_options};
 ghost use Rattle.upath_commands.specs.Invocations.{command_value, meaning_value, path_bytes};
 ghost use Rattle.upath_commands.specs.Invocations.{usage_value};
@@ -310,4 +311,23 @@ pub fn argument_paths(alloc: Global, arguments: &[Vec<u8>]) -> Result<Vec<Path<'
         paths.push(Path::from_bytes(argument.as_slice()))?;
     }
     Ok(paths)
+}
+
+/// Returns the command that is the first operand, or `None` if there is none or it is unknown.
+///
+/// `--help` shows the help text of this command. Fails only if an allocation fails.
+///
+/// For `--help` and `canon` it is `Verb::Canon`.
+pub fn command_asked(
+    alloc: Global,
+    arguments: &[Path<'_>],
+) -> Result<Option<Verb>, AllocError>
+    ensures { IfOk result (λ found. found ≡ verb_asked (map path_bytes arguments.now)) }
+{
+    let items = items_of(alloc, arguments)?;
+    let operands = operands_in(alloc, items.as_slice())?;
+    match operands.as_slice() {
+        [name, ..] => Ok(verb_by_name(name.bytes)),
+        [] => Ok(None),
+    }
 }

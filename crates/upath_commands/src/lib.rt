@@ -28,8 +28,9 @@ mod task;
 mod usage;
 
 pub use answers::{Answerer, answer_operands};
-pub use arguments::{argument_paths, invocation_of};
+pub use arguments::{argument_paths, command_asked, invocation_of};
 pub use command::{Command, EscapesOptions, Invocation, JoinRule, Settings, UnderOptions};
+pub use options::Verb;
 pub use output::{Output, Refusals, RunError};
 pub use records::answer_input;
 pub use runs::{Texts, run_arguments};

@@ -1,0 +1,233 @@
+//! The help texts. Made by tools/upath_texts from tools/upath.txt.
+
+use upath_commands::Verb;
+
+const GENERAL: &[u8] = b"\
+Usage: upath COMMAND [OPTION]... [--] [PATH]...\n\
+\n\
+Prints for each PATH what COMMAND says. Without a PATH, reads paths from\n\
+standard input, one per line. Everything is lexical: no file is looked up, and\n\
+no symbolic link is followed.\n\
+\n\
+Commands:\n\
+\x20 canon                the canonical form: single slashes, and no `.` except a\n\
+\x20                      leading one\n\
+\x20 resolve              the canonical form, with each `..` resolved lexically\n\
+\x20 parent               the path without its last component\n\
+\x20 name                 the file name: the last component, if it is a name\n\
+\x20 stem                 the file name without its extension\n\
+\x20 ext                  the extension: the part of the file name after its last\n\
+\x20                      dot\n\
+\x20 parts                the components, each as a record\n\
+\x20 join ROOT            ROOT joined with the path\n\
+\x20 strip BASE           what follows BASE, for a path that starts with it\n\
+\x20 relative --from=DIR  the relative path from DIR\n\
+\x20 escapes              the paths that leave the directory they are joined to,\n\
+\x20                      unchanged\n\
+\x20 under BASE           the paths at BASE or below it, unchanged\n\
+\x20 equal A B            nothing: the exit status says whether A and B are equal\n\
+\n\
+Options:\n\
+\x20 -z, --null           end each record with a NUL byte, not with a newline\n\
+\x20 -p, --pair           print each path before its answer, with a tab after it\n\
+\x20                      (with -z, a NUL byte)\n\
+\x20 -q, --quiet          print nothing; only the exit status answers\n\
+\x20     --line-buffered  write each answer at once\n\
+\x20     --help           print this help, or that of the command\n\
+\x20     --version        print the version, and which code was proved\n\
+\n\
+Exit status:\n\
+\x20 0  every path was answered; escapes: none escapes; equal: they are\n\
+\x20 1  some path has no answer or was refused, or the answer is no\n\
+\x20 2  wrong usage; nothing was read or written\n\
+\x20 3  a read, a write or an allocation failed\n\
+\n\
+`upath COMMAND --help` shows the options of a command, and an example.\n";
+
+const CANON: &[u8] = b"\
+Usage: upath canon [OPTION]... [--] [PATH]...\n\
+\n\
+Prints the canonical form: single slashes, and no `.` except a leading one.\n\
+\n\
+Example:\n\
+\x20 $ upath canon .//a/./b/\n\
+\x20 ./a/b\n\
+\n\
+`upath --help` shows the options of every command.\n";
+
+const RESOLVE: &[u8] = b"\
+Usage: upath resolve [OPTION]... [--] [PATH]...\n\
+\n\
+Prints the canonical form, with each `..` resolved lexically.\n\
+\n\
+Example:\n\
+\x20 $ upath resolve /srv/../etc a/../../b\n\
+\x20 /etc\n\
+\x20 ../b\n\
+\n\
+`upath --help` shows the options of every command.\n";
+
+const PARENT: &[u8] = b"\
+Usage: upath parent [OPTION]... [--] [PATH]...\n\
+\n\
+Prints the path without its last component.\n\
+\n\
+Example:\n\
+\x20 $ upath parent /usr/lib/libc.so\n\
+\x20 /usr/lib\n\
+\n\
+`upath --help` shows the options of every command.\n";
+
+const NAME: &[u8] = b"\
+Usage: upath name [OPTION]... [--] [PATH]...\n\
+\n\
+Prints the file name: the last component, if it is a name.\n\
+\n\
+Example:\n\
+\x20 $ upath name /usr/lib/libc.so\n\
+\x20 libc.so\n\
+\n\
+`upath --help` shows the options of every command.\n";
+
+const STEM: &[u8] = b"\
+Usage: upath stem [OPTION]... [--] [PATH]...\n\
+\n\
+Prints the file name without its extension.\n\
+\n\
+Example:\n\
+\x20 $ upath stem /tmp/x.tar.gz\n\
+\x20 x.tar\n\
+\n\
+`upath --help` shows the options of every command.\n";
+
+const EXT: &[u8] = b"\
+Usage: upath ext [OPTION]... [--] [PATH]...\n\
+\n\
+Prints the extension: the part of the file name after its last dot.\n\
+\n\
+Example:\n\
+\x20 $ upath ext /tmp/x.tar.gz\n\
+\x20 gz\n\
+\n\
+`upath --help` shows the options of every command.\n";
+
+const PARTS: &[u8] = b"\
+Usage: upath parts [-b] [OPTION]... [--] [PATH]...\n\
+\n\
+Prints the components, each as a record.\n\
+\n\
+\x20 -b  from the last component to the first\n\
+\n\
+Example:\n\
+\x20 $ upath parts -b /usr/lib\n\
+\x20 lib\n\
+\x20 usr\n\
+\x20 /\n\
+\n\
+`upath --help` shows the options of every command.\n";
+
+const JOIN: &[u8] = b"\
+Usage: upath join [--beneath] [--in-root] [--verbatim] [OPTION]... [--] ROOT\n\
+\x20   [PATH]...\n\
+\n\
+Prints ROOT joined with the path.\n\
+\n\
+\x20     --beneath   refuse a path that leaves ROOT, for example an entry of an\n\
+\x20                 archive\n\
+\x20     --in-root   keep the path at ROOT, as in a chroot, for example the path of\n\
+\x20                 a URL\n\
+\x20     --verbatim  refuse any `..`, for a ROOT that may contain symbolic links\n\
+\n\
+Example:\n\
+\x20 $ upath join --beneath /srv a/../b\n\
+\x20 /srv/b\n\
+\n\
+`upath --help` shows the options of every command.\n";
+
+const STRIP: &[u8] = b"\
+Usage: upath strip [OPTION]... [--] BASE [PATH]...\n\
+\n\
+Prints what follows BASE, for a path that starts with it.\n\
+\n\
+Example:\n\
+\x20 $ upath strip /usr /usr/lib/libc.so\n\
+\x20 lib/libc.so\n\
+\n\
+`upath --help` shows the options of every command.\n";
+
+const RELATIVE: &[u8] = b"\
+Usage: upath relative --from=DIR [OPTION]... [--] [PATH]...\n\
+\n\
+Prints the relative path from DIR.\n\
+\n\
+\x20     --from=DIR  the directory where the relative path starts\n\
+\n\
+Example:\n\
+\x20 $ upath relative --from=/usr/bin /usr/lib/libc.so\n\
+\x20 ../lib/libc.so\n\
+\n\
+`upath --help` shows the options of every command.\n";
+
+const ESCAPES: &[u8] = b"\
+Usage: upath escapes [-v] [--reason] [OPTION]... [--] [PATH]...\n\
+\n\
+Prints the paths that leave the directory they are joined to, unchanged.\n\
+\n\
+\x20 -v            the other paths: those that stay\n\
+\x20     --reason  print `root` or `climbs` and a tab before each path that escapes\n\
+\n\
+Example:\n\
+\x20 $ printf 'a/../b\\n../etc\\n' | upath escapes\n\
+\x20 ../etc\n\
+\n\
+`upath --help` shows the options of every command.\n";
+
+const UNDER: &[u8] = b"\
+Usage: upath under [-v] [--strip] [--by-parts] [OPTION]... [--] BASE [PATH]...\n\
+\n\
+Prints the paths at BASE or below it, unchanged.\n\
+\n\
+\x20 -v              the other paths: those that are not\n\
+\x20     --strip     print what follows BASE\n\
+\x20     --by-parts  compare components, and resolve no `..`\n\
+\n\
+Example:\n\
+\x20 $ printf '/srv/a\\n/srv/../etc\\n' | upath under /srv\n\
+\x20 /srv/a\n\
+\n\
+`upath --help` shows the options of every command.\n";
+
+const EQUAL: &[u8] = b"\
+Usage: upath equal [OPTION]... [--] A B\n\
+\n\
+Prints nothing: the exit status says whether A and B are equal.\n\
+\n\
+Example:\n\
+\x20 $ upath equal a//b/. a/b && echo equal\n\
+\x20 equal\n\
+\n\
+`upath --help` shows the options of every command.\n";
+
+/// What `--version` prints.
+pub const VERSION: &[u8] = b"\
+upath 1.1.0\n";
+
+/// Returns the help text of a command, or for `None` that of the program.
+pub fn help_of(verb: Option<Verb>) -> &'static [u8] {
+    match verb {
+        None => GENERAL,
+        Some(Verb::Canon) => CANON,
+        Some(Verb::Resolve) => RESOLVE,
+        Some(Verb::Parent) => PARENT,
+        Some(Verb::Name) => NAME,
+        Some(Verb::Stem) => STEM,
+        Some(Verb::Extension) => EXT,
+        Some(Verb::Parts) => PARTS,
+        Some(Verb::Join) => JOIN,
+        Some(Verb::Strip) => STRIP,
+        Some(Verb::Relative) => RELATIVE,
+        Some(Verb::Escapes) => ESCAPES,
+        Some(Verb::Under) => UNDER,
+        Some(Verb::Equal) => EQUAL,
+    }
+}
