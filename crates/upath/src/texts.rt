@@ -208,6 +208,10 @@ Example:\n\
 \n\
 `upath --help` shows the options of every command.\n";
 
+/// What `--version` prints.
+pub const VERSION: &[u8] = b"\
+upath 1.1.0\n";
+
 /// Returns the help text of a command, or for `None` that of the program.
 pub fn help_of(verb: Option<Verb>) -> &'static [u8] {
     match verb {

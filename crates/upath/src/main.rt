@@ -1,0 +1,74 @@
+//! Prints answers about paths, which are arguments or lines of standard input.
+//!
+//! Everything except what is here and in the library of Rattle is in `upath_commands`, whose
+//! function `run_arguments` has the contract.
+#![tactic(auto)]
+
+mod texts;
+
+use std::alloc::AllocError;
+use std::env::{Env, FillError};
+use std::process::ExitCode;
+use texts::{VERSION, help_of};
+use upath_commands::{Output, Refusals, Texts, argument_paths, command_asked, run_arguments};
+
+// Returns the argument with this index, or `None` after the last one.
+fn argument_at(rt: &HostRuntime, index: usize) -> Result<Option<Vec<u8>>, AllocError> {
+    let mut bytes = Vec::new(rt.alloc());
+    for doublings in 0..32u32 {
+        bytes.resize(256usize << doublings, 0)?;
+        match rt.arg(index, bytes.as_mut_slice()) {
+            Ok(len) => {
+                bytes.truncate(len);
+                return Ok(Some(bytes));
+            }
+            Err(FillError::NotPresent) => return Ok(None),
+            Err(FillError::TooLong) => {}
+        }
+    }
+    Err(AllocError)
+}
+
+// Returns the arguments after the program's name.
+fn arguments_of(rt: &HostRuntime) -> Result<Vec<Vec<u8>>, AllocError> {
+    let mut arguments = Vec::new(rt.alloc());
+    for index in 1..usize::MAX {
+        match argument_at(rt, index)? {
+            Some(argument) => arguments.push(argument)?,
+            None => break,
+        }
+    }
+    Ok(arguments)
+}
+
+// Does what the arguments ask for. Returns the exit status.
+fn answer(rt: &HostRuntime) -> Result<u8, AllocError> {
+    let arguments = arguments_of(rt)?;
+    let paths = argument_paths(rt.alloc(), arguments.as_slice())?;
+    let verb = command_asked(rt.alloc(), paths.as_slice())?;
+    let texts = Texts {
+        help: help_of(verb),
+        version: VERSION,
+    };
+    let mut reader = rt.reader();
+    let mut output = Output::new(rt.alloc(), std::io::writer(rt));
+    let mut refusals = Refusals::new(rt.alloc(), rt.stderr());
+    Ok(run_arguments(
+        rt.alloc(),
+        paths.as_slice(),
+        texts,
+        &mut reader,
+        &mut output,
+        &mut refusals,
+    ))
+}
+
+fn main(rt: HostRuntime) -> ExitCode {
+    match answer(&rt) {
+        Ok(status) => ExitCode::from(status),
+        Err(_) => {
+            let _ = eprintln!(rt; "upath: out of memory");
+            ExitCode::from(3)
+        }
+    }
+}

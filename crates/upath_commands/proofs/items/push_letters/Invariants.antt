@@ -1,0 +1,8 @@
+use Rattle.std.proofs.Common.{◌≡◌, ◌++◌, map, take}
+use Rattle.upath_commands.specs.Items.{item_value, letter_items}
+use Rattle.upath_commands.proofs.items.push_letters.Given as goal
+
+abbrev pub invariant-loop-index : goal.invariant-loop-index
+invariant-loop-index l =
+    map item_value l.items.items
+    ≡ map item_value l.initial.items.items ++ letter_items (take l.index l.letters)

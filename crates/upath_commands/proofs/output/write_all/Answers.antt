@@ -1,0 +1,19 @@
+use Rattle.std.proofs.Common.{rules, ◌++◌, List, ℕ, take, sym, subst, ap, ◌∙◌}
+use Rattle.std.proofs.Math.Seq.{take-add}
+use Rattle.std.proofs.lemmas.List.{take_rest}
+use Rattle.std.specs.Io.KnownBytes.{Appends}
+use Rattle.std.proofs.KnownBytes.{Appends-trans}
+use Rattle.upath_commands.proofs.output.write_all.Goals as goal
+
+pub loop-at-preserved : goal.loop-at-preserved
+loop-at-preserved g c =
+    let (a, so_far) = c.loop-at.invariant in
+    let bytes : List ℕ = c.args.bytes.now in
+    let at = c.loop-at.at in
+    let count = c.in-Ok.count in (
+      search rules,
+      subst (Appends _ _)
+          (ap (λ l. take at bytes ++ take count l) (take_rest bytes at)
+          ∙ sym (take-add at count bytes))
+          (Appends-trans _ _ _ _ _ so_far c.in-Ok.ensures.bytes),
+    )

@@ -1,0 +1,81 @@
+-- Commands and invocations with bytes in place of paths.
+use Rattle.std.specs.Prelude.{ℕ, List, map, Result, Ok, Err}
+use Rattle.unix_path.specs.declared.path.Path.{Path}
+use Rattle.upath_commands.specs.declared.command.Command.{Command}
+use Rattle.upath_commands.specs.declared.command.Command.TheVariants as command
+use Rattle.upath_commands.specs.declared.command.EscapesOptions.{EscapesOptions}
+use Rattle.upath_commands.specs.declared.command.Invocation.{Invocation}
+use Rattle.upath_commands.specs.declared.command.Invocation.TheVariants as invocation
+use Rattle.upath_commands.specs.declared.command.JoinRule.{JoinRule}
+use Rattle.upath_commands.specs.declared.command.Settings.{Settings}
+use Rattle.upath_commands.specs.declared.command.UnderOptions.{UnderOptions}
+use Rattle.upath_commands.specs.declared.usage.UsageError.{UsageError}
+use Rattle.upath_commands.specs.declared.usage.UsageErrorKind.{UsageErrorKind}
+
+-- what is done with each path
+pub data CommandValue : Type 0 where
+  Canon : CommandValue
+  Resolve : CommandValue
+  Parent : CommandValue
+  Name : CommandValue
+  Stem : CommandValue
+  Extension : CommandValue
+  Parts : CommandValue
+  PartsFromBack : CommandValue
+  Join : JoinRule → List ℕ → CommandValue
+  Strip : List ℕ → CommandValue
+  Relative : List ℕ → CommandValue
+  Escapes : EscapesOptions → CommandValue
+  Under : UnderOptions → List ℕ → CommandValue
+
+-- what a list of arguments asks for
+pub data InvocationValue : Type 0 where
+  Help : InvocationValue
+  Version : InvocationValue
+  Equal : Settings → List ℕ → List ℕ → InvocationValue
+  Each : CommandValue → Settings → List (List ℕ) → InvocationValue
+
+-- wrong usage: its kind, and the bytes of the argument that shows it
+abbrev pub UsageValue : Type 0
+UsageValue = UsageErrorKind × List ℕ
+
+-- a list of arguments has one meaning, or it is wrong usage
+abbrev pub Meaning : Type 0
+Meaning = Result InvocationValue UsageValue
+
+-- the bytes of a path
+abbrev pub path_bytes : Path → List ℕ
+path_bytes path = path.bytes.now
+
+-- the command, with the bytes that its view points to
+abbrev pub command_value : Command → CommandValue
+command_value command.Canon = Canon
+command_value command.Resolve = Resolve
+command_value command.Parent = Parent
+command_value command.Name = Name
+command_value command.Stem = Stem
+command_value command.Extension = Extension
+command_value command.Parts = Parts
+command_value command.PartsFromBack = PartsFromBack
+command_value (command.Join rule root) = Join rule (path_bytes root)
+command_value (command.Strip base) = Strip (path_bytes base)
+command_value (command.Relative dir) = Relative (path_bytes dir)
+command_value (command.Escapes options) = Escapes options
+command_value (command.Under options base) = Under options (path_bytes base)
+
+-- the invocation, with the bytes that its views point to
+abbrev pub invocation_value : Invocation → InvocationValue
+invocation_value invocation.Help = Help
+invocation_value invocation.Version = Version
+invocation_value (invocation.Equal settings a b) = Equal settings (path_bytes a) (path_bytes b)
+invocation_value (invocation.Each command settings operands) =
+    Each (command_value command) settings (map path_bytes operands.items)
+
+-- wrong usage, with the bytes that its view points to
+abbrev pub usage_value : UsageError → UsageValue
+usage_value error = (error.kind, path_bytes error.argument)
+
+-- the meaning, or wrong usage, with the bytes that its views point to
+abbrev pub meaning_value : Result Invocation UsageError → Meaning
+meaning_value (Ok invocation) = Ok (invocation_value invocation)
+meaning_value (Err error) = Err (usage_value error)

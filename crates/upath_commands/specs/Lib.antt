@@ -1,0 +1,14 @@
+pub mod Invocations
+pub mod Options
+pub mod Items
+pub mod Arguments
+pub mod ArgumentLaws
+pub mod Outputs
+pub mod Records
+pub mod Escaping
+pub mod Answers
+pub mod Commands
+pub mod Refusals
+pub mod Tasks
+pub mod Usage
+pub mod Runs

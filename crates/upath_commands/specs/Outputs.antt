@@ -1,0 +1,61 @@
+-- What a buffer and its writer do to the bytes that the writer holds.
+use Rattle.std.specs.Prelude.{◌≡◌, ◌⊎◌, ℕ, Bool, false, List, ◌++◌, take, codes, Option}
+use Rattle.std.specs.Io.KnownBytes.{Appends}
+use Rattle.upath_commands.specs.declared.output.Output.{Output}
+use Rattle.upath_commands.specs.declared.output.Refusals.{Refusals}
+use Rattle.upath_commands.specs.declared.output.RunError.{RunError}
+use Rattle.upath_commands.specs.declared.output.RunError.TheVariants.{Read, Write, Closed}
+use Rattle.upath_commands.specs.declared.output.RunError.TheVariants.{Memory}
+
+-- the message that an error of a run is displayed as
+abbrev pub error_text : RunError → List ℕ
+error_text Read = codes "read error"
+error_text Write = codes "write error"
+error_text Closed = codes "output is closed"
+error_text Memory = codes "out of memory"
+
+-- the error is one of a write, neither of a read nor of an allocation
+abbrev pub IsOfWrite : RunError → Type 0
+IsOfWrite error = (error ≡ Write) ⊎ (error ≡ Closed)
+
+-- the writer
+abbrev pub written_to : {W : Type 0} → Output W → W
+written_to output = output.writer
+
+-- the bytes that are not yet written
+abbrev pub unwritten : {W : Type 0} → Output W → List ℕ
+unwritten output = output.buffer.items
+
+-- the output is written after each record
+abbrev pub is_line_buffered : {W : Type 0} → Output W → Bool
+is_line_buffered output = output.is_line_buffered
+
+-- if the bytes are known, a prefix of bs was appended to them
+abbrev pub AppendsPrefix : Option (List ℕ) → Option (List ℕ) → List ℕ → Type 0
+AppendsPrefix old new bs = (n : ℕ) × Appends old new (take n bs)
+
+-- the bytes bs were added after the buffer, and some of its first bytes were appended to the
+-- known bytes; the others are in the buffer
+abbrev pub Emits : Option (List ℕ) → Option (List ℕ) → List ℕ → List ℕ → List ℕ → Type 0
+Emits old new buffer rest bs =
+    (written : List ℕ) × Appends old new written × (written ++ rest ≡ buffer ++ bs)
+
+-- a prefix of the buffer and bs was appended to the known bytes
+abbrev pub EmitsPrefix : Option (List ℕ) → Option (List ℕ) → List ℕ → List ℕ → Type 0
+EmitsPrefix old new buffer bs = AppendsPrefix old new (buffer ++ bs)
+
+-- the writer of reports
+abbrev pub told_to : {E : Type 0} → Refusals E → E
+told_to refusals = refusals.writer
+
+-- the line that is to be reported
+abbrev pub line_of : {E : Type 0} → Refusals E → List ℕ
+line_of refusals = refusals.line.items
+
+-- a write of a report has failed
+abbrev pub has_failed : {E : Type 0} → Refusals E → Bool
+has_failed refusals = refusals.has_failed
+
+-- unless a write has failed until `after`, bs was appended to the known bytes
+abbrev pub Tells : Bool → Bool → Option (List ℕ) → Option (List ℕ) → List ℕ → Type 0
+Tells before after old new bs = after ≡ false → (before ≡ false) × Appends old new bs

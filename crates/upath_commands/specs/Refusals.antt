@@ -1,0 +1,42 @@
+-- What is said of a path without an answer.
+use Rattle.std.specs.Prelude.{ℕ, List, [], ◌∷◌, ◌++◌, Option, Some, None, codes, if◌then◌else◌}
+use Rattle.std.specs.Str.{byte}
+use Rattle.unix_path.specs.Parts.{is_rooted, values}
+use Rattle.path_within.specs.Escapes.{has_root_or_parent_dir}
+use Rattle.upath_commands.specs.Escaping.{escapes}
+use Rattle.upath_commands.specs.Invocations.{CommandValue, Parent, Name, Stem, Extension}
+use Rattle.upath_commands.specs.Invocations.{Join, Strip, Relative}
+use Rattle.upath_commands.specs.declared.command.JoinRule.{JoinRule}
+use Rattle.upath_commands.specs.declared.command.JoinRule.TheVariants.{Beneath, Verbatim}
+use Rattle.upath_commands.specs.declared.command.Settings.{Settings}
+
+-- why the rule refuses p
+abbrev pub join_reason : JoinRule → List ℕ → List ℕ
+join_reason Beneath p =
+    if is_rooted p then codes "has a root"
+    else (if escapes p then codes "leaves its root" else codes "has a NUL byte")
+join_reason Verbatim p =
+    if is_rooted p then codes "has a root"
+    else (if has_root_or_parent_dir (values p) then codes "has a .." else codes "has a NUL byte")
+join_reason _ p = codes "has a NUL byte"
+
+-- why the command has no answer to p; none if it always has one, or if a missing one is the answer
+abbrev pub reason_of : CommandValue → List ℕ → Option (List ℕ)
+reason_of Parent p = Some (codes "no parent")
+reason_of Name p = Some (codes "no file name")
+reason_of Stem p = Some (codes "no file name")
+reason_of Extension p = Some (codes "no extension")
+reason_of (Join rule root) p = Some (join_reason rule p)
+reason_of (Strip base) p = Some (codes "doesn't start with the base")
+reason_of (Relative from) p = Some (codes "no relative path")
+reason_of command p = None
+
+-- the line for this path and this reason
+abbrev pub reason_line : List ℕ → Option (List ℕ) → List ℕ
+reason_line p None = []
+reason_line p (Some reason) = codes "upath: " ++ (p ++ (codes ": " ++ (reason ++ byte "\n" ∷ [])))
+
+-- what is said of a path without an answer
+abbrev pub refusal_of : CommandValue → Settings → List ℕ → List ℕ
+refusal_of command settings p =
+    if settings.quiet then [] else reason_line p (reason_of command p)

@@ -1,0 +1,167 @@
+//! The options and the commands: their names, and which command has which option.
+ghost use Rattle.std.specs.Prelude.{◌≡◌};
+ghost use Rattle.std.specs.Str.{bytes_eq};
+ghost use Rattle.upath_commands.specs.Options.{has_option, option_by_letter, option_by_name};
+ghost use Rattle.upath_commands.specs.Options.{same_option, verb_by_name};
+
+/// An option.
+///
+/// `-z` and `--null` are both `Flag::Null`.
+#[derive(Clone, Copy, PartialEq, Eq)]
+pub enum Flag {
+    /// `-z` or `--null`.
+    Null,
+    /// `-p` or `--pair`.
+    Pair,
+    /// `-q` or `--quiet`.
+    Quiet,
+    /// `--line-buffered`.
+    LineBuffered,
+    /// `--help`.
+    Help,
+    /// `--version`.
+    Version,
+    /// `-b`.
+    FromBack,
+    /// `--beneath`.
+    Beneath,
+    /// `--in-root`.
+    InRoot,
+    /// `--verbatim`.
+    Verbatim,
+    /// `--from`, which takes a value.
+    From,
+    /// `-v`.
+    Inverted,
+    /// `--reason`.
+    Reason,
+    /// `--strip`.
+    Strip,
+    /// `--by-parts`.
+    ByParts,
+}
+
+/// A command, without its options and operands.
+///
+/// `ext` is `Verb::Extension`.
+#[derive(Clone, Copy, PartialEq, Eq)]
+pub enum Verb {
+    /// `canon`.
+    Canon,
+    /// `resolve`.
+    Resolve,
+    /// `parent`.
+    Parent,
+    /// `name`.
+    Name,
+    /// `stem`.
+    Stem,
+    /// `ext`.
+    Extension,
+    /// `parts`.
+    Parts,
+    /// `join`.
+    Join,
+    /// `strip`.
+    Strip,
+    /// `relative`.
+    Relative,
+    /// `escapes`.
+    Escapes,
+    /// `under`.
+    Under,
+    /// `equal`.
+    Equal,
+}
+
+/// Returns the option with this letter, or `None` if no option has it.
+///
+/// For `b'z'` it is `Flag::Null`.
+pub fn option_by_letter(letter: u8) -> Option<Flag>
+    ensures { result ≡ option_by_letter letter }
+{
+    match letter {
+        b'z' => Some(Flag::Null),
+        b'p' => Some(Flag::Pair),
+        b'q' => Some(Flag::Quiet),
+        b'b' => Some(Flag::FromBack),
+        b'v' => Some(Flag::Inverted),
+        _ => None,
+    }
+}
+
+/// Returns true if and only if the bytes are this name.
+///
+/// `is(b"--", b"--")` is true.
+pub fn is(bytes: &[u8], name: &[u8]) -> bool
+    ensures { result ≡ bytes_eq bytes.now name.now }
+{
+    bytes == name
+}
+
+/// Returns the option with this long name, or `None` if no option has it. A name that is cut short
+/// is another name.
+///
+/// For `null` it is `Flag::Null`, and for `nul` there is none.
+pub fn option_by_name(name: &[u8]) -> Option<Flag>
+    ensures { result ≡ option_by_name name.now }
+{
+    match () {
+        _ if is(name, b"null") => Some(Flag::Null),
+        _ if is(name, b"pair") => Some(Flag::Pair),
+        _ if is(name, b"quiet") => Some(Flag::Quiet),
+        _ if is(name, b"line-buffered") => Some(Flag::LineBuffered),
+        _ if is(name, b"help") => Some(Flag::Help),
+        _ if is(name, b"version") => Some(Flag::Version),
+        _ if is(name, b"beneath") => Some(Flag::Beneath),
+        _ if is(name, b"in-root") => Some(Flag::InRoot),
+        _ if is(name, b"verbatim") => Some(Flag::Verbatim),
+        _ if is(name, b"from") => Some(Flag::From),
+        _ if is(name, b"reason") => Some(Flag::Reason),
+        _ if is(name, b"strip") => Some(Flag::Strip),
+        _ if is(name, b"by-parts") => Some(Flag::ByParts),
+        _ => None,
+    }
+}
+
+/// Returns the command with this name, or `None` if no command has it.
+///
+/// For `ext` it is `Verb::Extension`.
+pub fn verb_by_name(name: &[u8]) -> Option<Verb>
+    ensures { result ≡ verb_by_name name.now }
+{
+    match () {
+        _ if is(name, b"canon") => Some(Verb::Canon),
+        _ if is(name, b"resolve") => Some(Verb::Resolve),
+        _ if is(name, b"parent") => Some(Verb::Parent),
+        _ if is(name, b"name") => Some(Verb::Name),
+        _ if is(name, b"stem") => Some(Verb::Stem),
+        _ if is(name, b"ext") => Some(Verb::Extension),
+        _ if is(name, b"parts") => Some(Verb::Parts),
+        _ if is(name, b"join") => Some(Verb::Join),
+        _ if is(name, b"strip") => Some(Verb::Strip),
+        _ if is(name, b"relative") => Some(Verb::Relative),
+        _ if is(name, b"escapes") => Some(Verb::Escapes),
+        _ if is(name, b"under") => Some(Verb::Under),
+        _ if is(name, b"equal") => Some(Verb::Equal),
+        _ => None,
+    }
+}
+
+/// Returns true if and only if the command has the option.
+///
+/// `Verb::Parts` has `Flag::FromBack`, and no other command has.
+pub fn has_option(verb: Verb, option: Flag) -> bool
+    ensures { result ≡ has_option verb option }
+{
+    match option {
+        Flag::FromBack => matches!(verb, Verb::Parts),
+        Flag::Beneath | Flag::InRoot | Flag::Verbatim => matches!(verb, Verb::Join),
+        Flag::From => matches!(verb, Verb::Relative),
+        Flag::Inverted => matches!(verb, Verb::Escapes | Verb::Under),
+        Flag::Reason => matches!(verb, Verb::Escapes),
+        Flag::Strip | Flag::ByParts => matches!(verb, Verb::Under),
+        Flag::Null | Flag::Pair | Flag::Quiet | Flag::LineBuffered => true,
+        Flag::Help | Flag::Version => true,
+    }
+}

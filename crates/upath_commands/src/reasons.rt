@@ -1,0 +1,59 @@
+//! Why a path has no answer.
+ghost use Rattle.std.specs.Prelude.{◌≡◌, ◌++◌, OnOk, option_map};
+ghost use Rattle.upath_commands.specs.Invocations.{command_value};
+ghost use Rattle.upath_commands.specs.Refusals.{join_reason, reason_line, reason_of};
+
+use crate::command::{Command, JoinRule};
+use crate::escapes::escapes;
+use path_within::within::has_root_or_parent_dir;
+use std::alloc::AllocError;
+use unix_path::Path;
+
+// Returns why a path is refused that the rule refuses.
+fn join_reason(rule: JoinRule, path: Path<'_>) -> &'static [u8]
+    ensures { result.now ≡ join_reason rule path.entry.bytes.now }
+{
+    match rule {
+        JoinRule::Beneath if path.has_root() => b"has a root",
+        JoinRule::Beneath if escapes(path) => b"leaves its root",
+        JoinRule::Verbatim if path.has_root() => b"has a root",
+        JoinRule::Verbatim if has_root_or_parent_dir(path) => b"has a ..",
+        _ => b"has a NUL byte",
+    }
+}
+
+// Returns why a path has no answer that has none.
+pub(crate) fn reason_of(command: Command<'_>, path: Path<'_>) -> Option<&'static [u8]>
+    ensures { option_map (λ reason. reason.now) result
+        ≡ reason_of (command_value command.entry) path.entry.bytes.now }
+{
+    match command {
+        Command::Parent => Some(b"no parent"),
+        Command::Name | Command::Stem => Some(b"no file name"),
+        Command::Extension => Some(b"no extension"),
+        Command::Join(rule, _) => Some(join_reason(rule, path)),
+        Command::Strip(_) => Some(b"doesn't start with the base"),
+        Command::Relative(_) => Some(b"no relative path"),
+        _ => None,
+    }
+}
+
+// Appends the line for a path and a reason.
+pub(crate) fn push_reason(
+    path: Path<'_>,
+    reason: Option<&[u8]>,
+    out: &mut Vec<u8>,
+) -> Result<(), AllocError>
+    ensures { OnOk result (out.new.items ≡ out.old.items
+        ++ reason_line path.entry.bytes.now (option_map (λ reason. reason.now) reason.entry)) }
+{
+    let Some(reason) = reason else {
+        return Ok(());
+    };
+    out.extend_from_slice(b"upath: ")?;
+    out.extend_from_slice(path.bytes)?;
+    out.extend_from_slice(b": ")?;
+    out.extend_from_slice(reason)?;
+    out.push(b'\n')?;
+    Ok(())
+}

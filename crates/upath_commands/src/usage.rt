@@ -1,0 +1,82 @@
+//! Wrong usage: lists of arguments without a meaning.
+ghost use Rattle.std.specs.Prelude.{◌≡◌, ◌++◌, OnOk};
+ghost use Rattle.upath_commands.specs.Invocations.{usage_value};
+ghost use Rattle.upath_commands.specs.Usage.{usage_line, usage_text};
+
+use std::alloc::AllocError;
+use unix_path::Path;
+
+/// What is wrong with a list of arguments.
+///
+/// `upath cannon` is an `UnknownCommand`.
+#[derive(Clone, Copy, Debug, PartialEq, Eq)]
+pub enum UsageErrorKind {
+    /// There is no operand, and so no command. The error's argument is empty.
+    MissingCommand,
+    /// The first operand, which is the error's argument, is not the name of a command.
+    UnknownCommand,
+    /// The command doesn't have this option, or no command has it.
+    UnknownOption,
+    /// The last argument is this option, which needs a value.
+    MissingValue,
+    /// This argument gives a value to an option that takes none.
+    UnexpectedValue,
+    /// Two options of this command contradict each other.
+    ContradictoryOptions,
+    /// This command needs the operand ROOT.
+    MissingRoot,
+    /// This command needs the operand BASE.
+    MissingBase,
+    /// This command needs the option `--from`.
+    MissingFrom,
+    /// This command needs two operands.
+    MissingPair,
+    /// The command has this operand too many.
+    UnexpectedOperand,
+    /// This operand has a newline, although newlines end the records.
+    NewlineInOperand,
+}
+
+/// Wrong usage: its kind, and the argument that it is about.
+///
+/// For `upath canon --nul` the argument is `--nul`, and for `upath join` it is `join`.
+#[derive(Clone, Copy)]
+pub struct UsageError<'a> {
+    /// What is wrong.
+    pub kind: UsageErrorKind,
+    /// The argument, with its dashes and its value, or only the letter of a short option.
+    pub argument: Path<'a>,
+}
+
+// Returns what is wrong with the argument of wrong usage.
+fn usage_text(kind: UsageErrorKind) -> &'static [u8]
+    ensures { result.now ≡ usage_text kind }
+{
+    match kind {
+        UsageErrorKind::MissingCommand => b"no command",
+        UsageErrorKind::UnknownCommand => b"unknown command",
+        UsageErrorKind::UnknownOption => b"unknown option",
+        UsageErrorKind::MissingValue => b"needs a value",
+        UsageErrorKind::UnexpectedValue => b"takes no value",
+        UsageErrorKind::ContradictoryOptions => b"options contradict each other",
+        UsageErrorKind::MissingRoot => b"needs ROOT",
+        UsageErrorKind::MissingBase => b"needs BASE",
+        UsageErrorKind::MissingFrom => b"needs --from=DIR",
+        UsageErrorKind::MissingPair => b"needs two paths",
+        UsageErrorKind::UnexpectedOperand => b"one operand too many",
+        UsageErrorKind::NewlineInOperand => b"has a newline, which needs -z",
+    }
+}
+
+// Appends the line for wrong usage.
+pub(crate) fn push_usage(error: UsageError<'_>, out: &mut Vec<u8>) -> Result<(), AllocError>
+    ensures { OnOk result (out.new.items
+        ≡ out.old.items ++ usage_line (usage_value error.entry)) }
+{
+    out.extend_from_slice(b"upath: ")?;
+    out.extend_from_slice(usage_text(error.kind))?;
+    out.extend_from_slice(b": ")?;
+    out.extend_from_slice(error.argument.bytes)?;
+    out.extend_from_slice(b"\nTry 'upath --help'.\n")?;
+    Ok(())
+}

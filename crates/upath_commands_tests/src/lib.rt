@@ -1,0 +1,5 @@
+//! Tests of upath_commands, in a crate of their own: a crate with tests is proved twice.
+#![tactic(auto)]
+
+#[cfg(test)]
+mod arguments;
