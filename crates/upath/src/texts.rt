@@ -44,6 +44,13 @@ Exit status:\n\
 \n\
 `upath COMMAND --help` shows the options of a command, and an example.\n";
 
+/// What `--version` prints.
+pub const VERSION: &[u8] = b"\
+upath 1.1.0\n\
+\n\
+Proved: for all arguments and all input, what is written and the exit status are\n\
+those of the definitions in crates/upath_commands/specs.\n";
+
 const CANON: &[u8] = b"\
 Usage: upath canon [OPTION]... [--] [PATH]...\n\
 \n\
@@ -207,10 +214,6 @@ Example:\n\
 \x20 equal\n\
 \n\
 `upath --help` shows the options of every command.\n";
-
-/// What `--version` prints.
-pub const VERSION: &[u8] = b"\
-upath 1.1.0\n";
 
 /// Returns the help text of a command, or for `None` that of the program.
 pub fn help_of(verb: Option<Verb>) -> &'static [u8] {
