@@ -21,7 +21,7 @@ rest_after-is (Ok rest) base p h e =
 rest_after-is (Err error) base p h e =
     by_test (starts_with same_value (values p) (values base))
     (λ t. absurd (true≢false
-        (sym (h.1 ((starts_with-Decides (values p) (values base)).0 t)))))
+    (sym (h.1 ((starts_with-Decides (values p) (values base)).0 t)))))
     (λ t. rw t refl)
 
 -- what a call returned for what follows the base

@@ -318,14 +318,11 @@ pub fn argument_paths(alloc: Global, arguments: &[Vec<u8>]) -> Result<Vec<Path<'
 /// `--help` shows the help text of this command. Fails only if an allocation fails.
 ///
 /// For `--help` and `canon` it is `Verb::Canon`.
-pub fn command_asked(
-    alloc: Global,
-    arguments: &[Path<'_>],
-) -> Result<Option<Verb>, AllocError>
+pub fn command_asked(alloc: Global, arguments: &[Path<'_>]) -> Result<Option<Verb>, AllocError>
     ensures { IfOk result (λ found. found ≡ verb_asked (map path_bytes arguments.now)) }
 {
-    let items = items_of(alloc, arguments)?;
-    let operands = operands_in(alloc, items.as_slice())?;
+    let shown = items_of(alloc, arguments)?;
+    let operands = operands_in(alloc, shown.as_slice())?;
     match operands.as_slice() {
         [name, ..] => Ok(verb_by_name(name.bytes)),
         [] => Ok(None),

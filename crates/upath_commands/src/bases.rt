@@ -82,10 +82,7 @@ fn push_passed(
     match rest {
         None if options.inverted => push_answer(path, path.bytes, settings, out),
         Some(rest) if !options.inverted && options.stripped => push_answer(
-            path,
-            rest.bytes,
-            settings,
-            out,
+            path, rest.bytes, settings, out,
         ),
         Some(_) if !options.inverted => push_answer(path, path.bytes, settings, out),
         _ => Ok(true),

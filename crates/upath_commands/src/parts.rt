@@ -38,7 +38,12 @@ pub(crate) fn push_parts(
     ensures { Pushes result out.old.items out.new.items settings path.entry.bytes.now
         (part_bytes path.entry.bytes.now) true }
 {
-    push_each(path.components().map(Component::as_unix_str), path, settings, out)?;
+    push_each(
+        path.components().map(Component::as_unix_str),
+        path,
+        settings,
+        out,
+    )?;
     Ok(true)
 }
 

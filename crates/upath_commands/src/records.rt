@@ -15,11 +15,7 @@ use unix_path::Path;
 
 // Reads a record and the byte that ends it, if any, into an empty buffer. The buffer stays empty at
 // the end of the input.
-fn read_record<R: BufRead>(
-    reader: &mut R,
-    end: u8,
-    bytes: &mut Vec<u8>,
-) -> Result<(), RunError>
+fn read_record<R: BufRead>(reader: &mut R, end: u8, bytes: &mut Vec<u8>) -> Result<(), RunError>
     ensures record { OnOk result (IfSome (R.remaining reader.old) (λ input.
         bytes.new.items ≡ take_through end input)) }
     ensures rest { OnOk result (DropsThrough (R.remaining reader.old)

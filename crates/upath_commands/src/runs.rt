@@ -49,7 +49,8 @@ fn run_each<R: BufRead, W: Write, E: Write>(
         OnOk result (IfSome (input_read paths (R.remaining reader.old)) (λ input.
         Appends (W.contents (written_to output.old)) (W.contents (written_to output.new))
         (unwritten output.old
-        ++ each_output (command_value command.entry) settings (paths_asked settings paths input)))) }
+        ++ each_output (command_value command.entry) settings
+        (paths_asked settings paths input)))) }
     ensures answered { let paths = paths_of operands.now in
         IfOk result (λ are_answered. IfSome (input_read paths (R.remaining reader.old))
         (λ input. are_answered ≡ list_all (is_answered (command_value command.entry))
@@ -64,7 +65,8 @@ fn run_each<R: BufRead, W: Write, E: Write>(
         OnErr result (IfSome (input_read paths (R.remaining reader.old)) (λ input.
         AppendsPrefix (W.contents (written_to output.old)) (W.contents (written_to output.new))
         (unwritten output.old
-        ++ each_output (command_value command.entry) settings (paths_asked settings paths input)))) }
+        ++ each_output (command_value command.entry) settings
+        (paths_asked settings paths input)))) }
 {
     let task = Task { command, settings };
     output.buffer_lines(settings.line_buffered);

@@ -11,9 +11,7 @@ use crate::bases::{push_relative, push_stripped, push_under};
 use crate::command::{Command, Settings};
 use crate::escapes::push_escaping;
 use crate::joins::push_join;
-use crate::names::{
-    push_canon, push_extension, push_name, push_parent, push_resolved, push_stem,
-};
+use crate::names::{push_canon, push_extension, push_name, push_parent, push_resolved, push_stem};
 use crate::parts::{push_parts, push_parts_from_back};
 use crate::reasons::{push_reason, reason_of};
 use std::alloc::AllocError;

@@ -50,7 +50,7 @@ goes_above-from : (vs : List Value) → GoesAbove vs → goes_above vs ≡ true
 goes_above-from vs (n, h) =
     by_test (nat_lt (length vs) n)
     (λ e. goes_above-at vs (length vs) (omega arith)
-        (rw (take_all (length vs) vs (omega arith)) (rw (take_all n vs (past e)) at is)))
+    (rw (take_all (length vs) vs (omega arith)) (rw (take_all n vs (past e)) at is)))
     (λ e. goes_above-at vs n (short e) is)
   where
     is : above_at vs n ≡ true

@@ -1,5 +1,6 @@
 -- The answers to paths, one after the other.
-use Rattle.std.proofs.Common.{◌≡◌, ℕ, ◌+◌, ◌<◌, Bool, true, false, ◌&&◌, List, [], ◌∷◌, ◌++◌, length}
+use Rattle.std.proofs.Common.{◌≡◌, ℕ, ◌+◌, ◌<◌, Bool, true, false, ◌&&◌, List, [], ◌∷◌, ◌++◌}
+use Rattle.std.proofs.Common.{length}
 use Rattle.std.proofs.Common.{Option, Some, None, IfSome, refl, sym, ap, ◌∙◌, subst, append_assoc}
 use Rattle.std.proofs.Common.{append-nil, drop, get_or}
 use Rattle.std.proofs.lemmas.List.{at_drop_more}
@@ -192,15 +193,15 @@ module _ (m : Model) (end : ℕ) (known now : Option (List ℕ)) (old new : Stre
   Answers-next next after path is both h read l p drops emits tells i b =
       (elim known as (λ known. Answers m end known now old new are
       → Answers m end known next old after both) [
-          None ↦ λ h. tt
+        | None ↦ λ h. tt
         | Some input ↦ λ h. let (left, e, so_far) = h in (
-            drop_through end left,
-            at_some (λ xs. next ≡ Some (drop_through end xs)) now left e drops,
-            Progress-next m (records_of end input) old new are path
-                (records_of end (drop_through end left)) after is both
-                (subst (λ records. Progress m (records_of end input) records old new are)
-                (next_record end now bytes path left e read l p) so_far) emits tells i b,
-          )
+          drop_through end left,
+          at_some (λ xs. next ≡ Some (drop_through end xs)) now left e drops,
+          Progress-next m (records_of end input) old new are path
+              (records_of end (drop_through end left)) after is both
+              (subst (λ records. Progress m (records_of end input) records old new are)
+              (next_record end now bytes path left e read l p) so_far) emits tells i b,
+        )
       ]) h
 
   -- the answer to the next record fails
@@ -213,7 +214,7 @@ module _ (m : Model) (end : ℕ) (known now : Option (List ℕ)) (old new : Stre
       (elim known as (λ known. Answers m end known now old new are
       → IfSome known (λ input. EmitsPrefix old.written after old.buffer
       (outputs_of m.output (records_of end input)))) [
-          None ↦ λ h. tt
+        | None ↦ λ h. tt
         | Some input ↦ λ h. let (left, e, so_far) = h in
             Progress-fail m (records_of end input) old new are path
             (records_of end (drop_through end left)) after
@@ -227,7 +228,7 @@ module _ (m : Model) (end : ℕ) (known now : Option (List ℕ)) (old new : Stre
   Answers-end h read none =
       (elim known as (λ known. Answers m end known now old new are
       → IfSome known (λ input. Progress m (records_of end input) [] old new are)) [
-          None ↦ λ h. tt
+        | None ↦ λ h. tt
         | Some input ↦ λ h. let (left, e, so_far) = h in
             subst (λ records. Progress m (records_of end input) records old new are)
             (no_record end now bytes left e read none) so_far

@@ -98,7 +98,8 @@ unfolding records_of
 of_cut end xs l (inl (t, d, s, a)) =
     ap without_empty_last s ∙ whole_record xs (rw t at l)
     ∙ ap (λ p. p ∷ []) (sym (ap (strip_last end) t ∙ strip_last-whole end xs a))
-    ∙ ap (λ r. strip_last end (take_through end xs) ∷ without_empty_last (slice_split (is_end end) r))
+    ∙ ap (λ r. strip_last end (take_through end xs) ∷ without_empty_last (slice_split
+    (is_end end) r))
     (sym d)
 of_cut end xs l (inr (ys, t, s)) =
     let rest = drop_through end xs in

@@ -1,5 +1,6 @@
 -- The paths that are asked for.
-use Rattle.std.proofs.Common.{◌≡◌, ℕ, ◌<◌, Bool, List, [], ◌∷◌, ◌++◌, length, Option, IfSome, Result}
+use Rattle.std.proofs.Common.{◌≡◌, ℕ, ◌<◌, Bool, List, [], ◌∷◌, ◌++◌, length, Option, IfSome}
+use Rattle.std.proofs.Common.{Result}
 use Rattle.std.proofs.Common.{Ok, Err, OnOk, OnErr, IfOk, subst, arith}
 use Rattle.std.specs.List.{list_all}
 use Rattle.unix_path.specs.declared.path.Path.{Path}
@@ -15,14 +16,16 @@ use Rattle.upath_commands.specs.Runs.{each_output, each_refusals, input_read, pa
 asked_input : (P : List (List ℕ) → Type 0) (settings : Settings) (operands : List Path)
     (known : Option (List ℕ)) (end : ℕ) → operands ≡ [] → end ≡ end_of settings
     → IfSome known (λ input. P (records_of end input))
-    → IfSome (input_read (paths_of operands) known) (λ input. P (paths_asked settings (paths_of operands) input))
+    → IfSome (input_read (paths_of operands) known) (λ input. P (paths_asked settings
+    (paths_of operands) input))
 asked_input P settings operands known end e d h =
     rw e (subst (λ end. IfSome known (λ input. P (records_of end input))) d h)
 
 -- with operands, what holds of them holds of the paths asked for
 asked_operands : (P : List (List ℕ) → Type 0) (settings : Settings) (operands : List Path)
     (known : Option (List ℕ)) → 0 < length operands → P (paths_of operands)
-    → IfSome (input_read (paths_of operands) known) (λ input. P (paths_asked settings (paths_of operands) input))
+    → IfSome (input_read (paths_of operands) known) (λ input. P (paths_asked settings
+    (paths_of operands) input))
 asked_operands P settings [] known l h = absurd (omega arith)
 asked_operands P settings (path ∷ paths) known l h = h
 
@@ -46,7 +49,8 @@ module _ {E : Type 0} (r : Result Bool E) (command : CommandValue) (settings : S
       → IfOk r (λ are. IfSome known
       (λ input. are ≡ list_all (is_answered command) (records_of end input)))
       → IfOk r (λ are. IfSome (input_read (paths_of operands) known)
-      (λ input. are ≡ list_all (is_answered command) (paths_asked settings (paths_of operands) input)))
+      (λ input. are ≡ list_all (is_answered command) (paths_asked settings
+      (paths_of operands) input)))
   answered_input end e d h =
       if_ok r (λ are k. asked_input (λ paths. are ≡ list_all (is_answered command) paths) settings
       operands known end e d k) h
@@ -54,7 +58,8 @@ module _ {E : Type 0} (r : Result Bool E) (command : CommandValue) (settings : S
   pub answered_operands : 0 < length operands
       → IfOk r (λ are. are ≡ list_all (is_answered command) (paths_of operands))
       → IfOk r (λ are. IfSome (input_read (paths_of operands) known)
-      (λ input. are ≡ list_all (is_answered command) (paths_asked settings (paths_of operands) input)))
+      (λ input. are ≡ list_all (is_answered command) (paths_asked settings
+      (paths_of operands) input)))
   answered_operands l h =
       if_ok r (λ are k. asked_operands (λ paths. are ≡ list_all (is_answered command) paths)
       settings operands known l k) h

@@ -11,5 +11,6 @@ returns-then-not-first-clause-none c = λ _.
 
 pub returns-clause-none : goal.returns-clause-none
 returns-clause-none c = λ _.
-    no_mark c.args.first c.args.mark c.if-mark-eq-PARENT_DIR_MARK.false (λ yes. c.if-mark-eq-ROOT_MARK.false)
+    no_mark c.args.first c.args.mark c.if-mark-eq-PARENT_DIR_MARK.false
+    (λ yes. c.if-mark-eq-ROOT_MARK.false)
     (λ yes. c.if-mark-eq-CUR_DIR_MARK.false)

@@ -17,12 +17,14 @@ lane_recoded : (how : Recoding) (x : ℕ)
     → cond (top 7 (lane (eqb x how.separator))) how.new_separator
     (cond (top 7 (lane (ltb x how.below))) ((x + how.shift) % 256) x) ≡ recoded how x
 lane_recoded how x =
-    ap₂ (λ a b. cond a how.new_separator (cond b ((x + how.shift) % 256) x)) (top_lane (eqb x how.separator))
+    ap₂ (λ a b. cond a how.new_separator (cond b ((x + how.shift) % 256) x)) (top_lane
+    (eqb x how.separator))
     (top_lane (ltb x how.below))
 
 -- in the lanes of the bytes xs, the code computes the bytes xs, recoded
 selected : (how : Recoding) (xs : List ℕ)
-    → sel_l (map (top 7) (map (λ x. lane (eqb x how.separator)) xs)) (map (λ _. how.new_separator) xs)
+    → sel_l (map (top 7) (map (λ x. lane (eqb x how.separator)) xs)) (map
+    (λ _. how.new_separator) xs)
     (sel_l (map (top 7) (map (λ x. lane (ltb x how.below)) xs))
     (map (λ x. (x + how.shift) % 256) xs) xs)
     ≡ map (recoded how) xs

@@ -1,7 +1,8 @@
 -- The walk that finds the children of a base: how far it has come, and each of its steps.
 use Rattle.std.proofs.Common.{◌≡◌, ◌∙◌, ◌&&◌, ◌<◌, ℕ, Bool, true, false, cond, List, []}
 use Rattle.std.proofs.Common.{◌∷◌, ◌++◌, Some, None, Option, Ordering, Less, Equal, Greater, IfSome}
-use Rattle.std.proofs.Common.{ap, append_assoc, append-nil, arith, eqb, is_le, length, length-append}
+use Rattle.std.proofs.Common.{ap, append_assoc, append-nil, arith, eqb, is_le, length}
+use Rattle.std.proofs.Common.{length-append}
 use Rattle.std.proofs.Common.{⊎_elim, ap₂, not, refl, subst, subst₂, sym}
 use Rattle.std.proofs.lemmas.Bool.Decides.{nat_tests}
 use Rattle.std.proofs.lemmas.Cmp.{nat_list_cmp_total, tied_itself}

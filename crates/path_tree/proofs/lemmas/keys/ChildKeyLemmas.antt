@@ -1,7 +1,8 @@
 -- A key that is longer than a base that it starts with: its prefix with one code more than the base
 -- is a key too.
 use Rattle.std.proofs.Common.{◌≡◌, ◌≢◌, ◌∙◌, ◌≤◌, ◌<◌, ◌+◌, ℕ, Bool, true, false, List, [], ◌∷◌}
-use Rattle.std.proofs.Common.{◌++◌, ap, ap₂, arith, append_assoc, append-nil, drop, eqb, eqb-true, length}
+use Rattle.std.proofs.Common.{◌++◌, ap, ap₂, arith, append_assoc, append-nil, drop, eqb, eqb-true}
+use Rattle.std.proofs.Common.{length}
 use Rattle.std.proofs.Common.{length-append, length-drop, map, refl, subst, sym, take, take_at}
 use Rattle.std.proofs.Math.Seq.{take-add}
 use Rattle.std.proofs.lemmas.Bool.{eqb-false}

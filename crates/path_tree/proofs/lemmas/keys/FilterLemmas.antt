@@ -152,8 +152,8 @@ module _ {K V : Type 0} (bytes_of : K → List ℕ) (test : List ℕ → Bool) (
   lookup-filtered entries all =
       lookup-fails entries (recursion_from_All (λ k. test (bytes_of k) ≡ true) _ all)
 
--- the filter `has` has the keys of all entries before the rest `remaining`: each filter that has all
--- keys of `has` and the keys of `remaining` has the keys of all entries
+-- the filter `has` has the keys of all entries before the rest `remaining`: each filter that has
+-- all keys of `has` and the keys of `remaining` has the keys of all entries
 abbrev pub FiltersRest : {K V : Type 0} → (K → List ℕ) → (List ℕ → Bool) → List (K × V)
     → List (K × V) → Type 0
 FiltersRest bytes_of has remaining all = (more : List ℕ → Bool)

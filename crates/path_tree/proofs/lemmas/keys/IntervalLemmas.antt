@@ -1,5 +1,6 @@
 -- Bytes that are between a base and bytes that start with the base also start with the base.
-use Rattle.std.proofs.Common.{◌≡◌, ◌∙◌, ℕ, true, eqb, List, Option, Some, None, Ordering, Less, Equal}
+use Rattle.std.proofs.Common.{◌≡◌, ◌∙◌, ℕ, true, eqb, List, Option, Some, None, Ordering, Less}
+use Rattle.std.proofs.Common.{Equal}
 use Rattle.std.proofs.Common.{Greater, IfSome, is_le, refl}
 use Rattle.std.specs.Cmp.Lexicographic.{nat_list_cmp_total}
 use Rattle.std.specs.List.{starts_with}

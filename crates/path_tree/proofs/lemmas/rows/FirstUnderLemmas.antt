@@ -55,7 +55,8 @@ module _ {V : Type 0} (base : List ℕ) where
     -- `rest` is the entries whose keys are not less than base
     rest_is : rest ≡ filter (λ e. is_from base e.0) entries
     rest_is =
-        is ∙ filter_alike (λ k. is_from base k && true) (is_from base) (λ k. and-true (is_from base k)) entries
+        is ∙ filter_alike (λ k. is_from base k && true) (is_from base) (λ k. and-true
+        (is_from base k)) entries
 
     -- `rest` has all entries under base
     pub under-rest : entries_under base (key_entries rest)

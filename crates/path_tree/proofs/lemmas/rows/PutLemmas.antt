@@ -25,7 +25,8 @@ pub record PutsLast {V : Type 0} (all : List (Key × V)) (old : List (List Value
   pub rows : new ≡ rows_with old (key_rows done)
 
 module _ {V : Type 0} (all : List (Key × V)) (old : List (List Value × V)) where
-  module _ (remaining : List (Key × V)) (new : List (List Value × V)) (h : PutsLast all old remaining new)
+  module _ (remaining : List (Key × V)) (new : List (List Value
+      × V)) (h : PutsLast all old remaining new)
       (others : List (Key × V)) (k : Key) (x : V) (is : remaining ≡ others ++ (k, x) ∷ []) where
     -- if all keys are keys of paths, so is k, the last key of `remaining`
     pub one_own : Own (λ (k : Key). k.items) all → is_own k.items ≡ true
@@ -35,7 +36,8 @@ module _ {V : Type 0} (all : List (Key × V)) (old : List (List Value × V)) whe
         (all_own (λ k. k.items) all own))).0
 
   -- the entries that were inserted are the last of the entries `all`
-  pub puts_end : (remaining : List (Key × V)) (new : List (List Value × V)) → PutsLast all old remaining new
+  pub puts_end : (remaining : List (Key × V)) (new : List (List Value × V))
+      → PutsLast all old remaining new
       → (front : List (List Value × V)) × ((last : List (List Value × V))
       × (key_rows all ≡ front ++ last) × (new ≡ rows_with old last))
   puts_end remaining new h = (

@@ -96,7 +96,8 @@ module _ {V : Type 0} (entries : List (Key × V)) (items : List (Path × V))
 
   -- if `entries` are listed for `items`, the next item has the path `path`, and its key k isn't
   -- greater than the last key of the entries, the paths of the iterator's items stop rising there
-  pub stops : {S : Type 0} (steps : S → Option (Path × V) → S → Type 0) (all : S) (x : V) (after : S)
+  pub stops : {S : Type 0} (steps : S → Option (Path × V) → S
+      → Type 0) (all : S) (x : V) (after : S)
       → YieldsThen steps all items (Some (path, x)) after → (t : Bool) → t ≡ false
       → (entries ≡ [] → t ≡ true)
       → ((front : List (Key × V)) (last : Key × V) → entries ≡ front ++ last ∷ []

@@ -20,6 +20,6 @@ loop-index-preserved g c =
     c.in_ok-is_answered.ensures.ok c.in_ok-is_answered.ensures.told
     c.in_ok-is_answered.ensures.answered
     (elim c.if-are_answered.branch [
-        then-are_answered w ↦ search rules
+      | then-are_answered w ↦ search rules
       | else-are_answered w ↦ search rules
     ])

@@ -18,7 +18,8 @@ loop-key-preserved g c =
       tt,
       filters_more (λ (k : Key). k.items) (may_contain c.loop-key.filter) new e rest all
           (subst
-          (λ remaining. FiltersRest (λ (k : Key). k.items) (may_contain c.loop-key.filter) remaining all)
+          (λ remaining. FiltersRest (λ (k : Key). k.items)
+          (may_contain c.loop-key.filter) remaining all)
           steps c.loop-key.invariant.2)
           (ap new (sym c.as_slice.ensures.value) ∙ c.insert.ensures.contained)
           c.insert.ensures.kept,

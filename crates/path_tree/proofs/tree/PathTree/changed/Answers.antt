@@ -133,7 +133,8 @@ returns-clause-ordered g c =
     let tree = c.args.self.now in
     let other = entries_of c.args.other.now in
     let eq = g.V.PartialEq.eq in
-    let all : map borrowed_both c.loop-key.found.items ≡ entries_changed eq other (entries_of tree) =
+    let all : map borrowed_both c.loop-key.found.items ≡ entries_changed eq other
+    (entries_of tree) =
     search rules in
     subst (IsStrictlySortedBy bytes_cmp) (sym (both_keys-lent c.loop-key.found.items))
     (subst (λ l. IsStrictlySortedBy bytes_cmp (both_keys l)) (sym all)

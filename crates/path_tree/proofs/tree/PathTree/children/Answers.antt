@@ -30,7 +30,8 @@ pub loop-key-init : goal.loop-key-init
 loop-key-init g c =
     let tree = c.args.self.now in
     let base = c.vec_of-base.result.now.items in
-    subst (λ l. FindsChildren base tree.entries.entries _ c.range-rest.result (map borrowed_child l))
+    subst (λ l. FindsChildren base tree.entries.entries _ c.range-rest.result
+    (map borrowed_child l))
     (sym c.new-found.ensures.items)
     (starts base tree.entries.entries c.range-rest.ensures.ordered c.range-rest.result
     (c.range-rest.ensures.between tt))

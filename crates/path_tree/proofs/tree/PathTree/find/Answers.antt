@@ -8,4 +8,5 @@ returns g c =
     let tree = c.args.self.now in
     let key = c.args.key.now in
     c.get.ensures.value
-    ∙ lookup-rows_by (λ k. k.items) key _ (own-represents key c.requires) tree.entries.entries tree.own
+    ∙ lookup-rows_by (λ k. k.items) key _
+    (own-represents key c.requires) tree.entries.entries tree.own

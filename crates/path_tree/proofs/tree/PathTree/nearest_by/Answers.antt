@@ -26,8 +26,11 @@ pub rest_after-requires-clause-base : goal.rest_after-requires-clause-base
 rest_after-requires-clause-base g c =
     let s = c.args.path.bytes.now in
     let whole = c.as_path-whole.ensures.bytes ∙ c.components-parts.ensures.rest in
-    let is = c.loop-value.invariant.prefix_is in
-    (is.0, c.as_path.ensures.bytes ∙ is.1 ∙ sym (ap (λ w. rest w 0 is.0) whole ∙ prefix-trimmed s is.0))
+    let is = c.loop-value.invariant.prefix_is in (
+      is.0,
+      c.as_path.ensures.bytes ∙ is.1 ∙ sym (ap (λ w. rest w 0 is.0) whole
+          ∙ prefix-trimmed s is.0),
+    )
 
 pub find_filtered-requires : goal.find_filtered-requires
 find_filtered-requires g c = own-of _ (cursor_rest c.loop-value.parts) c.loop-value.invariant.key_is

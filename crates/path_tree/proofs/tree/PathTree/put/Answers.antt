@@ -37,7 +37,8 @@ returns-clause-old g c =
     let tree = c.args.self.now in
     let key = c.args.key.items in
     c.in_ok-old.ensures.old
-    ∙ lookup-rows_by (λ k. k.items) key _ (own-represents key c.requires) tree.entries.entries tree.own
+    ∙ lookup-rows_by (λ k. k.items) key _
+    (own-represents key c.requires) tree.entries.entries tree.own
 
 pub returns-clause-found : goal.returns-clause-found
 returns-clause-found g c =

@@ -22,14 +22,16 @@ returns-clause-value g c =
     let tree = c.args.self.now in
     let key = c.args.key.now in
     c.remove.ensures.value
-    ∙ lookup-rows_by (λ k. k.items) key _ (own-represents key c.requires) tree.entries.entries tree.own
+    ∙ lookup-rows_by (λ k. k.items) key _
+    (own-represents key c.requires) tree.entries.entries tree.own
 
 pub returns-clause-rows : goal.returns-clause-rows
 returns-clause-rows g c =
     let tree = c.args.self.now in
     let key = c.args.key.now in
     ap (rows_by (λ k. k.items)) c.remove.ensures.entries
-    ∙ remove-rows_by (λ k. k.items) key _ (own-represents key c.requires) tree.entries.entries tree.own
+    ∙ remove-rows_by (λ k. k.items) key _
+    (own-represents key c.requires) tree.entries.entries tree.own
 
 pub returns-clause-gone : goal.returns-clause-gone
 returns-clause-gone g c =
