@@ -1,7 +1,7 @@
 //! The changes from one manifest to another.
 ghost use Rattle.std.specs.Prelude.{◌≡◌, IfOk, map};
-ghost use Rattle.path_tree.specs.Changed.{entries_changed, borrowed_both};
-ghost use Rattle.path_tree.specs.Difference.{entries_lacking, borrowed_entry};
+ghost use Rattle.path_tree.specs.Changed.{borrowed_both, entries_changed};
+ghost use Rattle.path_tree.specs.Difference.{borrowed_entry, entries_lacking};
 ghost use Rattle.path_tree.specs.Tree.{entries_of};
 
 use path_tree::PathTree;

@@ -9,11 +9,13 @@ ghost use Rattle.path_keys.specs.Codes.{IsRaised, TakesCode};
 
 use unix_bytes::search::find_byte;
 
-// The byte after the 0 in the code of a root, of a leading `.`, and of a `..`.
+// The byte after the 0 in the code of a root.
 pub(crate) const ROOT_MARK: u8 = 1;
 
+// The byte after the 0 in the code of a leading `.`.
 pub(crate) const CUR_DIR_MARK: u8 = 2;
 
+// The byte after the 0 in the code of a `..`.
 pub(crate) const PARENT_DIR_MARK: u8 = 3;
 
 // The code of a component in a key.

@@ -2,7 +2,7 @@
 ghost use Rattle.std.specs.Prelude.{◌≡◌, [], IfOk, IsOk, map};
 ghost use Rattle.std.specs.List.Sorted.{IsStrictlySortedBy};
 ghost use Rattle.path_keys.specs.Ranges.{bytes_cmp};
-ghost use Rattle.path_tree.specs.Changed.{entries_changed, borrowed_both};
+ghost use Rattle.path_tree.specs.Changed.{borrowed_both, entries_changed};
 
 use super::PathTree;
 use std::alloc::AllocError;

@@ -3,7 +3,7 @@ ghost use Rattle.std.specs.Prelude.{◌≡◌, [], IfOk, IsOk, map};
 ghost use Rattle.std.specs.List.Sorted.{IsStrictlySortedBy};
 ghost use Rattle.std.specs.Map.{keys_of};
 ghost use Rattle.path_keys.specs.Ranges.{bytes_cmp};
-ghost use Rattle.path_tree.specs.Difference.{entries_lacking, borrowed_entry};
+ghost use Rattle.path_tree.specs.Difference.{borrowed_entry, entries_lacking};
 
 use super::PathTree;
 use std::alloc::AllocError;

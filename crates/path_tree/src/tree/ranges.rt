@@ -12,7 +12,7 @@ ghost use Rattle.path_keys.specs.Keys.{IsKey};
 ghost use Rattle.path_keys.specs.Ranges.{bytes_cmp, end_of};
 ghost use Rattle.path_tree.specs.Difference.{borrowed_entry};
 ghost use Rattle.path_tree.specs.Read.{key_values};
-ghost use Rattle.path_tree.specs.Rows.{Key, entries_under, key_entries};
+ghost use Rattle.path_tree.specs.Rows.{Key, entries_under, key_entries, rows_under};
 
 use super::PathTree;
 use crate::lookup_key::vec_of;
@@ -84,9 +84,9 @@ impl<V> PathTree<V> {
     // Returns true if some key of the tree starts with the key of the base.
     pub(super) fn has_under(&self, base: &PathKey) -> bool
         ensures some { IsTrue result
-            → entries_under (key_bytes base.now) (entries_of self.now) ≡ [] → ⊥ }
+            → rows_under (key_values (key_bytes base.now)) (table_of self.now) ≡ [] → ⊥ }
         ensures none { result ≡ false
-            → entries_under (key_bytes base.now) (entries_of self.now) ≡ [] }
+            → rows_under (key_values (key_bytes base.now)) (table_of self.now) ≡ [] }
     {
         let base = vec_of(base);
         match self.entries.range(base..).next() {

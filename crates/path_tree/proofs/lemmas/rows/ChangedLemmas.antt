@@ -9,7 +9,7 @@ use Rattle.std.specs.Map.{keys_of}
 use Rattle.std.specs.Option.{option_map}
 use Rattle.unix_bytes.proofs.lemmas.lists.ListLemmas.{by_test}
 use Rattle.path_keys.specs.Ranges.{bytes_cmp}
-use Rattle.path_tree.specs.Changed.{entries_changed, entries_in_both, borrowed_both}
+use Rattle.path_tree.specs.Changed.{borrowed_both, entries_changed, entries_in_both}
 use Rattle.path_tree.specs.Rows.{entry_at}
 
 -- the keys of entries with two values

@@ -2,7 +2,7 @@ use Rattle.std.proofs.Common.{◌≡◌, ◌∷◌, ◌++◌, ◌∙◌, ℕ, fa
 use Rattle.std.proofs.Common.{rules, subst, sym}
 use Rattle.std.specs.List.Sorted.{IsStrictlySortedBy}
 use Rattle.path_keys.specs.Ranges.{bytes_cmp}
-use Rattle.path_tree.specs.Changed.{entries_changed, borrowed_both}
+use Rattle.path_tree.specs.Changed.{borrowed_both, entries_changed}
 use Rattle.path_tree.specs.Cursor.{cursor_entries}
 use Rattle.path_tree.specs.Rows.{entry_at, key_entries}
 use Rattle.path_tree.specs.Tree.{entries_of}

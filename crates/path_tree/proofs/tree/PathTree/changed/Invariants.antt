@@ -1,5 +1,5 @@
 use Rattle.std.proofs.Common.{◌≡◌, ◌++◌, map}
-use Rattle.path_tree.specs.Changed.{entries_changed, borrowed_both}
+use Rattle.path_tree.specs.Changed.{borrowed_both, entries_changed}
 use Rattle.path_tree.specs.Cursor.{cursor_entries}
 use Rattle.path_tree.specs.Rows.{key_entries}
 use Rattle.path_tree.specs.Tree.{entries_of}

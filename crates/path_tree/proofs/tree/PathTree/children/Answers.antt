@@ -3,7 +3,7 @@ use Rattle.std.proofs.Common.{arith, eqb, length, map, option_map, Bor, List, []
 use Rattle.std.proofs.Common.{Option, IfSome, false, rules, subst, subst₂, sym, ℕ}
 use Rattle.std.specs.List.{starts_with}
 use Rattle.unix_path.specs.Prefixes.{IsPrefixOf}
-use Rattle.path_tree.specs.Children.{child_entry, child_of, children_of, borrowed_child}
+use Rattle.path_tree.specs.Children.{borrowed_child, child_entry, child_of, children_of}
 use Rattle.path_tree.specs.Read.{is_own}
 use Rattle.path_tree.specs.Rows.{Key}
 use Rattle.path_tree.specs.Tree.{entries_of}

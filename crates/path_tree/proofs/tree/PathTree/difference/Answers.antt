@@ -5,7 +5,7 @@ use Rattle.std.specs.Map.{keys_of}
 use Rattle.std.specs.Option.{is_some}
 use Rattle.path_keys.specs.Ranges.{bytes_cmp}
 use Rattle.path_tree.specs.Cursor.{cursor_entries}
-use Rattle.path_tree.specs.Difference.{entries_lacking, borrowed_entry}
+use Rattle.path_tree.specs.Difference.{borrowed_entry, entries_lacking}
 use Rattle.path_tree.specs.Rows.{entry_at, key_entries}
 use Rattle.path_tree.specs.Tree.{entries_of}
 use Rattle.path_tree.proofs.lemmas.rows.EntryLemmas.{sorted-key_entries}

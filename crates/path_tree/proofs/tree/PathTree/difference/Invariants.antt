@@ -1,6 +1,6 @@
 use Rattle.std.proofs.Common.{◌≡◌, ◌++◌, map}
 use Rattle.path_tree.specs.Cursor.{cursor_entries}
-use Rattle.path_tree.specs.Difference.{entries_lacking, borrowed_entry}
+use Rattle.path_tree.specs.Difference.{borrowed_entry, entries_lacking}
 use Rattle.path_tree.specs.Rows.{key_entries}
 use Rattle.path_tree.specs.Tree.{entries_of}
 use Rattle.path_tree.proofs.lemmas.rows.MergeLemmas.{Merges}

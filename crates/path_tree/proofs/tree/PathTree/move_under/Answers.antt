@@ -5,10 +5,8 @@ use Rattle.path_runs.specs.Rows.{is_under}
 use Rattle.path_keys.specs.Held.{key_bytes}
 use Rattle.path_tree.specs.Moved.{moved_rows, rows_with}
 use Rattle.path_tree.specs.Read.{is_own, key_values}
-use Rattle.path_tree.specs.Rows.{entries_under, key_rows, rows_outside, rows_under}
-use Rattle.path_tree.specs.Tree.{entries_of, table_of}
-use Rattle.path_tree.proofs.lemmas.keys.ReadLemmas.{own-IsKey}
-use Rattle.path_tree.proofs.lemmas.rows.EntryLemmas.{rows_under-none, rows_under-some}
+use Rattle.path_tree.specs.Rows.{key_rows, rows_outside, rows_under}
+use Rattle.path_tree.specs.Tree.{table_of}
 use Rattle.path_tree.proofs.lemmas.rows.ManyLemmas.{length-key_rows}
 use Rattle.path_tree.proofs.lemmas.rows.MovedLemmas.{all_last, none_under, length-moved}
 use Rattle.path_tree.proofs.lemmas.rows.MovedLemmas.{moved_outside}
@@ -16,64 +14,39 @@ use Rattle.path_tree.proofs.lemmas.rows.MovedLemmas.{moved_under, outside-with, 
 use Rattle.path_tree.proofs.lemmas.keys.UnderLemmas.{key_begins}
 use Rattle.path_tree.proofs.tree.PathTree.move_under.Goals as goal
 
-pub returns-clause-free : goal.returns-clause-free
-returns-clause-free g c =
-    let tree = c.args.self.now in
-    let to = c.args.to.now in
-    let none : entries_under (key_bytes to) (entries_of tree) ≡ [] =
-    c.has_under.ensures.none c.if-has_under.false in
-    rows_under-none (key_bytes to) (own-IsKey _ _ refl to.is_key) tree.entries.entries tree.own none
-
 pub returns-then-has_under-clause-occupied : goal.returns-then-has_under-clause-occupied
-returns-then-has_under-clause-occupied g c =
-    let tree = c.args.self.now in
-    let to = c.args.to.now in (
-      λ _. (
-        λ begins. let e = sym (c.starts_with.ensures.bytes.1 begins) ∙ c.if-starts_with.false in cc,
-        λ none. c.has_under.ensures.some c.if-has_under.true
-            (rows_under-some (key_bytes to) (own-IsKey _ _ refl to.is_key) tree.entries.entries
-            tree.own none),
-      ),
-      λ _. refl,
-    )
+returns-then-has_under-clause-occupied g c = (
+  λ _. (
+    λ begins. let e = sym (c.starts_with.ensures.bytes.1 begins) ∙ c.if-starts_with.false in cc,
+    c.has_under.ensures.some c.if-has_under.true,
+  ),
+  λ _. refl,
+)
 
 pub returns-in_err-moved-clause-occupied : goal.returns-in_err-moved-clause-occupied
-returns-in_err-moved-clause-occupied g c =
-    let tree = c.args.self.now in
-    let to = c.args.to.now in (
-      λ is. absurd (search rules),
-      λ both. absurd (both.1 (rows_under-none (key_bytes to) (own-IsKey _ _ refl to.is_key)
-          tree.entries.entries tree.own (c.has_under.ensures.none c.if-has_under.false))),
-    )
+returns-in_err-moved-clause-occupied g c = (
+  λ is. absurd (search rules),
+  λ both. absurd (both.1 (c.has_under.ensures.none c.if-has_under.false)),
+)
 
 pub returns-in-Err-clause-occupied : goal.returns-in-Err-clause-occupied
-returns-in-Err-clause-occupied g c =
-    let tree = c.args.self.now in
-    let to = c.args.to.now in (
-      λ is. absurd (let e = is in cc),
-      λ both. absurd (both.1 (rows_under-none (key_bytes to) (own-IsKey _ _ refl to.is_key)
-          tree.entries.entries tree.own (c.has_under.ensures.none c.if-has_under.false))),
-    )
+returns-in-Err-clause-occupied g c = (
+  λ is. absurd (let e = is in cc),
+  λ both. absurd (both.1 (c.has_under.ensures.none c.if-has_under.false)),
+)
 
 pub returns-clause-occupied : goal.returns-clause-occupied
-returns-clause-occupied g c =
-    let tree = c.args.self.now in
-    let to = c.args.to.now in (
-      λ is. absurd (let e = is in cc),
-      λ both. absurd (both.1 (rows_under-none (key_bytes to) (own-IsKey _ _ refl to.is_key)
-          tree.entries.entries tree.own (c.has_under.ensures.none c.if-has_under.false))),
-    )
+returns-clause-occupied g c = (
+  λ is. absurd (let e = is in cc),
+  λ both. absurd (both.1 (c.has_under.ensures.none c.if-has_under.false)),
+)
 
 pub returns-in-Err-clause-err : goal.returns-in-Err-clause-err
 returns-in-Err-clause-err g c =
     let rows = table_of c.args.self.now in
     let from = key_values (key_bytes c.args.from.now) in
     let to = key_values (key_bytes c.args.to.now) in
-    let none : entries_under (key_bytes c.args.to.now) (entries_of c.args.self.now) ≡ [] =
-    c.has_under.ensures.none c.if-has_under.false in
-    let free : rows_under to rows ≡ [] = rows_under-none (key_bytes c.args.to.now)
-    (own-IsKey _ _ refl c.args.to.now.is_key) c.args.self.now.entries.entries c.args.self.now.own
-    none in
+    let free : rows_under to rows ≡ [] = c.has_under.ensures.none c.if-has_under.false in
     let moved : key_rows c.in_ok-moved.moved.items ≡ moved_rows from to rows =
     c.in_ok-moved.ensures.rows
     ∙ ap₂ (λ f t. moved_rows (key_values f) (key_values t) rows) c.bytes_of.ensures.bytes
@@ -91,11 +64,7 @@ returns-clause-rows g c =
     let rows = table_of c.args.self.now in
     let from = key_values (key_bytes c.args.from.now) in
     let to = key_values (key_bytes c.args.to.now) in
-    let none : entries_under (key_bytes c.args.to.now) (entries_of c.args.self.now) ≡ [] =
-    c.has_under.ensures.none c.if-has_under.false in
-    let free : rows_under to rows ≡ [] = rows_under-none (key_bytes c.args.to.now)
-    (own-IsKey _ _ refl c.args.to.now.is_key) c.args.self.now.entries.entries c.args.self.now.own
-    none in
+    let free : rows_under to rows ≡ [] = c.has_under.ensures.none c.if-has_under.false in
     let moved : key_rows c.in_ok-moved.moved.items ≡ moved_rows from to rows =
     c.in_ok-moved.ensures.rows
     ∙ ap₂ (λ f t. moved_rows (key_values f) (key_values t) rows) c.bytes_of.ensures.bytes
@@ -118,11 +87,7 @@ returns-clause-count g c =
     let rows = table_of c.args.self.now in
     let from = key_values (key_bytes c.args.from.now) in
     let to = key_values (key_bytes c.args.to.now) in
-    let none : entries_under (key_bytes c.args.to.now) (entries_of c.args.self.now) ≡ [] =
-    c.has_under.ensures.none c.if-has_under.false in
-    let free : rows_under to rows ≡ [] = rows_under-none (key_bytes c.args.to.now)
-    (own-IsKey _ _ refl c.args.to.now.is_key) c.args.self.now.entries.entries c.args.self.now.own
-    none in
+    let free : rows_under to rows ≡ [] = c.has_under.ensures.none c.if-has_under.false in
     let moved : key_rows c.in_ok-moved.moved.items ≡ moved_rows from to rows =
     c.in_ok-moved.ensures.rows
     ∙ ap₂ (λ f t. moved_rows (key_values f) (key_values t) rows) c.bytes_of.ensures.bytes
