@@ -26,8 +26,9 @@ JOBS = crates/path_jobs/out/path_jobs
 SOURCES := $(shell find crates.txt crates -name out -prune -o \
 	\( -name '*.rt' -o -name '*.antt' -o -name crates.txt \) -print)
 
-.PHONY: help run upath check test lib test-bindings install install_program install_library uninstall \
-	program_to_install library_to_install bench bench_tools count differential io-faults dist always
+.PHONY: help run upath check test lib test-bindings install install_program install_library \
+	uninstall program_to_install library_to_install bench bench_tools count differential \
+	io-faults dist always
 
 help:
 	@echo 'make run           runs pathtool on standard input. Proves and builds it first'

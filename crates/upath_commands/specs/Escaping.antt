@@ -1,4 +1,4 @@
--- Whether a path escapes, as a test.
+-- A test that returns true if a path escapes.
 use Rattle.std.specs.Prelude.{ℕ, ◌+◌, Bool, ◌||◌, nat_lt, List, length, take, count_by}
 use Rattle.std.specs.List.{list_any, range_with_len}
 use Rattle.unix_path.specs.Parts.{Value, is_rooted, values}
