@@ -1,6 +1,5 @@
 -- What is said of wrong usage.
-use Rattle.std.specs.Prelude.{ℕ, List, ◌∷◌, ◌++◌, codes}
-use Rattle.std.specs.Str.{byte}
+use Rattle.std.specs.Prelude.{ℕ, List, ◌++◌, codes}
 use Rattle.upath_commands.specs.Invocations.{UsageValue}
 use Rattle.upath_commands.specs.declared.usage.UsageErrorKind.{UsageErrorKind}
 use Rattle.upath_commands.specs.declared.usage.UsageErrorKind.TheVariants as kind

@@ -2,9 +2,8 @@
 use Rattle.std.proofs.Common.{◌≡◌, ℕ, ◌+◌, ◌<◌, ◌≤◌, Bool, true, false, ◌||◌, nat_lt, List, length}
 use Rattle.std.proofs.Common.{take, drop, Decides, refl, sym, ap, arith}
 use Rattle.std.proofs.Common.{rules, inl, inr, ⊎_elim, count_by, ◌⊎◌, true≢false, zero-add}
-use Rattle.std.proofs.Common.{Result, Ok, Err, IfOk, IsOk, ◌↔◌, option_map, Some}
-use Rattle.std.specs.Result.{result_ok, is_err, IsErrOf}
-use Rattle.unix_path.specs.declared.path.Path.{Path}
+use Rattle.std.proofs.Common.{Result, Ok, Err, ◌↔◌}
+use Rattle.std.specs.Result.{is_err, IsErrOf}
 use Rattle.std.specs.List.{range_with_len, starts_with}
 use Rattle.std.proofs.lemmas.List.{take_all}
 use Rattle.std.proofs.lemmas.List.Folds.{Any-from_list_any, list_any_at}
