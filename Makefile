@@ -1,5 +1,5 @@
 # The SHA-256 of asm/PROVED.txt, which tools/generate writes here.
-PROVED = ddb820a960e605fef412ad37f1ce496345b7eed5ce0eda4d35a9a342d35b3def
+PROVED = 0c94522dacd6a168a761e4067e044bd81b00ebf69d1e2c5ddc19f3b0bec913c5
 PREFIX ?= /usr/local
 LIBDIR ?= $(PREFIX)/lib
 INCLUDEDIR ?= $(PREFIX)/include

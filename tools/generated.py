@@ -12,6 +12,8 @@ ASM, MAKEFILE = f"{ROOT}/asm", f"{ROOT}/Makefile"
 # The C source that the program needs, which is written by hand, and the file that says how
 # everything was made.
 SUPPORT, PROVED = "support.c", "PROVED.txt"
+# The name that the main function of a program has in its assembly: main is in support.c.
+MAIN = "program_main"
 LINE = re.compile(r"^PROVED = .*$", re.M)
 # The most bytes of all files together.
 MOST_BYTES = 4_000_000
@@ -39,9 +41,9 @@ def read_files(folder):
 
 
 def exports_of(name):
-    """Returns the names that a file of assembly has to export: the library's calls, or main."""
+    """Returns the names that a file of assembly has to export: the library's calls, or MAIN."""
     if os.path.basename(name)[:-len(".s")] in read_programs():
-        return {"main"}
+        return {MAIN}
     with open(f"{ROOT}/{MAP}", encoding="utf-8") as file:
         return set(re.findall(r"\bunix_path_\w+(?=;)", file.read()))
 

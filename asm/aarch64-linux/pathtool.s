@@ -1,4 +1,4 @@
-// unix_path 1.1.0: the program pathtool, but for support.c, for aarch64 Linux. Compiled from proved sources.
+// unix_path 1.1.0: the program pathtool, except support.c, for aarch64 Linux. Compiled from proved sources.
 // tools/generate made this file. PROVED.txt has its SHA-256, and says what it was made from.
 // Licensed under MIT or Apache-2.0.
 	.section	.text.std_io.io.error.Error.from_raw_os_error,"ax",@progbits
@@ -22551,10 +22551,10 @@ core.fmt.formatter.Formatter.write_raw.bf264aed5fa78656.:
 	.byte	38
 	.byte	39
 	.section	.text.main,"ax",@progbits
-	.globl	main
+	.globl	program_main
 	.p2align	2
-	.type	main,@function
-main:
+	.type	program_main,@function
+program_main:
 	stp	x29, x30, [sp, #-96]!
 	sub	x9, sp, #18, lsl #12
 	stp	x28, x27, [sp, #16]
@@ -23021,7 +23021,7 @@ main:
 	mov	w20, #2
 	b	.Lunix_path_BB60_51
 .Lunix_path_func_end60:
-	.size	main, .Lunix_path_func_end60-main
+	.size	program_main, .Lunix_path_func_end60-program_main
 	.type	.Lunix_path_static.1,@object
 	.section	.rodata..Lstatic.1,"a",@progbits
 .Lunix_path_static.1:

@@ -1,4 +1,4 @@
-# unix_path 1.1.0: the program pathtool, but for support.c, for x86-64 Linux. Compiled from proved sources.
+# unix_path 1.1.0: the program pathtool, except support.c, for x86-64 Linux. Compiled from proved sources.
 # tools/generate made this file. PROVED.txt has its SHA-256, and says what it was made from.
 # Licensed under MIT or Apache-2.0.
 	.section	.text.std_io.io.error.Error.from_raw_os_error,"ax",@progbits
@@ -29134,10 +29134,10 @@ core.fmt.formatter.Formatter.write_raw.bf264aed5fa78656.:
 	.byte	30
 	.byte	31
 	.section	.text.main,"ax",@progbits
-	.globl	main
+	.globl	program_main
 	.p2align	4
-	.type	main,@function
-main:
+	.type	program_main,@function
+program_main:
 	pushq	%rbp
 	pushq	%r15
 	pushq	%r14
@@ -29606,7 +29606,7 @@ main:
 	callq	rattle_dealloc@PLT
 	jmp	.Lunix_path_BB62_55
 .Lunix_path_func_end62:
-	.size	main, .Lunix_path_func_end62-main
+	.size	program_main, .Lunix_path_func_end62-program_main
 	.type	.Lunix_path_static.1,@object
 	.section	.rodata..Lstatic.1,"a",@progbits
 .Lunix_path_static.1:
