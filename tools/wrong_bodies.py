@@ -77,7 +77,7 @@ def in_one_word(type_):
 
 
 def modules_of(file):
-    """Returns the modules of a file of src/, from the crate's root on."""
+    """Returns the names of a module path: cursor and walk for src/cursor/walk.rt."""
     return [it for it in file[len("src/"):-len(".rt")].split("/") if it not in ("lib", "main")]
 
 

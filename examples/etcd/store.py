@@ -43,8 +43,8 @@ class Store:
         return answer.status, answer.read()
 
     def ask(self, call, **fields):
-        """Makes a call at one member after another until one of them answers. The call may be made
-        more than once, so that must do no harm."""
+        """Makes a call at one member after another until one of them answers. It is only for calls
+        that may be made more than once."""
         body, until = json.dumps(fields).encode(), time.monotonic() + PATIENCE
         while True:
             try:

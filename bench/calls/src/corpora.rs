@@ -201,7 +201,8 @@ fn deep(count: usize) -> Vec<Vec<u8>> {
     paths
 }
 
-/// Invalid bytes: a single byte, Latin-1, truncated, too long, a surrogate.
+/// Invalid bytes: FF, Latin-1, a truncated sequence, an overlong one, a surrogate, another
+/// truncated one, and two continuation bytes.
 #[rustfmt::skip]
 const BROKEN: [&[u8]; 7] = [
     b"\xff", b"caf\xe9", b"\xe2\x82", b"\xc0\xaf", b"\xed\xa0\x80", b"\xf0\x9f\x93", b"\x80\x80",

@@ -28,8 +28,8 @@ pub fn filled(tree: Tree, seed: u64, count: u64) -> Table {
     table
 }
 
-/// Looks up each file by another spelling of its path. One lookup in three is of a path in the same
-/// directory at which there is no file.
+/// Looks up, for each file, another spelling of the file's path or, one time in three, a path in
+/// the file's directory where there is no file.
 pub fn look_up(tree: Tree, table: &Table, seed: u64, count: u64) -> u64 {
     let mut buffer = Vec::new();
     let mut random = Random::new(seed);

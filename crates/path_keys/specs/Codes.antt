@@ -1,4 +1,5 @@
--- The codes of components, at the beginning of a key's bytes. No public clause cites these words.
+-- The codes of components, at the beginning of a key's bytes. No public clause cites these
+-- definitions.
 use Rattle.std.specs.Prelude.{◌≡◌, ℕ, ◌-◌, Bool, true, false, List, [], ◌∷◌, ◌++◌, length, drop}
 use Rattle.std.specs.Prelude.{map, nat_le, if◌then◌else◌, ⊤}
 use Rattle.std.specs.List.{AllByRecursion, flat_map}

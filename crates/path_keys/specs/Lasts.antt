@@ -1,4 +1,4 @@
--- The last component in a key. No public clause cites this word.
+-- The last component in a key. No public clause cites this definition.
 use Rattle.std.specs.Prelude.{◌≡◌, ℕ, List, [], ◌∷◌, ◌++◌, take}
 use Rattle.unix_path.specs.Parts.{Value}
 use Rattle.path_keys.specs.Keys.{key_of}

@@ -1,4 +1,4 @@
--- The bytes of names in a path and in a key. No public clause cites these words.
+-- The bytes of names in a path and in a key. No public clause cites these definitions.
 use Rattle.std.specs.Prelude.{ℕ, ◌+◌, ◌%◌, ◌==◌, nat_lt, if◌then◌else◌}
 use Rattle.unix_path.specs.Parts.{slash}
 use Rattle.path_keys.specs.Keys.{raised}

@@ -1,5 +1,5 @@
 -- Runs of a path: each `..`, and names separated by single slashes. No public clause cites these
--- words.
+-- definitions.
 use Rattle.std.specs.Prelude.{◌≡◌, ◌<◌, ◌≤◌, ℕ, Bool, List, [], ◌∷◌, ◌++◌, length, take, drop, map}
 use Rattle.std.specs.Prelude.{if◌then◌else◌}
 use Rattle.unix_path.specs.CommonDir.{inner_values}

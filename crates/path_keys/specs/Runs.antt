@@ -1,5 +1,5 @@
 -- The runs of a key: first a lead, which is a root, a leading `.` or nothing, and then each `..`,
--- and runs of names with an end mark after each. No public clause cites these words.
+-- and runs of names with an end mark after each. No public clause cites these definitions.
 use Rattle.std.specs.Prelude.{◌≡◌, ◌<◌, ◌≤◌, ℕ, true, false, List, ◌∷◌, ◌++◌, [], length, drop, map}
 use Rattle.unix_path.specs.Parts.{slash, cur_dir, Value, ParentDir}
 use Rattle.path_keys.specs.Keys.{code, key_of}

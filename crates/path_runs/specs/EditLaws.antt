@@ -67,22 +67,22 @@ pub record IsSimpleExtension (x : List ℕ) : Type 0 where
   pub no_dot : HasNoByte dot x
   pub no_slash : HasNoByte slash x
 
--- x is simple, and setting it as the extension of s returns true and leaves t
+-- x is simple, and setting it as the extension turns s into t, with the answer true
 abbrev pub SetsExtension : List ℕ → List ℕ → List ℕ → Type 0
 SetsExtension s x t = IsSimpleExtension x × (edit_of s (SetExtension x) ≡ (t, Flag true))
 
--- if x is simple, and setting it as the extension of s returns true and leaves t, then t has the
--- stem of s
+-- if x is simple, and setting it as the extension turns s into t, with the answer true, then t has
+-- the stem of s
 abbrev pub NewExtensionKeepsStem : Type 0
 NewExtensionKeepsStem =
     (s x t : List ℕ) → SetsExtension s x t → stem_of (values t) ≡ stem_of (values s)
 
--- if x is simple, and setting it as the extension of s returns true and leaves t, then x is the
--- extension of t
+-- if x is simple, and setting it as the extension turns s into t, with the answer true, then x is
+-- the extension of t
 abbrev pub NewExtensionIsSet : Type 0
 NewExtensionIsSet = (s x t : List ℕ) → SetsExtension s x t → extension_of (values t) ≡ Some x
 
--- if x is simple, and setting it as the extension of s returns true and leaves t, then the parents
--- of s and t have the same bytes
+-- if x is simple, and setting it as the extension turns s into t, with the answer true, then the
+-- parents of s and t have the same bytes
 abbrev pub NewExtensionKeepsParent : Type 0
 NewExtensionKeepsParent = (s x t : List ℕ) → SetsExtension s x t → parent_of t ≡ parent_of s

@@ -1,4 +1,4 @@
--- The entries in which a cursor finds keys. No public clause cites this word.
+-- The entries in which a cursor finds keys. No public clause cites this definition.
 use Rattle.std.specs.Prelude.{ℕ, List}
 use Rattle.path_tree.specs.Rows.{entries_from, key_entries}
 use Rattle.path_tree.specs.Tree.{entries_of}

@@ -1,5 +1,5 @@
 -- The hash of a key, which determines its bit in a tree's Bloom filter. No public clause cites
--- these words.
+-- these definitions.
 use Rattle.std.specs.Prelude.{◌==◌, ◌/◌, ◌%◌, ◌^◌, ℕ, Bool, true, List, bit_and, length, nat_lt}
 use Rattle.std.specs.Prelude.{if◌then◌else◌, slice_index}
 use Rattle.std.specs.Hash.FoldHasher.{finish, initial, write}

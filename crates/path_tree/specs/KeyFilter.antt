@@ -1,4 +1,4 @@
--- The Bloom filter over a tree's keys. No public clause cites this word.
+-- The Bloom filter over a tree's keys. No public clause cites this definition.
 use Rattle.std.specs.Prelude.{ℕ, Bool, List}
 use Rattle.path_tree.specs.Hashed.{has_bit, hash_of}
 use Rattle.path_tree.specs.declared.key_filter.KeyFilter.{KeyFilter}

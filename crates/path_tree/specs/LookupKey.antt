@@ -1,4 +1,4 @@
--- The bytes of a key that was written for a look-up. No public clause cites this word.
+-- The bytes of a key that was written for a look-up. No public clause cites this definition.
 use Rattle.std.specs.Prelude.{ℕ, List}
 use Rattle.path_keys.specs.Held.{key_bytes}
 use Rattle.path_tree.specs.declared.lookup_key.LookupKey.{LookupKey}

@@ -19,7 +19,7 @@ abbrev pub key_entries : {V : Type 0} → List (Key × V) → List (List ℕ × 
 key_entries entries = map (λ e. (e.0.items, e.1)) entries
 
 -- the borrowed entry and the entries after it; none if no entry is borrowed. No public clause cites
--- this word
+-- this definition
 abbrev pub entries_from : {V : Type 0} → Option (Bor Key × Bor V) → List (Key × V) → List (Key × V)
 entries_from None rest = []
 entries_from (Some next) rest = (next.0.now, next.1.now) ∷ rest

@@ -77,9 +77,9 @@ commands =
     ∷ (codes "edit", λ p fields. Some (edit_answer p fields))
     ∷ (codes "under", λ base paths. Some (under_answer base paths)) ∷ []
 
--- the answer of the command that the first field names, to the path in the second field and the
--- fields after it; `bad command` if there is no second field or no such command, or if the command
--- doesn't accept as many fields
+-- the answer of the command in the first field to the path in the second field and to the fields
+-- after it; `bad command` if there is no such command, no second field, or a number of fields that
+-- the command doesn't take
 abbrev pub answer_to : List (List ℕ) → List ℕ
 answer_to (command ∷ p ∷ fields) =
     let found = lookup (bytes_eq command) commands in

@@ -19,8 +19,8 @@ remaining path walk =
     if nat_le walk.front walk.back && nat_le walk.back (length path)
     then slice_range path walk.front walk.back else []
 
--- the component p of a string that begins at index `at` of a path, with its indices in the path
--- instead of the string
+-- p is a component of a string, which a path has at index `at`: the same component, with its
+-- indices in the path
 abbrev pub part_from : ℕ → paths.Part → paths.Part
 part_from at p = record { start = p.start + at; end = p.end + at; value = p.value }
 

@@ -20,7 +20,8 @@ join_reason Verbatim p =
     else (if has_root_or_parent_dir (values p) then codes "has a .." else codes "has a NUL byte")
 join_reason _ p = codes "has a NUL byte"
 
--- why the command has no answer to p; none if it always has one, or if a missing one is the answer
+-- why the command has no answer to p; `None` for commands that answer every path, and for `escapes`
+-- and `under`, which drop paths without a reason
 abbrev pub reason_of : CommandValue → List ℕ → Option (List ℕ)
 reason_of Parent p = Some (codes "no parent")
 reason_of Name p = Some (codes "no file name")

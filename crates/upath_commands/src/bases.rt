@@ -1,4 +1,4 @@
-//! Answers that depend on where a path is below a base.
+//! The answers of `strip`, `under` and `relative`, which compare a path with a base.
 ghost use Rattle.std.specs.Prelude.{◌≡◌, Some, IfOk, option_map};
 ghost use Rattle.unix_path.specs.Buffers.{path_bytes};
 ghost use Rattle.unix_path.specs.Parts.{values};

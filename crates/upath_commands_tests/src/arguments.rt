@@ -7,14 +7,14 @@ use upath_commands::{
     argument_paths, invocation_of,
 };
 
-// A word, and the bytes of a path.
+// Appends a word, and then the bytes of a path.
 fn push(out: &mut Vec<u8>, word: &str, path: Path<'_>) -> Result<(), AllocError> {
     out.extend_from_slice(word.as_bytes())?;
     out.extend_from_slice(path.bytes)?;
     Ok(())
 }
 
-// A word, if `is_given` is true.
+// Appends the word if `is_given` is true.
 fn push_if(out: &mut Vec<u8>, is_given: bool, word: &str) -> Result<(), AllocError> {
     if is_given {
         out.extend_from_slice(word.as_bytes())?;
@@ -22,7 +22,7 @@ fn push_if(out: &mut Vec<u8>, is_given: bool, word: &str) -> Result<(), AllocErr
     Ok(())
 }
 
-// A slash, and a letter for each setting.
+// Appends a slash, and a letter for each setting that is on.
 fn push_settings(out: &mut Vec<u8>, settings: Settings) -> Result<(), AllocError> {
     out.push(b'/')?;
     push_if(out, settings.null, "z")?;

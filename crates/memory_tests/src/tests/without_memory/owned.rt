@@ -80,7 +80,7 @@ fn is_joined_into(root: &Root, buffer: &mut PathBuf, text: &str) -> bool {
     }
 }
 
-// Returns true if a join is written to the caller's buffer.
+// Returns true if `write_below` joins the request to `/srv/./www/` in a buffer on the stack.
 fn is_written_below(text: &str) -> bool {
     let mut out = [0_u8; 32];
     match Request::in_root(path(text)) {

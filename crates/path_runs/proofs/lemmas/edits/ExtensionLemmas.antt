@@ -97,8 +97,8 @@ set_extension s name [] e h = absurd (h.some refl)
 set_extension s name (b ∷ x) e h =
     new_extension-cut s name b x e (name_cut s name e) h.no_dot h.no_slash
 
--- if x is simple, and setting it as the extension of s returns true and leaves t, then s has a file
--- name, and t has the stem and the parent of s, and the extension x
+-- if x is simple, and setting it as the extension turns s into t, with the answer true, then s has
+-- a file name, and t has the stem and the parent of s, and the extension x
 new_extension : (s x t : List ℕ) → SetsExtension s x t
     → (name : List ℕ) × (file_name_of (values s) ≡ Some name)
     × NewExtension s t (split_name name).0 x
@@ -118,8 +118,8 @@ new_extension s x t h = by_test (has_slash x)
       subst (λ t. NewExtension s t (split_name name).0 x) e (set_extension s name x is h.0),
     )
 
--- if x is simple, and setting it as the extension of s returns true and leaves t, then t has the
--- stem of s
+-- if x is simple, and setting it as the extension turns s into t, with the answer true, then t has
+-- the stem of s
 pub stem_of-new_extension : (s x t : List ℕ) → SetsExtension s x t
     → stem_of (values t) ≡ stem_of (values s)
 stem_of-new_extension s x t h =
@@ -127,15 +127,15 @@ stem_of-new_extension s x t h =
     ap (option_map (λ name. (split_name name).0)) new.2.file_name ∙ ap (λ c. Some c.0) new.2.split
     ∙ sym (ap (option_map (λ name. (split_name name).0)) new.1)
 
--- if x is simple, and setting it as the extension of s returns true and leaves t, then t has the
--- extension x
+-- if x is simple, and setting it as the extension turns s into t, with the answer true, then t has
+-- the extension x
 pub extension_of-new_extension : (s x t : List ℕ) → SetsExtension s x t
     → extension_of (values t) ≡ Some x
 extension_of-new_extension s x t h =
     let new = new_extension s x t h in
     ap (option_and_then (λ name. (split_name name).1)) new.2.file_name ∙ ap (λ c. c.1) new.2.split
 
--- if x is simple, and setting it as the extension of s returns true and leaves t, then t has the
--- parent of s
+-- if x is simple, and setting it as the extension turns s into t, with the answer true, then t has
+-- the parent of s
 pub parent_of-new_extension : (s x t : List ℕ) → SetsExtension s x t → parent_of t ≡ parent_of s
 parent_of-new_extension s x t h = (new_extension s x t h).2.parent

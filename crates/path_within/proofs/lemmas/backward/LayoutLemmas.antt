@@ -64,8 +64,8 @@ names_append [] ws h k = k
 names_append (Normal name ∷ vs) ws h k = names_append vs ws h k
 names_append (v ∷ vs) ws h k = absurd h
 
--- if n is not 0, and the names that remain of vs are those that remain of ws and then `name`, the
--- last n names of vs are the last n - 1 names of ws and then `name`
+-- if n is not 0, and the names that remain of vs after resolving are those of ws followed by
+-- `name`, then `last_names n vs` is `last_names (n - 1) ws` followed by `name`
 pub last_names-push : (n : ℕ) (vs ws : List Value) (name : List ℕ) → 0 < n
     → names_below vs ≡ names_below ws ++ Normal name ∷ []
     → last_names n vs ≡ last_names (n - 1) ws ++ Normal name ∷ []

@@ -180,7 +180,7 @@ length-below root b e = let h = after_root root b in omega (
 
 -- ---- a path whose bytes are its names joined by slashes
 
--- the bytes of a rootless path of names only are its names, verbatim
+-- if b has no root and consists of names only, b is its names with single slashes between them
 pub names_only_verbatim : (b : List ℕ) → is_names_only b ≡ true → is_rooted b ≡ false
     → AreVerbatim b (names_below (values b))
 names_only_verbatim b names_only r = record { some = by (names_below (values b)) same; is = same }

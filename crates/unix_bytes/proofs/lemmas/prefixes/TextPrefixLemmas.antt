@@ -147,16 +147,16 @@ text_before s r n h bound here =
       text = subst (λ k. IsText (take k s)) (sym place) more.1;
     }
 
--- if `TextBefore s r` holds, and r starts with a sequence of n bytes, where k equals n, then
--- `TextBefore` also holds of s and the bytes of r from index k on
+-- if `TextBefore s r` holds, and r starts with a sequence of k bytes (k is n), then `TextBefore`
+-- also holds of s and the bytes of r from index k on
 pub sequence_before : (s r : List ℕ) (n k : ℕ) → TextBefore s r
     → (0 < n) × (n ≡ longest_len is_sequence r) → n ≡ k → TextBefore s (slice_from k r)
 sequence_before s r n k h (some, is) same =
     let here = subst (λ j. IsText (take j r)) same (sequence_is_text r n some is) in
     text_before s r k h (omega (arith, same, is, sequence_within r)) here
 
--- if `TextBefore s r` holds, and r starts with a sequence of n bytes and then m bytes of valid
--- UTF-8, where k equals n, then `TextBefore` also holds of s and the bytes of r from index k + m on
+-- if `TextBefore s r` holds, and r starts with a sequence of k bytes (k is n) and then m bytes of
+-- valid UTF-8, then `TextBefore` also holds of s and the bytes of r from index k + m on
 pub sequences_before : (s r : List ℕ) (n k m : ℕ) → TextBefore s r
     → (0 < n) × (n ≡ longest_len is_sequence r) → n ≡ k → m ≤ length (slice_from k r)
     → IsText (take m (slice_from k r)) → TextBefore s (slice_from m (slice_from k r))

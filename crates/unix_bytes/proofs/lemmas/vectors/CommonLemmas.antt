@@ -129,8 +129,8 @@ pub record CommonInLanes (a b : List ℕ) (n at len : ℕ) : Type 0 where
   pub same : (k : ℕ) → at ≤ k → k < at + len → get_or a k 0 ≡ get_or b k 0
   pub differs : len < n → eqb (get_or a (at + len) 0) (get_or b (at + len) 0) ≡ false
 
--- if a and b have n bytes from index `at` on, and `len` is the length of the common prefix of those
--- of a and those of b, then `CommonInLanes a b n at len` holds
+-- if a and b both have n bytes from index `at` on, and the common prefix of these two runs of bytes
+-- has `len` bytes, then `CommonInLanes a b n at len` holds
 in_lanes : (a b : List ℕ) (n at len : ℕ) → at + n ≤ length a → at + n ≤ length b
     → len ≡ common_prefix_len eqb (chunk at n a) (chunk at n b) → CommonInLanes a b n at len
 in_lanes a b n at len l m is =

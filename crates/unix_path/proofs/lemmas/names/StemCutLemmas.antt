@@ -64,8 +64,8 @@ pub ordinary_from : (s t : List ℕ) (n past place : ℕ) → n ≤ length s →
 ordinary_from s t n past place l is ordinary e i from to =
     ordinary_behind s n past l (subst (λ t. OrdinaryFrom t past) is ordinary) i (omega arith) to
 
--- if t is s without its first n bytes, the byte of t at `past` - 1, which s has at `place`, is a
--- dot or a slash, and s has no slash at `place`, then s has a dot at `place`
+-- t is s from index n on, so index `past` - 1 of t is index `place` of s: if t has a dot or a slash
+-- there, and s has no slash there, then s has a dot there
 pub dot_at : (s t : List ℕ) (n past place : ℕ) → t ≡ drop n s → 0 < past → place ≡ n + past - 1
     → (eqb (get_or t (past - 1) 0) 46 || eqb (get_or t (past - 1) 0) 47) ≡ true
     → (get_or s place 0 ≡ 47 → ⊥) → get_or s place 0 ≡ 46
