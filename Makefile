@@ -1,5 +1,5 @@
 # The SHA-256 of asm/PROVED.txt, which tools/generate writes here.
-PROVED = 0c94522dacd6a168a761e4067e044bd81b00ebf69d1e2c5ddc19f3b0bec913c5
+PROVED = deffa472772e776b6be83072e9e6335eb6c9e8001f66a912460ad95afb6834a1
 PREFIX ?= /usr/local
 LIBDIR ?= $(PREFIX)/lib
 INCLUDEDIR ?= $(PREFIX)/include
