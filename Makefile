@@ -1,5 +1,5 @@
 # The SHA-256 of asm/PROVED.txt, which tools/generate writes here.
-PROVED = deffa472772e776b6be83072e9e6335eb6c9e8001f66a912460ad95afb6834a1
+PROVED = 4a4167982d800136218c3c09220a18e885fdc17ece0dc7745c70d5ad99d1e5ec
 PREFIX ?= /usr/local
 LIBDIR ?= $(PREFIX)/lib
 INCLUDEDIR ?= $(PREFIX)/include

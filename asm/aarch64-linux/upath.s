@@ -20209,12 +20209,12 @@ program_main:
 	.type	.Lunix_path_static.35,@object
 	.section	.rodata..Lstatic.35,"a",@progbits
 .Lunix_path_static.35:
-	.ascii	"Usage: upath stem [OPTION]... [--] [PATH]...\n\nPrints the file name without its extension.\n\nExample:\n  $ upath stem /tmp/x.tar.gz\n  x.tar\n\n`upath --help` shows the options of every command.\n"
+	.ascii	"Usage: upath stem [OPTION]... [--] [PATH]...\n\nPrints the file name without its extension.\n\nExample:\n  $ upath stem /srv/x.tar.gz\n  x.tar\n\n`upath --help` shows the options of every command.\n"
 	.size	.Lunix_path_static.35, 189
 	.type	.Lunix_path_static.36,@object
 	.section	.rodata..Lstatic.36,"a",@progbits
 .Lunix_path_static.36:
-	.ascii	"Usage: upath ext [OPTION]... [--] [PATH]...\n\nPrints the extension: the part of the file name after its last dot.\n\nExample:\n  $ upath ext /tmp/x.tar.gz\n  gz\n\n`upath --help` shows the options of every command.\n"
+	.ascii	"Usage: upath ext [OPTION]... [--] [PATH]...\n\nPrints the extension: the part of the file name after its last dot.\n\nExample:\n  $ upath ext /srv/x.tar.gz\n  gz\n\n`upath --help` shows the options of every command.\n"
 	.size	.Lunix_path_static.36, 208
 	.type	.Lunix_path_static.37,@object
 	.section	.rodata..Lstatic.37,"a",@progbits

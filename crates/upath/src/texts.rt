@@ -102,7 +102,7 @@ Usage: upath stem [OPTION]... [--] [PATH]...\n\
 Prints the file name without its extension.\n\
 \n\
 Example:\n\
-\x20 $ upath stem /tmp/x.tar.gz\n\
+\x20 $ upath stem /srv/x.tar.gz\n\
 \x20 x.tar\n\
 \n\
 `upath --help` shows the options of every command.\n";
@@ -113,7 +113,7 @@ Usage: upath ext [OPTION]... [--] [PATH]...\n\
 Prints the extension: the part of the file name after its last dot.\n\
 \n\
 Example:\n\
-\x20 $ upath ext /tmp/x.tar.gz\n\
+\x20 $ upath ext /srv/x.tar.gz\n\
 \x20 gz\n\
 \n\
 `upath --help` shows the options of every command.\n";
