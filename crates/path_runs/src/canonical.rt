@@ -21,6 +21,7 @@ use unix_path::{Components, Path, PathBuf};
 
 // Returns the path's bytes without the filler after its last component.
 #[inline]
+#[tactic(auto, using(crate::proofs::lemmas::gaps::GapSpellingLemmas::trimmed_cases))]
 fn trimmed(path: Path<'_>) -> &[u8]
     ensures rest { result.now ≡ rest path.entry.bytes.now 0 0 }
     ensures same { SameValues result.now path.entry.bytes.now }
@@ -94,6 +95,7 @@ pub fn collected(alloc: Global, components: Components<'_>) -> Result<PathBuf, A
 ///
 /// It is true for `./a/b` and the empty path, and false for `a//b`, `a/./b` and `a/`.
 #[must_use]
+#[tactic(auto, using(crate::proofs::lemmas::gaps::GaplessLemmas::is_canonical_cases))]
 pub fn is_canonical(path: Path<'_>) -> bool
     ensures { IsTrue result
         ↔ (path.entry.bytes.now ≡ spelling_of (values path.entry.bytes.now)) }

@@ -64,6 +64,7 @@ impl<'a> Pieces<'a> {
     // Returns the pieces of a path, without trailing filler. Resolving these pieces leaves the same
     // names as resolving the path and, if the path has no root, the same number of `..`.
     #[inline(always)]
+    #[tactic(auto, using(crate::proofs::lemmas::backward::PieceLemmas::pieces_new_cases))]
     pub(crate) fn new(path: Path<'a>) -> Pieces<'a>
         ensures names { names_below (remaining_values result)
             ≡ names_below (values path.entry.bytes.now) }
@@ -81,6 +82,7 @@ impl<'a> Pieces<'a> {
     // Takes and returns the last remaining piece, or returns `None` if no piece remains. Always
     // inlined, so that a loop over the names keeps the fields of `self` in registers.
     #[inline(always)]
+    #[tactic(auto, using(crate::proofs::lemmas::backward::PieceLemmas::pieces_next_back_cases))]
     fn next_back(&mut self) -> Option<Piece<'a>>
         ensures none { result ≡ None → remaining_values self.old ≡ [] }
         ensures some { IfSome result (λ piece.
@@ -143,6 +145,7 @@ pub(crate) struct Counts {
 }
 
 // Counts the `..` and the names that remain of the path after it is resolved.
+#[tactic(auto, using(crate::proofs::lemmas::backward::LayoutLemmas::count_resolved_cases))]
 pub(crate) fn count_resolved(path: Path<'_>) -> Counts
     ensures parent_dirs { result.parent_dirs ≡ remaining_parent_dirs (values path.entry.bytes.now) }
     ensures names { result.names ≡ length (names_below (values path.entry.bytes.now)) }

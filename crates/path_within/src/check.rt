@@ -47,6 +47,7 @@ impl Check {
 /// It is true for `a\0.png`, and false for `a%00.png`.
 #[must_use]
 #[inline]
+#[tactic(auto, using(crate::proofs::lemmas::below::NamesBelowLemmas::has_nul_cases))]
 pub fn has_nul(bytes: &[u8]) -> bool
     ensures { result ≡ has_nul bytes.now }
 {
@@ -54,6 +55,7 @@ pub fn has_nul(bytes: &[u8]) -> bool
 }
 
 // Returns true if the path escapes. Visits the path's components one by one.
+#[tactic(auto, using(crate::proofs::lemmas::stack::EscapeLemmas::escapes_by_components_cases))]
 fn escapes_by_components(path: Path<'_>) -> bool
     ensures { IsTrue result ↔ Escapes (values path.entry.bytes.now) }
 {
@@ -71,6 +73,7 @@ fn escapes_by_components(path: Path<'_>) -> bool
 }
 
 // Tests whether the path escapes. Accepts a path of names only without visiting its components.
+#[tactic(auto, using(crate::proofs::lemmas::names_only::RequestLemmas::names_only_stays))]
 pub(crate) fn check_escape(path: Path<'_>) -> Check
     ensures refused { result ≡ Refused ↔ Escapes (values path.entry.bytes.now) }
     ensures names_only { result ≡ NamesOnly → is_names_only path.entry.bytes.now ≡ true }

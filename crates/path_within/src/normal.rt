@@ -55,6 +55,7 @@ fn are_parent_dirs_then_names(parts: Components<'_>) -> bool
 
 // Returns true if no component after the first is a root, none is `.`, and no `..` follows a name
 // or a root.
+#[tactic(auto, using(crate::proofs::lemmas::names_only::NormalLemmas::names_iff))]
 fn is_normal(parts: Components<'_>) -> bool
     ensures { IsTrue result ↔ IsNormal (cursor_values parts.entry) }
 {
@@ -68,6 +69,7 @@ fn is_normal(parts: Components<'_>) -> bool
 // Returns true if the path is resolved already, that is, if `resolved` returns the same bytes. Not
 // inlined, because it is called for few paths, and its callers should stay small.
 #[inline(never)]
+#[tactic(auto, using(crate::proofs::lemmas::names_only::NormalLemmas::is_resolved_cases))]
 pub(crate) fn is_resolved(path: Path<'_>) -> bool
     ensures { IsTrue result
         ↔ (resolved_bytes_of path.entry.bytes.now ≡ path.entry.bytes.now) }
@@ -80,6 +82,7 @@ pub(crate) fn is_resolved(path: Path<'_>) -> bool
 // components of few paths: only if the first piece is not a name, or if the path ends in a dot but
 // not in `/.`.
 #[inline]
+#[tactic(auto, using(crate::proofs::lemmas::names_only::NamesOnlyLemmas::is_known_resolved_cases))]
 pub(crate) fn is_known_resolved(path: Path<'_>) -> bool
     ensures resolved { IsTrue result
         → resolved_bytes_of path.entry.bytes.now ≡ path.entry.bytes.now }

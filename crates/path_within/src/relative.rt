@@ -93,6 +93,7 @@ fn names_only_steps<'a>(from: Path<'_>, to: Path<'a>) -> Layout<'a>
 
 // Takes the last `count` names that remain of the pieces in `rest` after resolving. Returns the
 // length of these names, with a slash for each.
+#[tactic(auto, using(crate::proofs::lemmas::backward::SharedLemmas::skip_last_names_cases))]
 fn skip_last_names(rest: &mut Pieces<'_>, count: usize) -> usize
     requires few { length (remaining_values rest.old) < 2 ^ 64 }
     requires some { count ≤ length (names_below (remaining_values rest.old)) }

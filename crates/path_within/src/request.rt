@@ -118,6 +118,7 @@ impl<'a> Request<'a> {
     ///
     /// `a//../b` becomes a request that represents `b`. `/a`, `a/../..` and `a\0.png` are refused.
     #[inline]
+    #[tactic(auto, using(crate::proofs::lemmas::below::NamesBelowLemmas::request_beneath_cases))]
     pub fn beneath(path: Path<'a>) -> Result<Request<'a>, RequestError>
         ensures rooted { IsErrOf result RequestError.Rooted
             ↔ (is_rooted path.entry.bytes.now ≡ true) }
@@ -158,6 +159,7 @@ impl<'a> Request<'a> {
     ///
     /// `//a/../../b` becomes a request that represents `b`, and `/` becomes a request that
     /// represents no name.
+    #[tactic(auto, using(crate::proofs::lemmas::below::NamesBelowLemmas::request_in_root_cases))]
     pub fn in_root(path: Path<'a>) -> Result<Request<'a>, RequestError>
         ensures rooted { IsErrOf result RequestError.Rooted → ⊥ }
         ensures escapes { IsErrOf result RequestError.Escapes → ⊥ }

@@ -14,6 +14,7 @@ use unix_path::{Path, PathBuf};
 // Returns the path resolved lexically. Not inlined, so that its callers, whose paths are mostly
 // resolved already, stay small.
 #[inline(never)]
+#[tactic(auto, using(crate::proofs::lemmas::names_only::NamesOnlyLemmas::resolved_empty))]
 fn resolve_to_path_buf(alloc: Global, path: Path<'_>) -> Result<PathBuf, AllocError>
     ensures bytes { IfOk result (λ p. path_bytes p ≡ resolved_bytes_of path.entry.bytes.now) }
     ensures succeeds { path.entry.bytes.now ≡ [] → IsOk result }
@@ -32,6 +33,7 @@ fn resolve_to_path_buf(alloc: Global, path: Path<'_>) -> Result<PathBuf, AllocEr
 /// allocation fails, and never for the empty path.
 ///
 /// `a/../..//b/.` resolves to `../b`, `/../a` to `/a`, and `a/..` to the empty path.
+#[tactic(auto, using(crate::proofs::lemmas::names_only::NamesOnlyLemmas::resolved_empty))]
 pub fn resolved(alloc: Global, path: Path<'_>) -> Result<PathBuf, AllocError>
     ensures bytes { IfOk result (λ p. path_bytes p ≡ resolved_bytes_of path.entry.bytes.now) }
     ensures succeeds { path.entry.bytes.now ≡ [] → IsOk result }
@@ -50,6 +52,7 @@ pub fn resolved(alloc: Global, path: Path<'_>) -> Result<PathBuf, AllocError>
 /// is still returned.
 ///
 /// `a/../..//b/.` resolves to `../b`, of 4 bytes.
+#[tactic(auto, using(crate::proofs::lemmas::below::BoundLemmas::write_resolved_cases))]
 pub fn write_resolved(path: Path<'_>, out: &mut [u8]) -> usize
     ensures out { out.new ≡ buffer_after (resolved_bytes_of path.entry.bytes.now) out.old }
     ensures length { result ≡ length (resolved_bytes_of path.entry.bytes.now) }

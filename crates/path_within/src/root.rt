@@ -102,6 +102,7 @@ fn join_bytes_in(previous: PathBuf, both: (Path<'_>, Path<'_>)) -> (PathBuf, ())
 // Returns the join of a root and a request. Reuses the memory of `previous`, which has enough
 // capacity. First writes the root prefix and the bytes of the request to the memory. Then
 // overwrites these bytes with the join, which is at most as long.
+#[tactic(auto, using(crate::proofs::lemmas::backward::JoinedLemmas::join_request_in_cases))]
 fn join_request_in(previous: PathBuf, both: (Path<'_>, Request<'_>)) -> (PathBuf, ())
     requires { length both.0.bytes.now + 1 + length (request_bytes both.1) ≤ capacity previous }
     ensures { path_bytes result.0
@@ -172,6 +173,7 @@ impl Root {
     // Replaces the contents of a buffer with the join of the root and a request. The buffer has
     // enough capacity.
     #[inline(always)]
+    #[tactic(auto, using(crate::proofs::lemmas::below::BelowLemmas::root_fill_cases))]
     fn fill(&self, buffer: &mut PathBuf, request: Request<'_>)
         requires { length (root_bytes self.now) + 1 + length (request_bytes request)
             ≤ capacity buffer.old }
@@ -247,6 +249,7 @@ impl Root {
     ///
     /// For `/srv//www/a/` and the root `/srv/www` it is the request `a`. `/srv/www2` and
     /// `/srv/www/a/../b` are refused.
+    #[tactic(auto, using(crate::proofs::lemmas::names_only::RequestLemmas::request_rootless))]
     pub fn strip<'a>(&self, path: Path<'a>) -> Result<Request<'a>, StripError>
         ensures ok { IsOk result ↔ IsBelow (root_bytes self.now) path.entry.bytes.now }
         ensures nul { IsErrOf result StripError.Nul

@@ -82,6 +82,7 @@ impl<'a> Names<'a> {
     // Returns the last `count` names that remain of a path after it is resolved, or all if there
     // are fewer. `len` is the length of these names, with a slash for each.
     #[inline]
+    #[tactic(auto, using(crate::proofs::lemmas::backward::LayoutLemmas::last_names_fit))]
     pub(crate) fn last(path: Path<'a>, count: usize, len: usize) -> Names<'a>
         requires { len ≡ slashed_len (last_names count (values path.bytes.now)) }
         ensures { names_in result ≡ last_names count (values path.entry.bytes.now) }
@@ -98,6 +99,7 @@ impl<'a> Names<'a> {
     // the first of these slashes, or `end` if there are no names. Both indices count an imaginary
     // slash before `out`: it is at index 0, and the first byte of `out` is at index 1.
     #[inline(always)]
+    #[tactic(auto, using(crate::proofs::lemmas::backward::LayoutLemmas::names_put_before_cases))]
     pub(crate) fn put_before(&self, out: &mut [u8], end: usize) -> usize
         requires in_range { end ≤ 1 + length out.old }
         requires space { self.now.len ≤ end }
@@ -114,6 +116,7 @@ impl<'a> Names<'a> {
 
     // Returns the length of the join of `root` and these names.
     #[inline]
+    #[tactic(auto, using(crate::proofs::lemmas::backward::JoinedLemmas::names_joined_len_cases))]
     fn joined_len(&self, root: &[u8]) -> usize
         ensures { result ≡ length (below_of root.now (names_in self.now)) }
     {
@@ -236,6 +239,7 @@ impl<'a> Layout<'a> {
 
     // Returns the length of the resolved path, or `usize::MAX` if the length is greater than that.
     #[inline(always)]
+    #[tactic(auto, using(crate::proofs::lemmas::backward::LayoutLemmas::layout_len_cases))]
     pub(crate) fn len(&self) -> usize
         ensures { result ≡ min (2 ^ 64 - 1) (length (spelling_of (layout_values self.now))) }
     {

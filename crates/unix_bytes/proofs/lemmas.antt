@@ -6,3 +6,4 @@ pub mod text
 pub mod lossy
 pub mod chunks
 pub mod prefixes
+pub mod LawRules

@@ -217,6 +217,7 @@ fn push_lossy(bytes: &mut Vec<u8>, source: &[u8], buffer: &mut [u8]) -> Result<(
 // Appends the first `len` bytes of `source`. If `len` is at most 16 and `source` has 16 bytes or
 // more, appends 16 bytes at once and then truncates.
 #[inline(always)]
+#[tactic(auto, using(crate::proofs::lemmas::prefixes::PushLemmas::first_of_sixteen))]
 fn push_prefix(bytes: &mut Vec<u8>, source: &[u8], len: usize) -> Result<(), AllocError>
     requires { len ≤ length source.now }
     ensures { OnOk result (bytes.new.items ≡ bytes.old.items ++ take len source.now) }

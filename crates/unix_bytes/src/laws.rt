@@ -1,4 +1,6 @@
 //! Laws of UTF-8 and of lossy forms. Each function does nothing, and its contract is the law.
+#![tactic(auto, using(crate::proofs::lemmas::LawRules::laws))]
+
 ghost use Rattle.unix_bytes.specs.Laws.{TextIsUtf8, SequencesStandAlone, BeginningIsTested};
 ghost use Rattle.unix_bytes.specs.Laws.{TextIsTested, FrontsPartition, FrontsOneByOne, FrontsBegin};
 ghost use Rattle.unix_bytes.specs.Laws.{FrontIsLongest, BrokenIsShort, LossyOfSequence};

@@ -21,6 +21,7 @@ use std::{fmt, str};
 ///
 /// `utf8_char_width(0xE2)` is 3.
 #[inline]
+#[tactic(auto, using(crate::proofs::lemmas::sequences::WidthLemmas::widths))]
 pub fn utf8_char_width(b: u8) -> usize
     ensures value { (u : List ℕ) → IsSequence (b ∷ u) → length (b ∷ u) ≡ result }
     ensures none { (result ≡ 0) ↔ ¬ (BeginsSequence (b ∷ [])) }
@@ -115,6 +116,7 @@ impl<'a> Iterator for Utf8LossyChunksIter<'a> {
     ghost remaining = { item_count remaining_chunks };
 
     #[inline]
+    #[tactic(auto, using(crate::proofs::lemmas::chunks::ChunkLemmas::no_chunks))]
     fn next(&mut self) -> Option<Utf8LossyChunk<'a>> {
         if self.source.is_empty() {
             return None;

@@ -13,6 +13,7 @@ use std::cmp::Ordering;
 /// `compare_bytes(b"a/b", b"a.b")` is `Ordering::Greater`.
 #[must_use]
 #[inline]
+#[tactic(auto, using(crate::proofs::lemmas::vectors::CompareLemmas::first_differences))]
 pub fn compare_bytes(a: &[u8], b: &[u8]) -> Ordering
     ensures { result ≡ slice_cmp nat_cmp a.now b.now }
 {

@@ -23,6 +23,7 @@ fn copy_at(out: &mut [u8], at: usize, bytes: &[u8])
 // Copies the first N bytes of `source` into `out` at index `at`, with one load and one store.
 // `source` must have at least N bytes, and so must `out` from `at` on.
 #[inline(always)]
+#[tactic(auto, using(crate::proofs::lemmas::prefixes::PrinterLemmas::copied))]
 fn copy_first<const N: usize>(out: &mut [u8], at: usize, source: &[u8])
     requires fits_out { at + N ≤ length out.old }
     requires some { N ≤ length source.now }

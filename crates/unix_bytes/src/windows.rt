@@ -62,6 +62,7 @@ pub(crate) fn lanes_ge(bytes: u8x16, min: u8) -> u64
 
 // Returns true only if each of `bytes` is at least the bound in the same lane.
 #[inline(always)]
+#[tactic(auto, using(crate::proofs::lemmas::vectors::MaskLemmas::none_below))]
 fn all_lanes_ge(bytes: u8x16, bounds: u8x16) -> bool
     ensures { IsTrue result → AllAtLeast bytes bounds }
 {
@@ -121,6 +122,7 @@ fn unfinished_len(window: &[u8]) -> usize
 // the 16 may not follow the three bytes before it. The first three bytes must leave no sequence
 // unfinished.
 #[inline(always)]
+#[tactic(auto, using(crate::proofs::lemmas::text::WindowLemmas::window_text))]
 pub(crate) fn window_len(window: &[u8]) -> usize
     requires some { 19 ≤ length window.now }
     requires finished { let first = slice_index window.now in

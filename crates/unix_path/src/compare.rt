@@ -10,6 +10,7 @@ use std::cmp::Ordering;
 use unix_bytes::search::common_len;
 
 // Returns the order of two paths by their components.
+#[tactic(auto, using(crate::proofs::lemmas::order::AfterCutLemmas::comparisons))]
 pub(crate) fn compare(a: &[u8], b: &[u8]) -> Ordering
     ensures { result ≡ values_cmp (values a.now) (values b.now) }
 {

@@ -41,6 +41,7 @@ pub fn is_trailing(bytes: &[u8], at: usize) -> bool
 ///
 /// Reads byte by byte, since filler is usually short. For `/./a` it is 3, and for `.a` it is 0.
 #[inline]
+#[tactic(auto, using(crate::proofs::lemmas::filler::FillerLemmas::inner_parts_filler_at))]
 pub fn filler_len(bytes: &[u8]) -> usize
     ensures in_range { result ≤ length bytes.now }
     ensures filler { (at : ℕ) →
@@ -71,6 +72,7 @@ fn is_filler_simd16(path: &[u8], at: usize) -> bool
 // Skips blocks of 16 bytes that are all filler, starting at `start`. Returns the index where it
 // stops: at a block with a byte that isn't filler, or where at most 16 bytes remain.
 #[inline]
+#[tactic(auto, using(crate::proofs::lemmas::filler::FillerBlockLemmas::inner_parts_filler_block))]
 fn filler_blocks_end(path: &[u8], start: usize) -> usize
     requires { start ≤ length path.now }
     ensures forward { start ≤ result }
@@ -89,6 +91,7 @@ fn filler_blocks_end(path: &[u8], start: usize) -> usize
 // and not inlined, so that callers keep their registers for short filler, which is the usual case.
 #[cold]
 #[inline(never)]
+#[tactic(auto, using(crate::proofs::lemmas::filler::FillerLemmas::inner_parts_filler_at))]
 fn filler_end_from(path: &[u8], start: usize) -> usize
     requires { start ≤ length path.now }
     ensures in_range { result ≤ length path.now }
@@ -106,6 +109,7 @@ fn filler_end_from(path: &[u8], start: usize) -> usize
 // Returns how many bytes of filler at `i` to skip at once: 1 for a slash, 2 for a `.` and the slash
 // after it, and 1 for a `.` at the end. Returns 0 if a component begins at `i`.
 #[inline]
+#[tactic(auto, using(crate::proofs::lemmas::filler::FillerLemmas::filler_steps))]
 fn filler_step(path: &[u8], i: usize) -> usize
     requires { i < length path.now }
     ensures in_range { i + result ≤ length path.now }
@@ -153,6 +157,7 @@ fn long_filler_len(path: &[u8]) -> usize
 ///
 /// Reads long filler 16 bytes at a time. For `/./a` it is `a`.
 #[inline]
+#[tactic(auto, using(crate::proofs::lemmas::parts::PlaceLemmas::inner_components))]
 pub fn after_filler(bytes: &[u8]) -> &[u8]
     ensures same { inner_values bytes.now ≡ inner_values result.now }
     ensures not_filler { is_filler result.now 0 ≡ false }

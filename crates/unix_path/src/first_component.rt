@@ -28,6 +28,7 @@ pub fn starts_with_parent_dir(bytes: &[u8]) -> bool
 ///
 /// In `.././a` it is 5.
 #[inline(always)]
+#[tactic(auto, using(crate::proofs::lemmas::steps::LeadLemmas::first_steps))]
 pub fn parent_dir_step(bytes: &[u8]) -> usize
     requires { starts_with_parent_dir bytes.now ≡ true }
     ensures in_range { result ≤ length bytes.now }
@@ -43,6 +44,7 @@ pub fn parent_dir_step(bytes: &[u8]) -> usize
 ///
 /// In `a/./b` they are 1 and 4.
 #[inline(always)]
+#[tactic(auto, using(crate::proofs::lemmas::steps::LeadLemmas::first_steps))]
 pub fn name_step(bytes: &[u8]) -> (usize, usize)
     requires some { 0 < length bytes.now }
     requires not_filler { is_filler bytes.now 0 ≡ false }

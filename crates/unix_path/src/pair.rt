@@ -201,6 +201,7 @@ impl<'a, 'b> Pair<'a, 'b> {
     // Returns the order of the two paths, whose first components must differ unless at least one
     // path is empty.
     #[inline]
+    #[tactic(auto, using(crate::proofs::lemmas::order::PairLemmas::first_orders))]
     pub(crate) fn first_components_order(self) -> Ordering
         requires { DiffersAtStart self.first.now self.second.now self.common }
         ensures { result ≡ values_cmp (values self.entry.first.now)

@@ -26,6 +26,7 @@ pub(crate) fn ends_with_parent_dir(bytes: &[u8]) -> bool
 ///
 /// Reads the last three bytes. It is true for `a/.b`, and false for `a/`, `a/.` and `a/..`.
 #[inline]
+#[tactic(auto, using(crate::proofs::lemmas::names::NamedLemmas::name_endings))]
 pub fn ends_in_name(bytes: &[u8]) -> bool
     ensures { IsTrue result ↔ (name_end_of bytes.now ≡ Some (length bytes.now)) }
 {
@@ -47,6 +48,7 @@ pub fn ends_in_name(bytes: &[u8]) -> bool
 ///
 /// It is true for `a/`, and false for `a`.
 #[inline]
+#[tactic(auto, using(crate::proofs::lemmas::edits::JoinLemmas::separated))]
 pub fn needs_no_separator(bytes: &[u8]) -> bool
     ensures { result ≡ needs_no_separator bytes.now }
 {

@@ -3,6 +3,5 @@ pub mod FitLemmas
 -- Used only in this crate.
 pub mod NameLemmas
 pub mod TextLemmas
-pub mod ReadLemmas
 pub mod LastCodeLemmas
 pub mod KeyReadLemmas

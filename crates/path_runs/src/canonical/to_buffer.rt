@@ -47,6 +47,7 @@ pub(super) fn gapless_run_at(bytes: &[u8], start: usize) -> &[u8]
 // Returns the total length of the components after the gap at index `gap`, with a slash before
 // each.
 #[inline]
+#[tactic(auto, using(crate::proofs::lemmas::gaps::GaplessLemmas::parts_len_cases))]
 fn parts_len(bytes: &[u8], gap: usize) -> usize
     requires in_range { gap ≤ length bytes.now }
     requires gap { gap < length bytes.now → is_gap bytes.now gap ≡ true }

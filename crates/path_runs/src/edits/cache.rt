@@ -17,6 +17,7 @@ use unix_path::stems::{has_slash, stem_end};
 
 // Returns the length of the path without its trailing filler, or `min` if `min` is greater.
 #[inline]
+#[tactic(auto, using(unix_path::proofs::lemmas::filler::TrimLemmas::parts_shorter))]
 fn trimmed_len(path: &[u8], min: usize) -> usize
     requires { min ≤ length path.now }
     ensures forward { min ≤ result }

@@ -36,6 +36,7 @@ pub fn push_then_pop()
 /// covers paths that have a file name. For other paths the edit returns false.
 ///
 /// `/a/b.c` with the extension `d` is `/a/b.d`.
+#[tactic(auto, using(crate::proofs::lemmas::edits::ExtensionLemmas::extension_set_cases))]
 pub fn extension_set()
     ensures stem { NewExtensionKeepsStem }
     ensures extension { NewExtensionIsSet }

@@ -12,6 +12,7 @@ ghost use Rattle.unix_path.specs.Parts.{is_rooted, values};
 /// A path joined with the empty path keeps its components, but may get a trailing slash.
 ///
 /// `a` joined with `b` and then with `c/` is `a/b/c/`, and so is `a` joined with `b/c/`.
+#[tactic(auto, using(crate::proofs::lemmas::joins::LeadLemmas::join_associative_cases))]
 pub fn join_associative()
     ensures bytes { JoinsAssociate }
     ensures empty_first { EmptyJoinIsPath }

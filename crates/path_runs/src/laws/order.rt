@@ -27,6 +27,7 @@ pub fn order_total()
 /// Two paths that each start with the other are therefore equal.
 ///
 /// `a/./b` starts with `a//b`, and `a//b` starts with `a/./b`; they are equal.
+#[tactic(auto, using(crate::proofs::lemmas::order::OrderLemmas::begins_both_ways))]
 pub fn prefix_both_ways()
     ensures { PrefixBothWays }
 {}
@@ -46,6 +47,7 @@ pub fn descendants_contiguous()
 /// those that equal it.
 ///
 /// `a/b` is less than `a/b/c`, which starts with it.
+#[tactic(auto, using(crate::proofs::lemmas::order::IntervalLemmas::base_not_greater))]
 pub fn base_before_under()
     ensures { BaseBeforeUnder }
 {}

@@ -20,6 +20,7 @@ ghost use Rattle.path_runs.specs.EqualPathLaws.{SameOnEqual, SameOnEqualPairs, H
 /// This holds for every name, and for the file name of every path that has a stem.
 ///
 /// `a.tar.gz` is `a.tar`, a dot and `gz`; `.gz` is its own stem.
+#[tactic(auto, using(crate::proofs::lemmas::names::StemNameLemmas::name_rejoined_cases))]
 pub fn name_rejoined()
     ensures name { NameFromStem }
     ensures file_name { FileNameFromStem }
@@ -41,6 +42,7 @@ pub fn parent_before()
 /// A path without a parent is its only ancestor. Each ancestor is a prefix of the path's bytes.
 ///
 /// The ancestors of `/a//b/` are `/a//b/`, `/a` and `/`.
+#[tactic(auto, using(crate::proofs::lemmas::order::AncestorPrefixLemmas::ancestors_step_cases))]
 pub fn ancestors_step()
     ensures end { AncestorsEnd }
     ensures step { AncestorsStep }

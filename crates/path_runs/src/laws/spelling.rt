@@ -9,6 +9,7 @@ ghost use Rattle.path_runs.specs.SpellingLaws.{JoinsAreSpelling};
 /// Two paths are therefore equal if and only if their canonical forms are the same bytes.
 ///
 /// For `.//a/./b/` it is `./a/b`, and no other path of 5 bytes or fewer is equal to it.
+#[tactic(auto, using(crate::proofs::lemmas::spelling::LeanLemmas::canonical_form_cases))]
 pub fn canonical_form()
     ensures reads_back { SpellingReadsBack }
     ensures shortest { SpellingIsShortest }
@@ -20,6 +21,7 @@ pub fn canonical_form()
 /// A caller can size a buffer by this.
 ///
 /// `.//a/./b/` has 9 bytes, and its canonical form `./a/b` has 5.
+#[tactic(auto, using(crate::proofs::lemmas::spelling::LeanLemmas::canonical_is_short_cases))]
 pub fn canonical_is_short()
     ensures { SpellingFits }
 {}

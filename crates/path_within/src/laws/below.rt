@@ -10,6 +10,7 @@ ghost use Rattle.path_within.specs.BelowLaws.{BelowWithin, DownIsJoined, DownIsJ
 /// represent the same names.
 ///
 /// `/a/../../b` represents `b`, and so do `a/../../b` and `b`.
+#[tactic(auto, using(crate::proofs::lemmas::below::NamesBelowLemmas::requests_are_names_cases))]
 pub fn requests_are_names()
     ensures names { BelowHasNames }
     ensures resolved { BelowResolves }

@@ -9,6 +9,7 @@ ghost use Rattle.path_within.specs.ResolvedLaws.{ResolvedIsShort, ResolvedJoinIs
 /// Parsed as a path, its bytes have the resolved components. Resolving it again changes no byte.
 ///
 /// `a/../..//b/.` resolves to `../b`, which has the components `..` and `b` and resolves to itself.
+#[tactic(auto, using(crate::proofs::lemmas::stack::ResolveLemmas::resolved_is_normal_cases))]
 pub fn resolved_is_normal()
     ensures normal { ResolvedIsNormal }
     ensures values { ResolvedReadsBack }

@@ -13,7 +13,7 @@ use crate::windows::window_len;
 // after it, or 0 if there is none. If there are at least 16 bytes, and `may_begin` is false at the
 // first byte that is not ASCII among the first 16, the scan ends at that byte.
 #[inline(always)]
-#[tactic(auto, using(crate::proofs::lemmas::prefixes::TextPrefixLemmas::none_is_text))]
+#[tactic(auto, using(crate::proofs::lemmas::prefixes::TextPrefixLemmas::no_or_ascii_text))]
 pub(crate) fn scan_text(source: &[u8]) -> (usize, usize)
     ensures text { result.0 ≡ longest_len is_text source.now }
     ensures broken { result.1 ≡ broken_len (drop result.0 source.now) }
@@ -95,6 +95,7 @@ fn scan_by_sequence(source: &[u8], from: usize) -> (usize, usize)
 
 // Returns the length of the run of two-byte sequences at the beginning of `source`, or 0.
 #[inline(always)]
+#[tactic(auto, using(crate::proofs::lemmas::prefixes::TextPrefixLemmas::pair_at))]
 fn two_byte_prefix_len(source: &[u8]) -> usize
     ensures bound { result ≤ length source.now }
     ensures text { IsText (take result source.now) }

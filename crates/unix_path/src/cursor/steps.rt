@@ -27,6 +27,7 @@ pub(crate) fn has_lead(path: &[u8]) -> bool
 
 // Returns the root or the leading `.` that the path begins with.
 #[inline]
+#[tactic(auto, using(crate::proofs::lemmas::steps::LeadLemmas::leads))]
 fn lead(path: &[u8]) -> Component<'_>
     requires some { 0 < length path.now }
     requires lead { is_filler path.now 0 ≡ true }
@@ -91,6 +92,7 @@ fn is_trailing_simd16(path: &[u8], at: usize) -> bool
 // Drops blocks of 16 bytes from the end of the first `len` bytes, as long as the last block is all
 // filler and more than 16 bytes remain before the block is dropped. Returns how many bytes remain.
 #[inline(never)]
+#[tactic(auto, using(crate::proofs::lemmas::filler::TrailingBlockLemmas::parts_trailing_block))]
 fn trimmed_blocks_len(path: &[u8], len: usize) -> usize
     requires { len ≤ length path.now }
     ensures in_range { result ≤ len }

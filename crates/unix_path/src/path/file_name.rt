@@ -19,6 +19,7 @@ impl<'a> Path<'a> {
     /// For `foo.txt/.//` it is `foo.txt`.
     #[must_use]
     #[inline]
+    #[tactic(auto, using(crate::proofs::lemmas::walks::ComponentLemmas::file_names))]
     pub fn file_name(&self) -> Option<UnixStr<'a>>
         ensures { option_map (λ name. name.bytes.now) result
             ≡ file_name_of (values self.now.bytes.now) }
@@ -39,6 +40,7 @@ impl<'a> Path<'a> {
     /// For `foo.tar.gz` it is `foo.tar`, and for `.foo` it is `.foo`.
     #[must_use]
     #[inline]
+    #[tactic(auto, using(crate::proofs::lemmas::names::NameStemLemmas::stems))]
     pub fn file_stem(&self) -> Option<UnixStr<'a>>
         ensures { option_map (λ stem. stem.bytes.now) result ≡ stem_of (values self.now.bytes.now) }
     {
@@ -59,6 +61,7 @@ impl<'a> Path<'a> {
     /// For `foo.tar.gz` it is `gz`, and for `foo.` it is empty.
     #[must_use]
     #[inline]
+    #[tactic(auto, using(crate::proofs::lemmas::names::NameStemLemmas::extensions))]
     pub fn extension(&self) -> Option<UnixStr<'a>>
         ensures { option_map (λ part. part.bytes.now) result
             ≡ extension_of (values self.now.bytes.now) }
@@ -120,6 +123,7 @@ impl<'a> Path<'a> {
     /// For `a/foo.rs/` it is 5.
     #[must_use]
     #[inline]
+    #[tactic(auto, using(crate::proofs::lemmas::names::StemCutLemmas::stem_ends))]
     pub fn stem_end(&self) -> Option<usize>
         ensures value { result ≡ stem_end_of self.now.bytes.now }
         ensures in_range { IfSome result (λ end. end ≤ length self.now.bytes.now) }

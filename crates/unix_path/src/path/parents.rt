@@ -34,6 +34,7 @@ impl<'a> Path<'a> {
     // Returns the length of the parent, or `None` if there is no parent. Not inlined, so that
     // `parent` and `pop`, which call it, stay small.
     #[inline(never)]
+    #[tactic(auto, using(crate::proofs::lemmas::walks::ComponentLemmas::parents))]
     pub(crate) fn parent_len(&self) -> Option<usize>
         ensures value { option_map (λ len. take len self.now.bytes.now) result
             ≡ parent_of self.now.bytes.now }

@@ -50,6 +50,7 @@ impl<'a> Path<'a> {
     ///
     /// For `/a//b/` and the base `/a` it is `b`.
     #[inline]
+    #[tactic(auto, using(crate::proofs::lemmas::order::StripLemmas::stripped))]
     pub fn strip_prefix(&self, base: Path<'_>) -> Result<Path<'a>, StripPrefixError>
         ensures ok { IsOk result
             ↔ IsPrefixOf (values base.entry.bytes.now) (values self.now.bytes.now) }
@@ -83,6 +84,7 @@ impl<'a> Path<'a> {
     /// `/etc/passwd` starts with `/etc/`, and not with `/e`.
     #[must_use]
     #[inline]
+    #[tactic(auto, using(crate::proofs::lemmas::order::StripLemmas::empty_begins))]
     pub fn starts_with(&self, base: Path<'_>) -> bool
         ensures { IsTrue result
             ↔ IsPrefixOf (values base.entry.bytes.now) (values self.now.bytes.now) }

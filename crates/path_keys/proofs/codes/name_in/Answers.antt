@@ -43,9 +43,4 @@ returns-clause-some c =
     ∙ c.if-eq-2.false)
 
 pub returns-clause-raised : goal.returns-clause-raised
-returns-clause-raised c =
-    let s = c.args.bytes.now in
-    let n = c.find_byte-len.result in
-    map-raised-lowered (take n s)
-    (NoZero-before s n c.find_byte-len.ensures.value
-    (omega (arith, c.find_byte-len.ensures.in_range)))
+returns-clause-raised c = grind (arith, map-raised-lowered, NoZero-before)

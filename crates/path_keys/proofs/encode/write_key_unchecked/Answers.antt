@@ -4,15 +4,8 @@ use Rattle.std.proofs.lemmas.List.{take_rest}
 use Rattle.unix_path.specs.CommonDir.{inner_values}
 use Rattle.path_runs.proofs.lemmas.lists.WritingLemmas.{writes_last, writes_end}
 use Rattle.path_keys.proofs.lemmas.writing.LeadLemmas.{none_remain}
-use Rattle.path_keys.proofs.lemmas.writing.WrittenLemmas.{run_fits, written_run}
+use Rattle.path_keys.proofs.lemmas.writing.WrittenLemmas.{written_run}
 use Rattle.path_keys.proofs.encode.write_key_unchecked.Goals as goal
-
-pub write_run-at-requires-clause-fits : goal.write_run-at-requires-clause-fits
-write_run-at-requires-clause-fits c = omega (
-  arith,
-  c.loop-rest.auto.out,
-  run_fits c.loop-rest.rest.now c.loop-rest.invariant.written c.run_len-end.ensures c.requires,
-)
 
 pub loop-rest-preserved : goal.loop-rest-preserved
 loop-rest-preserved c =

@@ -1,9 +1,9 @@
 -- Bytes written to a buffer, each changed by the same function, one by one or many at once.
-use Rattle.std.proofs.Common.{◌≡◌, ℕ, ◌+◌, ◌<◌, ◌≤◌, List, [], ◌∷◌, ◌++◌, length, take, drop, map}
-use Rattle.std.proofs.Common.{get_or, set, refl, sym, ap, ap₂, ◌∙◌, arith}
-use Rattle.std.proofs.Common.{append_assoc, append-nil, length-append, length-set, length-drop}
+use Rattle.std.proofs.Common.{◌≡◌, ℕ, ◌+◌, ◌≤◌, List, ◌++◌, length, take, drop, map}
+use Rattle.std.proofs.Common.{sym, ap, ◌∙◌, arith}
+use Rattle.std.proofs.Common.{append_assoc, length-append, length-drop}
 use Rattle.std.proofs.Common.{take-append-drop}
-use Rattle.std.proofs.lemmas.List.{take_more_set, drop-set-lt, map_more, take_all, take-take}
+use Rattle.std.proofs.lemmas.List.{take_all, take-take}
 use Rattle.std.proofs.lemmas.List.{length-map, length-take-le, map-append}
 use Rattle.std.proofs.lemmas.List.{take_at}
 use Rattle.std.proofs.lemmas.Simd.{length-chunk, length-put_chunk, take_more_put_chunk}
@@ -19,33 +19,6 @@ pub record PutTo (f : ℕ → ℕ) (bytes old : List ℕ) (at i : ℕ) (out : Li
   pub long : length out ≡ length old
   pub before : take (at + i) out ≡ take at old ++ map f (take i bytes)
   pub after : drop (at + length bytes) out ≡ drop (at + length bytes) old
-
--- before the first byte is written, the buffer is `old`
-pub put_none : (f : ℕ → ℕ) (bytes old : List ℕ) (at : ℕ) → PutTo f bytes old at 0 old
-put_none f bytes old at = record {
-  long = refl;
-  before = ap (λ n. take n old) {x = at + 0} {y = at} (omega arith) ∙ sym (append-nil _);
-  after = refl;
-}
-
--- if the first i bytes are written, writing the byte at index i, changed by f, writes the first i +
--- 1
-pub put_one : (f : ℕ → ℕ) (bytes old : List ℕ) (at i : ℕ) (out new : List ℕ) (b : ℕ)
-    → PutTo f bytes old at i out → i < length bytes → at + i < length old
-    → b ≡ f (get_or bytes i 0) → new ≡ set out (at + i) b → PutTo f bytes old at (i + 1) new
-put_one f bytes old at i out new b h l m is e =
-    let here : at + i < length out = omega (arith, h.long) in
-    let next : at + i + 1 ≡ at + (i + 1) = omega arith in
-    let low : at + i < at + length bytes = omega arith in
-    record {
-      long = ap length e ∙ length-set out (at + i) b ∙ h.long;
-      before = ap₂ take (sym next) e ∙ take_more_set out (at + i) b here
-          ∙ ap₂ (λ xs c. xs ++ c ∷ []) h.before is
-          ∙ append_assoc (take at old) (map f (take i bytes)) (f (get_or bytes i 0) ∷ [])
-          ∙ ap (λ xs. take at old ++ xs) (sym (map_more f bytes i 0 l));
-      after = ap (drop (at + length bytes)) e
-          ∙ drop-set-lt (at + length bytes) out (at + i) b low ∙ h.after;
-    }
 
 -- if the first i bytes are written, and k is at most i, the first k bytes are written
 pub put_fewer : (f : ℕ → ℕ) (bytes old : List ℕ) (at i k : ℕ) (out : List ℕ)
@@ -112,9 +85,4 @@ put_many n f bytes old at i out new h l fits e =
 -- if all of `bytes` are written, `out` is `old` overwritten from `at` on with `bytes`, changed by f
 pub put_all : (f : ℕ → ℕ) (bytes old : List ℕ) (at i : ℕ) (out : List ℕ)
     → PutTo f bytes old at i out → i ≡ length bytes → out ≡ overlay at (map f bytes) old
-put_all f bytes old at i out h e =
-    let count : length bytes ≡ length (map f bytes) = sym (length-map bytes f) in
-    sym (take-append-drop (at + i) out)
-    ∙ ap₂ (λ xs ys. xs ++ ys)
-    (h.before ∙ ap (λ xs. take at old ++ map f xs) (take_all i bytes (omega arith)))
-    (ap (λ n. drop (at + n) out) e ∙ h.after ∙ ap (λ n. drop (at + n) old) count)
+put_all f bytes old at i out h e = grind (arith, length-map, take-append-drop, take_all)

@@ -1,7 +1,8 @@
 -- If a list vs may be all the components of a path, the canonical form of vs has exactly the
 -- components vs.
-use Rattle.std.proofs.Common.{◌≡◌, ℕ, Bool, true, false, cond, List, [], ◌∷◌, ◌++◌, map, refl}
-use Rattle.std.proofs.Common.{sym, ap, ap₂, ◌∙◌, subst}
+use Rattle.std.proofs.Common.{◌≡◌, ◌<◌, ◌&&◌, ℕ, Bool, true, false, cond, List, [], ◌∷◌, ◌++◌}
+use Rattle.std.proofs.Common.{arith, length, map, refl, sym, ap, ap₂, ◌∙◌, subst}
+use Rattle.std.proofs.lemmas.List.{append_cancel_left}
 use Rattle.std.specs.List.{AllByRecursion, slice_split}
 use Rattle.std.specs.Str.{bytes_eq}
 use Rattle.unix_path.specs.Parts.{Value, RootDir, CurDir, ParentDir, Normal, is_slash, slash}
@@ -22,7 +23,10 @@ use Rattle.path_runs.proofs.lemmas.spelling.SpellLemmas.{spelling_of-nil, spelli
 use Rattle.path_runs.proofs.lemmas.spelling.SpellLemmas.{spelling_of-dot}
 use Rattle.path_runs.proofs.lemmas.spelling.SpellLemmas.{spelling_of-cons}
 use Rattle.path_keys.specs.Codes.{Fits, AllFit}
+use Rattle.path_keys.specs.Keys.{key_of}
 use Rattle.path_keys.proofs.lemmas.values.CodeLemmas.{IsCoded}
+use Rattle.path_keys.proofs.lemmas.values.KeyLemmas.{key_of-append}
+use Rattle.path_keys.proofs.lemmas.values.OrderLemmas.{key_of-begins}
 
 -- if v may be a component of a path, v is `IsCoded`
 pub Fits-coded : (first : Bool) (v : Value) → Fits first v → IsCoded v
@@ -36,6 +40,14 @@ pub AllFit-coded : (first : Bool) (vs : List Value) → AllFit first vs → AllB
 AllFit-coded first [] h = tt
 AllFit-coded first (v ∷ vs) h = (Fits-coded first v h.0, AllFit-coded false vs h.1)
 
+-- if us and vs may be components of a path, and the key of us and then `rest` are the key of vs, vs
+-- is us and then components whose key is `rest`
+pub key_of-split : (first other : Bool) (us vs : List Value) (rest : List ℕ) → AllFit first us
+    → AllFit other vs → key_of us ++ rest ≡ key_of vs
+    → (ws : List Value) × (us ++ ws ≡ vs) × (key_of ws ≡ rest)
+key_of-split first other us vs rest h k e =
+    grind (arith, key_of-begins, AllFit-coded, append_cancel_left, key_of-append)
+
 -- if a piece is neither empty nor `.`, its component may follow others
 piece_fits : HoldsOfPieces (Fits false)
 piece_fits p h d e = by_test (bytes_eq p parent_dir) (λ up. rw up tt)
@@ -47,16 +59,46 @@ all_fit [] h = tt
 all_fit (v ∷ vs) h = (h.0, all_fit vs h.1)
 
 -- if v may follow other components, it may also be the first one
-Fits-first : (v : Value) → Fits false v → Fits true v
-Fits-first RootDir h = refl
-Fits-first CurDir h = refl
-Fits-first ParentDir h = tt
-Fits-first (Normal name) h = h
+Fits-any : (first : Bool) (v : Value) → Fits false v → Fits first v
+Fits-any first RootDir h = absurd (cc)
+Fits-any first CurDir h = absurd (cc)
+Fits-any first ParentDir h = tt
+Fits-any first (Normal name) h = h
 
 -- if vs may follow other components, vs may also be all components of a path
-pub AllFit-first : (vs : List Value) → AllFit false vs → AllFit true vs
-AllFit-first [] h = tt
-AllFit-first (v ∷ vs) h = (Fits-first v h.0, h.1)
+pub AllFit-any : (first : Bool) (vs : List Value) → AllFit false vs → AllFit first vs
+AllFit-any first [] h = tt
+AllFit-any first (v ∷ vs) h = (Fits-any first v h.0, h.1)
+
+-- true if no component comes before, so that the next one is the first
+abbrev pub starts : List Value → Bool
+starts [] = true
+starts (v ∷ vs) = false
+
+-- if vs is not empty, the next component after us and vs is not the first
+pub starts-more : (us vs : List Value) → 0 < length vs → starts (us ++ vs) ≡ false
+starts-more [] [] l = absurd (omega arith)
+starts-more [] (v ∷ vs) l = refl
+starts-more (u ∷ us) vs l = refl
+
+-- if us may be components of a path, and ws may come next, us and ws together may be components of
+-- a path
+pub AllFit-append : (first : Bool) (us ws : List Value) → AllFit first us
+    → AllFit (starts us && first) ws → AllFit first (us ++ ws)
+AllFit-append first [] ws h k = k
+AllFit-append first (u ∷ us) ws h k =
+    (h.0, AllFit-append false us ws h.1 (AllFit-any _ ws k))
+
+-- if us and ws together may follow other components, so may ws
+pub AllFit-later : (us ws : List Value) → AllFit false (us ++ ws) → AllFit false ws
+AllFit-later [] ws h = h
+AllFit-later (u ∷ us) ws h = AllFit-later us ws h.1
+
+-- if us and ws together may be components of a path, ws may come after us
+pub AllFit-after : (first : Bool) (us ws : List Value) → AllFit first (us ++ ws)
+    → AllFit (starts us && first) ws
+AllFit-after first [] ws h = h
+AllFit-after first (u ∷ us) ws h = AllFit-later us ws h.1
 
 -- the components of the pieces of any string s may follow other components
 names-fit : (s : List ℕ) → AllFit false (names_of (slice_split is_slash s))
@@ -71,7 +113,7 @@ names-fit s =
 lead-fit : (dot : Bool) (vs : List Value) → AllFit false vs
     → AllFit true (cond dot (CurDir ∷ []) [] ++ vs)
 lead-fit true vs h = (refl, h)
-lead-fit false vs h = AllFit-first vs h
+lead-fit false vs h = AllFit-any true vs h
 
 -- the components of a path s may be all components of a path
 pub values-fit : (s : List ℕ) → AllFit true (values s)
@@ -84,50 +126,37 @@ values-fit s = by_test (is_rooted s)
     subst (AllFit true) (sym (values-rootless s ps r refl))
     (lead-fit (dot_first ps) (names_of ps) (names-fit s)))
 
--- if v may follow other components, its bytes have no slash
-fits-no_slash : (v : Value) → Fits false v → NoSlash (value_bytes v)
-fits-no_slash RootDir h = absurd (cc)
-fits-no_slash CurDir h = (refl, tt)
-fits-no_slash ParentDir h = (refl, (refl, tt))
-fits-no_slash (Normal name) h = h.no_slash
-
--- if v may follow other components, its bytes are a piece that is neither empty nor `.`
-fits-counts : (v : Value) → Fits false v → counts (value_bytes v) ≡ true
-fits-counts RootDir h = absurd (cc)
-fits-counts CurDir h = absurd (cc)
-fits-counts ParentDir h = refl
-fits-counts (Normal name) h = rw (h.some, h.no_dot) refl
-
--- if v may follow other components, its bytes, taken as a piece, are the component v
-fits-value : (v : Value) → Fits false v → value_of_piece (value_bytes v) ≡ v
-fits-value RootDir h = absurd (cc)
-fits-value CurDir h = absurd (cc)
-fits-value ParentDir h = refl
-fits-value (Normal name) h = rw h.no_up refl
+-- if v may follow other components, its bytes have no slash and are a piece that is neither empty
+-- nor `.`, and taken as a piece they are the component v
+fits-piece : (v : Value) → Fits false v → NoSlash (value_bytes v)
+    × (counts (value_bytes v) ≡ true) × (value_of_piece (value_bytes v) ≡ v)
+fits-piece RootDir h = absurd (cc)
+fits-piece CurDir h = absurd (cc)
+fits-piece ParentDir h = ((refl, (refl, tt)), refl, refl)
+fits-piece (Normal name) h = (h.no_slash, rw (h.some, h.no_dot) refl, rw h.no_up refl)
 
 -- if vs may follow other components, the bytes of each of them have no slash
 pieces-no_slash : (vs : List Value) → AllFit false vs → AllByRecursion NoSlash (map value_bytes vs)
 pieces-no_slash [] h = tt
-pieces-no_slash (v ∷ vs) h = (fits-no_slash v h.0, pieces-no_slash vs h.1)
+pieces-no_slash (v ∷ vs) h = ((fits-piece v h.0).0, pieces-no_slash vs h.1)
 
 -- if vs may follow other components, the bytes of each component of vs are a piece that is neither
 -- empty nor `.`
 pieces-count : (vs : List Value) → AllFit false vs → AllCount (map value_bytes vs)
 pieces-count [] h = tt
-pieces-count (v ∷ vs) h = (fits-counts v h.0, pieces-count vs h.1)
+pieces-count (v ∷ vs) h = ((fits-piece v h.0).1, pieces-count vs h.1)
 
 -- if vs may follow other components, the bytes of each component of vs, taken as a piece, are that
 -- component again
 pieces-values : (vs : List Value) → AllFit false vs → map value_of_piece (map value_bytes vs) ≡ vs
 pieces-values [] h = refl
-pieces-values (v ∷ vs) h = ap₂ (λ u us. u ∷ us) (fits-value v h.0) (pieces-values vs h.1)
+pieces-values (v ∷ vs) h = ap₂ (λ u us. u ∷ us) (fits-piece v h.0).2 (pieces-values vs h.1)
 
 -- if vs may follow other components, the bytes of the components of vs, joined by slashes, are a
 -- path with the components vs
 inner-spelled : (vs : List Value) → AllFit false vs → values (slashed_bytes vs) ≡ vs
 inner-spelled vs h =
-    values-join_with_byte (map value_bytes vs) (pieces-no_slash vs h) (pieces-count vs h)
-    ∙ pieces-values vs h
+    grind (arith, values-join_with_byte, pieces-no_slash, pieces-count, pieces-values)
 
 -- if vs may be all components of a path, their canonical form has the components vs
 pub values-spelled : (vs : List Value) → AllFit true vs → values (spelling_of vs) ≡ vs

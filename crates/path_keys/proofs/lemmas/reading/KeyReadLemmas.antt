@@ -1,6 +1,6 @@
 -- The path that a key reads back as.
 use Rattle.std.proofs.Common.{◌≡◌, ◌<◌, ◌≤◌, ◌-◌, ℕ, List, [], length, refl, sym, ap, ◌∙◌, arith}
-use Rattle.std.proofs.Common.{◌++◌, drop, ap₂, true, Option, Some, None, is_some, IfSome, IsTrue}
+use Rattle.std.proofs.Common.{◌++◌, drop, true, Some}
 use Rattle.std.proofs.Common.{length-take-le}
 use Rattle.std.proofs.lemmas.Bool.{cond-false, lt-leb}
 use Rattle.unix_path.specs.Parts.{Value, values}
@@ -52,24 +52,10 @@ path_lone key len h few = record {
       ∙ ap length ((text_of-spelled h.vs h.fit (text_of h.vs) refl).1 (omega (arith, h.len_is)));
 }
 
--- if `key` reads back as a path of `len` bytes, it is a key
-pub path_key : (key : List ℕ) (len : ℕ) → HasPath key len → IsKey key
-path_key key len h = (h.path, h.read.key_is)
-
--- if `len` is the length of the path of `key`, or `None` if `key` is not a key, then `key` is a key
--- if and only if `len` isn't `None`
-pub known_key : (key : List ℕ) (len : Option ℕ) → IfSome len (λ n. HasPath key n)
-    → (len ≡ None → IsKey key → ⊥)
-    → (IsTrue (is_some len) → IsKey key) × (IsKey key → IsTrue (is_some len))
-known_key key None some none = (λ is. cc, λ is. absurd (none refl is))
-known_key key (Some n) some none = (λ is. path_key key n some, λ is. refl)
-
 -- if `key` reads back as `path`, and is the key of s, `path` is the canonical form of s
 pub read_back : (key path s : List ℕ) → IsRead key path → key_of (values s) ≡ key
     → path ≡ spelling_of (values s)
-read_back key path s h e =
-    h.spelled ∙ ap spelling_of (key_of-same (values path) (values s) (values-coded path)
-    (values-coded s) (h.key_is ∙ sym e))
+read_back key path s h e = grind (arith, key_of-same, values-coded)
 
 -- if the path of `key` has n bytes, and `key` is the key of s, the canonical form of s has n bytes
 spelled_long : {key : List ℕ} {n : ℕ} (s : List ℕ) → HasPath key n → key_of (values s) ≡ key
@@ -96,9 +82,7 @@ pub written_back : {key path : List ℕ} {n : ℕ} (old s : List ℕ) → HasPat
     → IsRead key path → key_of (values s) ≡ key → n ≤ length old
     → path ++ drop n old ≡ buffer_after (spelling_of (values s)) old
 written_back {key} {path} {n} old s h read e fits =
-    let long = spelled_long s h e in
-    ap₂ (λ p k. p ++ drop k old) (read_back key path s read e) long
-    ∙ sym (buffer_after-fits (spelling_of (values s)) old (omega (arith, long)))
+    grind (arith, spelled_long, read_back, buffer_after-fits)
 
 -- if `key` is empty, it is the key of the empty path
 empty_values : (key : List ℕ) → key ≡ [] → key_of (values []) ≡ key

@@ -1,8 +1,9 @@
 -- The last code of a key that is read code by code.
-use Rattle.std.proofs.Common.{◌≡◌, ◌≤◌, ◌<◌, ◌-◌, ◌+◌, ℕ, Bool, true, false, List, [], ◌++◌, length}
-use Rattle.std.proofs.Common.{take, drop, map, refl, sym, ap, ◌∙◌, arith, subst, ⊎_elim, append-nil}
-use Rattle.std.proofs.Common.{length-append, Option, Some, None, option_map, IfSome}
-use Rattle.std.proofs.lemmas.Bool.{cases_lt}
+use Rattle.std.proofs.Common.{◌≡◌, ◌≤◌, ◌<◌, ◌-◌, ◌&&◌, ℕ, Bool, true, false, List, [], ◌∷◌, ◌++◌}
+use Rattle.std.proofs.Common.{length, take, drop, map, refl, sym, ap, ◌∙◌, arith, subst, append-nil}
+use Rattle.std.proofs.Common.{append_assoc, length-append, length-drop, Option, Some, None}
+use Rattle.std.proofs.Common.{option_map, IfSome}
+use Rattle.std.proofs.lemmas.Bool.{and_left}
 use Rattle.std.proofs.lemmas.List.{take_at, nil_from_length}
 use Rattle.std.specs.Borrow.{Bor}
 use Rattle.unix_path.specs.Names.{file_name_of, name_of}
@@ -12,15 +13,16 @@ use Rattle.unix_path.proofs.lemmas.names.ParentLemmas.{parent_of-none, parent_of
 use Rattle.unix_path.proofs.lemmas.names.ParentLemmas.{parent_of-push}
 use Rattle.unix_path.proofs.lemmas.names.ParentLemmas.{file_name_of-last, file_name_of-none}
 use Rattle.path_runs.proofs.lemmas.joins.SiblingLemmas.{values-rest_push}
-use Rattle.path_runs.specs.Spelling.{spelling_of}
 use Rattle.path_keys.specs.Keys.{code, key_of, raised, IsKey}
-use Rattle.path_keys.specs.Codes.{code_value, slashed, lowered, HasNoCode, IsRaised, TakesCode}
+use Rattle.path_keys.specs.Codes.{code_value, lowered, AllFit, Fits, HasNoCode, IsRaised}
+use Rattle.path_keys.specs.Codes.{TakesCode}
 use Rattle.path_keys.specs.Lasts.{EndsIn}
 use Rattle.path_keys.specs.declared.parent.LastCode.{LastCode}
-use Rattle.path_keys.proofs.lemmas.values.CodeLemmas.{values-coded}
-use Rattle.path_keys.proofs.lemmas.reading.FitLemmas.{AllFit-coded, values-spelled}
-use Rattle.path_keys.proofs.lemmas.values.OrderLemmas.{key_of-same}
-use Rattle.path_keys.proofs.lemmas.reading.ReadLemmas.{ReadsTo, reads_none, reads_one, reads_no_key}
+use Rattle.path_keys.proofs.lemmas.reading.FitLemmas.{AllFit-after, AllFit-append, key_of-split}
+use Rattle.path_keys.proofs.lemmas.reading.FitLemmas.{starts, starts-more, values-fit}
+use Rattle.path_keys.proofs.lemmas.reading.FitLemmas.{values-spelled}
+use Rattle.path_keys.proofs.lemmas.values.KeyLemmas.{key_of-append, key_of-cons, key_of-nil}
+use Rattle.path_keys.proofs.lemmas.values.KeyLemmas.{key_of-one}
 
 -- the last of the components us has the last code that was read; if no code was read, us is empty
 abbrev pub LastIs : List ℕ → List Value → Option LastCode → Type 0
@@ -28,17 +30,26 @@ LastIs key us None = us ≡ []
 LastIs key us (Some last) = EndsIn key us last.start (code_value last.code)
     × (last.start ≤ length key) × IsRaised last.code
 
--- `rest` is the rest of the key after the codes that were read, and `last` is the last of these
--- codes
+-- `rest` is the rest of the key after the codes of some components, which may be all components of
+-- a path, and `last` is the last of these codes; `first` is true if no code was read
 pub record WalksTo (key rest : List ℕ) (first : Bool) (last : Option LastCode) : Type 0 where
-  pub len : ℕ
-  pub reads : ReadsTo key rest first len
-  pub last_is : LastIs key reads.us last
+  pub us : List Value
+  pub fit : AllFit true us
+  pub first_is : first ≡ (starts us && true)
+  pub whole : key_of us ++ rest ≡ key
+  pub short : length rest ≤ length key
+  pub last_is : LastIs key us last
 
 -- before the first code is read, the rest is all of the key
 pub walks_none : (key : List ℕ) → WalksTo key key true None
-unfolding reads_none
-walks_none key = record { len = 0; reads = reads_none key; last_is = refl }
+walks_none key = record {
+  us = [];
+  fit = tt;
+  first_is = refl;
+  whole = ap (λ k. k ++ key) key_of-nil;
+  short = omega arith;
+  last_is = refl;
+}
 
 -- if `rest` begins with the code of `next`, reading this code leads to `more`, the bytes of `rest`
 -- after it
@@ -46,20 +57,27 @@ pub walks_one : {key rest more : List ℕ} {first : Bool} {last : Option LastCod
     → WalksTo key rest first last → TakesCode first rest (code_value next.code)
     → IsRaised next.code → next.start ≡ length key - length rest
     → more ≡ drop (length (code (code_value next.code))) rest → WalksTo key more false (Some next)
-unfolding reads_one
 walks_one {key} {rest} {more} {first} {last} next h k raised at e =
-    let whole = h.reads.whole in
-    let count : next.start ≡ length (key_of h.reads.us) =
-    omega (arith, at, ap length whole, length-append (key_of h.reads.us) rest) in
+    let v = code_value next.code in
+    let count : next.start ≡ length (key_of h.us) =
+    omega (arith, at, ap length h.whole, length-append (key_of h.us) rest) in
     record {
-      len = h.len + length (slashed (code_value next.code));
-      reads = reads_one h.reads k e refl;
+      us = h.us ++ v ∷ [];
+      fit = AllFit-append true h.us (v ∷ []) h.fit
+          (subst (λ b. Fits b v) h.first_is k.fits, tt);
+      first_is = sym (and_left _ true (starts-more h.us (v ∷ []) (omega arith)));
+      whole =
+          ap (λ c. c ++ more) (key_of-append h.us (v ∷ []) ∙ ap (λ c. key_of h.us ++ c)
+          (key_of-one v))
+          ∙ append_assoc (key_of h.us) (code v) more
+          ∙ ap (λ r. key_of h.us ++ r) (ap (λ r. code v ++ r) e ∙ sym k.is) ∙ h.whole;
+      short = omega (arith, h.short, ap length e, length-drop (length (code v)) rest);
       last_is = (
         record {
-          front = h.reads.us;
+          front = h.us;
           is = refl;
-          front_is = ap (take next.start) (sym whole)
-              ∙ take_at (key_of h.reads.us) rest next.start (sym count);
+          front_is = ap (take next.start) (sym h.whole)
+              ∙ take_at (key_of h.us) rest next.start (sym count);
         },
         omega arith,
         raised,
@@ -67,17 +85,19 @@ walks_one {key} {rest} {more} {first} {last} next h k raised at e =
     }
 
 -- if `rest` begins with no code, the components that were read are those of each path s with the
--- key
+-- key, and `rest` is empty
 walks_all : {key rest : List ℕ} {first : Bool} {last : Option LastCode}
     (h : WalksTo key rest first last) → HasNoCode first rest → (s : List ℕ)
-    → key_of (values s) ≡ key → h.reads.us ≡ values s
+    → key_of (values s) ≡ key → (h.us ≡ values s) × (rest ≡ [])
 walks_all {key} {rest} h none s e =
-    let empty : rest ≡ [] = nil_from_length rest (⊎_elim
-    (λ some. absurd (reads_no_key h.reads none some (s, e))) (λ few. omega arith)
-    (cases_lt 0 (length rest))) in
-    key_of-same h.reads.us (values s) (AllFit-coded true h.reads.us h.reads.fit) (values-coded s)
-    (sym (append-nil (key_of h.reads.us)) ∙ ap (λ r. key_of h.reads.us ++ r) (sym empty)
-    ∙ h.reads.whole ∙ sym e)
+    by (key_of-split true true h.us (values s) rest h.fit (values-fit s) (h.whole ∙ sym e))
+  where
+    by : (ws : List Value) × (h.us ++ ws ≡ values s) × (key_of ws ≡ rest)
+        → (h.us ≡ values s) × (rest ≡ [])
+    by ([], same, remain) = (sym (append-nil h.us) ∙ same, sym remain ∙ key_of-nil)
+    by (w ∷ ws, same, remain) = absurd (none w (key_of ws) (subst (λ b. Fits b w) (sym h.first_is)
+        (AllFit-after true h.us (w ∷ ws) (subst (AllFit true) (sym same) (values-fit s))).0)
+        (sym (key_of-cons w ws) ∙ remain))
 
 -- if `rest` begins with no code, the last code that was read is that of the last component of each
 -- path with the key
@@ -87,41 +107,26 @@ pub walks_some : {key rest : List ℕ} {first : Bool} (last : Option LastCode)
     → EndsIn key (values s) last.start (code_value last.code))
 walks_some None h none = tt
 walks_some {key} (Some last) h none = λ s e.
-    subst (λ vs. EndsIn key vs last.start (code_value last.code)) (walks_all h none s e)
+    subst (λ vs. EndsIn key vs last.start (code_value last.code)) (walks_all h none s e).0
     h.last_is.0
-
--- the last code that was read begins within the key
-pub walks_range : {key rest : List ℕ} {first : Bool} (last : Option LastCode)
-    → WalksTo key rest first last → IfSome last (λ last. last.start ≤ length key)
-walks_range None h = tt
-walks_range (Some last) h = h.last_is.1
-
--- if the last code that was read is the code of a name, it has the raised bytes of this name
-pub walks_raised : {key rest : List ℕ} {first : Bool} (last : Option LastCode)
-    → WalksTo key rest first last → IfSome last (λ last. IsRaised last.code)
-walks_raised None h = tt
-walks_raised (Some last) h = h.last_is.2
 
 -- if no code was read, and `rest` begins with no code, each path with the key has no component
 pub walks_empty : {key rest : List ℕ} {first : Bool} (last : Option LastCode)
     → WalksTo key rest first last → HasNoCode first rest → last ≡ None
     → (s : List ℕ) → key_of (values s) ≡ key → values s ≡ []
-walks_empty None h none is s e = sym (walks_all h none s e) ∙ h.last_is
+walks_empty None h none is s e = sym (walks_all h none s e).0 ∙ h.last_is
 walks_empty (Some last) h none is s e = absurd (cc)
 
 -- if `rest` is not empty and begins with no code, no path has the key
 pub walks_no_key : {key rest : List ℕ} {first : Bool} (last : Option LastCode)
     → WalksTo key rest first last → HasNoCode first rest → 0 < length rest → IsKey key → ⊥
-walks_no_key last h none some is = reads_no_key h.reads none some is
+walks_no_key last h none some is =
+    omega (arith, ap length (walks_all h none is.0 is.1).1, some)
 
 -- if `rest` is empty, a path has the key: the canonical form of the components that were read
 pub walks_key : {key rest : List ℕ} {first : Bool} (last : Option LastCode)
     → WalksTo key rest first last → length rest ≡ 0 → IsKey key
-walks_key {key} {rest} last h empty = (
-  spelling_of h.reads.us,
-  ap key_of (values-spelled h.reads.us h.reads.fit) ∙ sym (append-nil (key_of h.reads.us))
-      ∙ ap (λ r. key_of h.reads.us ++ r) (sym (nil_from_length rest empty)) ∙ h.reads.whole,
-)
+walks_key {key} {rest} last h empty = grind (arith, values-spelled, append-nil, nil_from_length)
 
 -- if s has no component, it has no parent, so there is no key of a parent
 pub no_parent : (s : List ℕ) → values s ≡ []
@@ -140,10 +145,7 @@ root_parent key s start h =
 pub front_parent : (key s : List ℕ) (start : ℕ) (v : Value) → (v ≡ RootDir → ⊥)
     → EndsIn key (values s) start v
     → Some (take start key) ≡ option_map (λ parent. key_of (values parent)) (parent_of s)
-front_parent key s start v no_root h =
-    ap Some (h.front_is ∙ ap key_of (sym (values-rest_push s h.front v h.is)))
-    ∙ ap (option_map (λ parent. key_of (values parent)))
-    (parent_of-push s h.front v h.is refl no_root)
+front_parent key s start v no_root h = grind (arith, values-rest_push, parent_of-push)
 
 -- if s has no component, it has no file name
 pub no_name : (s : List ℕ) → values s ≡ []

@@ -1,4 +1,5 @@
 -- The name with which a key's bytes begin.
+use Rattle.std.proofs.lemmas.Grind.{common_steps}
 use Rattle.std.proofs.Common.{◌≡◌, ◌<◌, ℕ, ◌+◌, true, false, eqb, List, [], ◌∷◌, ◌++◌}
 use Rattle.std.proofs.Common.{length, map, take, drop, get_or, refl, sym, ap, ap₂, ◌∙◌, arith}
 use Rattle.std.proofs.Common.{subst}
@@ -10,7 +11,6 @@ use Rattle.std.proofs.lemmas.Slice.Eq.{bytes_eq-Decides}
 use Rattle.std.specs.List.{AllByRecursion, position_or_len}
 use Rattle.std.specs.Str.{bytes_eq}
 use Rattle.unix_path.specs.Parts.{slash, cur_dir, parent_dir, Normal}
-use Rattle.unix_bytes.proofs.lemmas.lists.ListLemmas.{by_test}
 use Rattle.path_keys.specs.Keys.{code, raised}
 use Rattle.path_keys.specs.Codes.{lowered, IsName, TakesCode}
 use Rattle.path_keys.proofs.lemmas.values.LoweredLemmas.{NoZero, is_zero, map-raised-lowered}
@@ -33,12 +33,7 @@ some_bytes (b ∷ p) e = omega arith
 -- lead to p
 not_read : (bytes p : List ℕ) → NoZero bytes → bytes_eq bytes (map raised p) ≡ false
     → bytes_eq (map lowered bytes) p ≡ false
-not_read bytes p h other_bytes = by_test (bytes_eq (map lowered bytes) p)
-    (λ same.
-    let e = sym (map-raised-lowered bytes h)
-    ∙ ap (map raised) ((bytes_eq-Decides (map lowered bytes) p).0 same) in
-    absurd (false≢true (sym other_bytes ∙ (bytes_eq-Decides bytes (map raised p)).1 e)))
-    (λ other. other)
+not_read bytes p h other_bytes = grind (arith, map-raised-lowered, bytes_eq-Decides, false≢true)
 
 -- if the first 0 of s is at index n, and the bytes before it are neither empty nor the raised bytes
 -- of `.` or `..`, s begins with the code of the name that these bytes represent
@@ -107,8 +102,4 @@ pub no_name_read : (s p : List ℕ) (n : ℕ) → n ≡ position_or_len is_zero 
     → AllByRecursion (λ b. eqb b 47 ≡ false) p
     → (name x : List ℕ) → IsName name → code (Normal name) ++ x ≡ s → ⊥
 no_name_read s p n e same none clean name x h begins =
-    let found = finds_name s name x n e h begins in
-    let is : map raised p ≡ map raised name =
-    sym ((bytes_eq-Decides (take n s) (map raised p)).0 same) ∙ found.is in
-    none (subst IsName (sym (sym (map-lowered-raised p clean) ∙ ap (map lowered) is
-    ∙ map-lowered-raised name h.no_slash)) h)
+    grind (arith, common_steps, finds_name, bytes_eq-Decides, map-lowered-raised)

@@ -1,6 +1,7 @@
 -- The text of components: their bytes, each with a slash after it, except that the root is one
 -- slash. It is their canonical form and a slash, except for a lone root and for no components.
-use Rattle.std.proofs.Common.{◌≡◌, ◌<◌, ◌≤◌, ◌-◌, ◌+◌, ◌*◌, ℕ}
+use Rattle.std.proofs.lemmas.Grind.{common_steps}
+use Rattle.std.proofs.Common.{◌≡◌, ◌<◌, ◌≤◌, ◌-◌, ◌+◌, ℕ}
 use Rattle.std.proofs.Common.{false, true, List, [], ◌∷◌, ◌++◌}
 use Rattle.std.proofs.Common.{length, take, map, refl, sym, ap, ◌∙◌, arith, append_assoc}
 use Rattle.std.proofs.Common.{length-append, append-nil, ap₂, subst}
@@ -10,9 +11,8 @@ use Rattle.unix_path.specs.Parts.{Value, RootDir, CurDir, ParentDir, Normal, sla
 use Rattle.path_runs.specs.Spelling.{slashed_bytes, spelling_of}
 use Rattle.path_runs.proofs.lemmas.spelling.SpellLemmas.{spelling_of-nil, spelling_of-root}
 use Rattle.path_runs.proofs.lemmas.spelling.SpellLemmas.{spelling_of-cons}
-use Rattle.path_keys.specs.Keys.{raised, code, key_of}
+use Rattle.path_keys.specs.Keys.{raised, code}
 use Rattle.path_keys.specs.Codes.{slashed, text_of, Fits, AllFit}
-use Rattle.path_keys.proofs.lemmas.values.KeyLemmas.{key_of-nil, key_of-cons}
 use Rattle.path_keys.proofs.lemmas.reading.NameLemmas.{some_bytes}
 
 -- the text of no components is empty
@@ -24,6 +24,11 @@ text_of-nil = refl
 pub text_of-cons : (v : Value) (vs : List Value) → text_of (v ∷ vs) ≡ slashed v ++ text_of vs
 unfolding text_of
 text_of-cons v vs = refl
+
+-- the text of v as the only component is `slashed v`
+pub text_of-one : (v : Value) → text_of (v ∷ []) ≡ slashed v
+unfolding text_of
+text_of-one v = append-nil (slashed v)
 
 -- the text of vs and ws together is the text of vs followed by the text of ws
 pub text_of-append : (vs ws : List Value) → text_of (vs ++ ws) ≡ text_of vs ++ text_of ws
@@ -51,18 +56,14 @@ slashed-inner (Normal name) h = refl
 
 -- if v may follow other components, it is not the root
 no_root : (v : Value) → Fits false v → v ≡ RootDir → ⊥
-no_root RootDir h e = cc
-no_root CurDir h e = cc
-no_root ParentDir h e = cc
-no_root (Normal name) h e = cc
+no_root v h e = let d : false ≡ true = subst (Fits false) e h in cc
 
 -- if v is not the root, and vs may follow other components, the text of v and vs is their bytes
 -- joined by slashes, and a slash at the end
 pub text_of-slashed : (v : Value) (vs : List Value) → (v ≡ RootDir → ⊥) → AllFit false vs
     → text_of (v ∷ vs) ≡ slashed_bytes (v ∷ vs) ++ slash ∷ []
 text_of-slashed v [] n h =
-    text_of-cons v [] ∙ ap (λ t. slashed v ++ t) text_of-nil ∙ append-nil (slashed v)
-    ∙ slashed-inner v n
+    text_of-one v ∙ slashed-inner v n
 text_of-slashed v (w ∷ vs) n h =
     let more = slashed_bytes (w ∷ vs) in
     text_of-cons v (w ∷ vs)
@@ -87,9 +88,7 @@ spelled_some v (w ∷ vs) l =
 text_longer : (v : Value) (vs : List Value) → (v ≡ RootDir → ⊥) → 0 < length (value_bytes v)
     → AllFit false vs → IsText (text_of (v ∷ vs)) (spelling_of (v ∷ vs))
 text_longer v vs n l h =
-    let e = spelling_of-cons v vs n in
-    longer (omega (arith, spelled_some v vs l, ap length e))
-    (text_of-slashed v vs n h ∙ ap (λ s. s ++ slash ∷ []) (sym e))
+    grind (arith, common_steps, spelling_of-cons, longer, spelled_some, text_of-slashed)
 
 -- if v may follow other components, it has at least one byte
 value_some : (v : Value) → Fits false v → 0 < length (value_bytes v)
@@ -103,9 +102,8 @@ value_some (Normal name) h = some_bytes name h.some
 text_rooted : (vs : List Value) → AllFit false vs
     → IsText (text_of (RootDir ∷ vs)) (spelling_of (RootDir ∷ vs))
 text_rooted [] h =
-    let text : text_of (RootDir ∷ []) ≡ slash ∷ [] =
-    text_of-cons RootDir [] ∙ ap (λ t. slash ∷ t) text_of-nil in
-    lone (omega (arith, ap length text)) (text ∙ sym (spelling_of-root []))
+    lone (omega (arith, ap length (text_of-one RootDir)))
+    (text_of-one RootDir ∙ sym (spelling_of-root []))
 text_rooted (v ∷ vs) h =
     let e = spelling_of-root (v ∷ vs) in
     longer (omega (arith, ap length e))

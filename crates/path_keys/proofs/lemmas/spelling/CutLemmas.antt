@@ -10,11 +10,10 @@ use Rattle.std.proofs.Math.Seq.{take-append-add}
 use Rattle.unix_path.specs.Parts.{Value, slash, values}
 use Rattle.path_runs.specs.Overlay.{overlay}
 use Rattle.path_runs.specs.Spelling.{spelling_of}
-use Rattle.path_keys.specs.Keys.{key_of}
 use Rattle.path_keys.specs.Codes.{text_of, HasPath, IsRead, ReadsAs}
 use Rattle.path_keys.specs.NameBytes.{decoded}
 use Rattle.path_keys.specs.Runs.{lead_text, run_code, run_text, BeginsLead, HoldsNone}
-use Rattle.path_keys.specs.Runs.{LeavesText, TakesRun}
+use Rattle.path_keys.specs.Runs.{TakesRun}
 use Rattle.path_keys.specs.declared.runs.Lead.{Lead}
 use Rattle.path_keys.specs.declared.runs.Run.{Run}
 use Rattle.path_keys.specs.declared.runs.Run.TheVariants.{Names}
@@ -127,31 +126,6 @@ cut_lead {key} {rest} {old} {out} {lead} {at} h k is_put ends =
           length-append (spelling_of (values h.path)) (slash ∷ []),
         ))) (omega (arith, long)) (omega (arith, long))
         (sym (take_at old (0 ∷ []) (length old) refl))
-
--- the text of the components in `rest` has at most one byte more than the buffer has from `at` on
-pub cut_leaves : {key rest old out : List ℕ} {at : ℕ}
-    → SpellsCut key rest old at out
-    → (at ≤ length old + 1) × LeavesText rest (length old + 1 - at)
-cut_leaves {key} {rest} {old} {out} {at} h =
-    let k = h.spells in
-    let w = k.written in
-    let count : at + length (text_of k.ws) ≤ length old + 1 =
-    omega (
-      arith,
-      h.few,
-      k.fits,
-      w.at_is,
-      ap length w.whole_is,
-      length-append w.start (text_of k.ws),
-    ) in (
-      omega (arith, count),
-      record {
-        ws = k.ws;
-        fit = k.inner;
-        rest_is = k.rest_is;
-        short = omega (arith, count);
-      },
-    )
 
 -- if `rest` begins with `run`, the text of `run`, perhaps without the slash at its end, fits
 -- between index `at` and the end of `old`

@@ -4,10 +4,11 @@ use Rattle.std.proofs.Common.{List, [], ◌∷◌}
 use Rattle.std.proofs.Common.{◌++◌, length, take, drop, map, get_or, refl, sym, ap, ap₂, ◌∙◌}
 use Rattle.std.proofs.Common.{subst, arith, append_assoc, length-append}
 use Rattle.std.proofs.Common.{◌&&◌, ◌||◌}
-use Rattle.std.proofs.Common.{⊎_elim, take-append-drop}
+use Rattle.std.proofs.Common.{take-append-drop}
 use Rattle.std.proofs.lemmas.Bool.{cases_lt}
 use Rattle.std.proofs.lemmas.Bool.Decides.{nat_tests}
-use Rattle.std.proofs.lemmas.List.{get_or-map, length-map}
+use Rattle.std.proofs.lemmas.List.{get_or-map, length-map, map-id}
+use Rattle.std.proofs.lemmas.Simd.{map-map}
 use Rattle.std.proofs.lemmas.List.{get_or_past, length-take-le, drop_more}
 use Rattle.std.proofs.lemmas.List.Splits.{join_with_byte-slice_split}
 use Rattle.std.specs.Borrow.{Bor}
@@ -29,6 +30,7 @@ use Rattle.unix_path.proofs.lemmas.name_run_ends.NameRunEndLemmas.{separator_at_
 use Rattle.path_keys.proofs.lemmas.writing.PieceCodeLemmas.{all_pieces_names, names_of-names}
 use Rattle.path_keys.proofs.lemmas.writing.PieceCodeLemmas.{some_piece}
 use Rattle.path_keys.proofs.lemmas.writing.PieceCodeLemmas.{stretch_key}
+use Rattle.path_keys.proofs.lemmas.values.LoweredLemmas.{map-back}
 use Rattle.path_keys.proofs.lemmas.reading.TextLemmas.{text_of-slashed}
 
 -- decoding a byte of a key and coding the result leads back to the byte
@@ -51,12 +53,7 @@ map-coded-decoded (b ∷ t) = ap₂ (λ c s. c ∷ s) (coded-decoded b) (map-cod
 -- the byte at index k of the decoded bytes t is the decoded byte at index k of t; past the end of
 -- t, a slash counts as the decoded 0
 decoded_at : (t : List ℕ) (k : ℕ) → get_or (map decoded t) k 47 ≡ decoded (get_or t k 0)
-decoded_at t k = ⊎_elim
-    (λ inside. get_or-map decoded t k 0 47 inside)
-    (λ past.
-    get_or_past (map decoded t) k 47 (omega (arith, length-map t decoded))
-    ∙ sym (ap decoded (get_or_past t k 0 past)))
-    (cases_lt k (length t))
+decoded_at t k = grind (arith, get_or-map, get_or_past, length-map, cases_lt)
 
 -- no name begins at index i of the decoded bytes t if and only if no name begins at index i of t
 no_name_starts_at-decoded : (t : List ℕ) (i : ℕ)
@@ -75,20 +72,13 @@ no_name_starts_at-decoded t i =
 -- only if one ends at index i of t
 ends_name_run-decoded : (t : List ℕ) (i : ℕ) → i < length t
     → ends_name_run (map decoded t) i ≡ ends_name_run_of 0 47 t i
-ends_name_run-decoded t i l =
-    ap₂ (λ x y. x && y) (ap (λ x. eqb x 47) (get_or-map decoded t i 0 0 l)
-    ∙ decoded-slash (get_or t i 0)) (no_name_starts_at-decoded t (i + 1))
-
--- if b is no slash, raising b and decoding the result leads back to b
-decoded-raised : (b : ℕ) → is_slash b ≡ false → decoded (raised b) ≡ b
-decoded-raised b h = grind (arith, nat_tests)
+ends_name_run-decoded t i l = grind (arith, get_or-map, decoded-slash, no_name_starts_at-decoded)
 
 -- if p has no slash, raising all bytes of p and decoding the results leads back to p
 pub map-decoded-raised : (p : List ℕ) → AllByRecursion (λ b. is_slash b ≡ false) p
     → map decoded (map raised p) ≡ p
-map-decoded-raised [] h = refl
-map-decoded-raised (b ∷ p) h =
-    ap₂ (λ c s. c ∷ s) (decoded-raised b h.0) (map-decoded-raised p h.1)
+map-decoded-raised =
+    map-back decoded raised (λ b. is_slash b ≡ false) (λ b h. grind (arith, nat_tests))
 
 -- if ps are names, they may be the components of a path, or follow other components
 pub names_fit : (first : Bool) (ps : List (List ℕ)) → AllByRecursion IsName ps
@@ -96,17 +86,13 @@ pub names_fit : (first : Bool) (ps : List (List ℕ)) → AllByRecursion IsName 
 names_fit first [] h = tt
 names_fit first (p ∷ ps) h = (h.0, names_fit false ps h.1)
 
--- the components that are the names ps have the bytes ps
-value_bytes-names : (ps : List (List ℕ)) → map value_bytes (map Normal ps) ≡ ps
-value_bytes-names [] = refl
-value_bytes-names (p ∷ ps) = ap (λ qs. p ∷ qs) (value_bytes-names ps)
-
 -- if p and ps are names, their text is p and ps joined by slashes, and a slash at the end
 text_of-names : (p : List ℕ) (ps : List (List ℕ)) → AllByRecursion IsName (p ∷ ps)
     → text_of (map Normal (p ∷ ps)) ≡ join_with_byte slash (p ∷ ps) ++ slash ∷ []
 text_of-names p ps h =
     text_of-slashed (Normal p) (map Normal ps) (λ e. cc) (names_fit false ps h.1)
-    ∙ ap (λ qs. join_with_byte slash qs ++ slash ∷ []) (value_bytes-names (p ∷ ps))
+    ∙ ap (λ qs. join_with_byte slash qs ++ slash ∷ [])
+    (map-map value_bytes Normal (p ∷ ps) ∙ map-id (p ∷ ps))
 
 -- if a name begins at index 0 of s, and the run of names ends at index n within s, s begins with
 -- the run of the names in its first n bytes

@@ -13,7 +13,7 @@ use Rattle.path_keys.specs.Codes.{slashed, text_of, AllFit, Fits, IsName}
 use Rattle.path_keys.specs.NameBytes.{decoded}
 use Rattle.path_keys.specs.Runs.{LeavesText, TakesRun}
 use Rattle.path_keys.specs.declared.runs.Run.TheVariants.{Names}
-use Rattle.path_keys.proofs.lemmas.values.KeyLemmas.{key_of-nil, key_of-cons}
+use Rattle.path_keys.proofs.lemmas.values.KeyLemmas.{key_of-nil, key_of-cons, key_of-one}
 use Rattle.path_keys.proofs.lemmas.spelling.KeyRunLemmas.{map-decoded-raised, names_fit}
 use Rattle.path_keys.proofs.lemmas.reading.TextLemmas.{text_of-nil, text_of-cons}
 
@@ -100,8 +100,7 @@ record EndsInMark (key : List ℕ) : Type 0 where
 ends_in_mark : (p : List ℕ) (ps : List (List ℕ)) → EndsInMark (key_of (map Normal (p ∷ ps)))
 ends_in_mark p [] = record {
   front = map raised p;
-  is = key_of-cons (Normal p) [] ∙ ap (λ k. (map raised p ++ 0 ∷ []) ++ k) key_of-nil
-      ∙ append-nil (map raised p ++ 0 ∷ []);
+  is = key_of-one (Normal p);
 }
 ends_in_mark p (q ∷ ps) =
     let more = ends_in_mark q ps in

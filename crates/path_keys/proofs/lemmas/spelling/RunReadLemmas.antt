@@ -1,8 +1,9 @@
 -- A key that is read run by run.
 use Rattle.std.proofs.Common.{◌≡◌, ◌<◌, ◌≤◌, ◌+◌, ◌*◌, ℕ, true, false, List, [], ◌∷◌, ◌++◌}
-use Rattle.std.proofs.Common.{length, drop, map, refl, sym, ap, ◌∙◌, arith, subst, append_assoc}
+use Rattle.std.proofs.Common.{length, drop, map, sym, ap, ◌∙◌, arith, subst, append_assoc}
 use Rattle.std.proofs.Common.{length-append, length-drop}
-use Rattle.std.proofs.lemmas.List.{append_cancel_left, length-map}
+use Rattle.std.proofs.lemmas.Bool.{and_left}
+use Rattle.std.proofs.lemmas.List.{length-map}
 use Rattle.unix_path.specs.Parts.{Value, values}
 use Rattle.unix_path.specs.Parts.{slash}
 use Rattle.path_keys.specs.Keys.{code, key_of, IsKey}
@@ -13,38 +14,12 @@ use Rattle.path_keys.specs.declared.runs.Run.{Run}
 use Rattle.path_keys.specs.declared.runs.Lead.{Lead}
 use Rattle.path_keys.specs.declared.runs.Run.TheVariants.{Names}
 use Rattle.path_keys.specs.declared.runs.Run.TheVariants as run_variants
-use Rattle.path_keys.proofs.lemmas.values.CodeLemmas.{code-length, values-coded}
-use Rattle.path_keys.proofs.lemmas.reading.FitLemmas.{AllFit-coded, AllFit-first, values-fit}
+use Rattle.path_keys.proofs.lemmas.values.CodeLemmas.{code-length}
+use Rattle.path_keys.proofs.lemmas.reading.FitLemmas.{AllFit-after, AllFit-any, AllFit-append}
+use Rattle.path_keys.proofs.lemmas.reading.FitLemmas.{key_of-split, starts-more, values-fit}
 use Rattle.path_keys.proofs.lemmas.values.KeyLemmas.{key_of-nil, key_of-cons, key_of-append}
-use Rattle.path_keys.proofs.lemmas.values.OrderLemmas.{key_of-begins}
-use Rattle.path_keys.proofs.lemmas.reading.ReadLemmas.{starts}
 use Rattle.path_keys.proofs.lemmas.reading.TextLemmas.{text_of-nil, text_of-cons, text_of-append}
 use Rattle.path_keys.proofs.lemmas.reading.TextLemmas.{length-slashed}
-
--- if us may be all components of a path, and vs may follow other components, us and vs together may
--- be all components of a path
-pub fit_all : (us vs : List Value) → AllFit true us → AllFit false vs → AllFit true (us ++ vs)
-fit_all [] vs h k = AllFit-first vs k
-fit_all (u ∷ us) vs h k = (h.0, after us h.1)
-  where
-    after : (us : List Value) → AllFit false us → AllFit false (us ++ vs)
-    after [] h = k
-    after (u ∷ us) h = (h.0, after us h.1)
-
--- if us and ws together may be all components of a path, ws may come after us
-pub fit_rest : (us ws : List Value) → AllFit true (us ++ ws) → AllFit (starts us) ws
-fit_rest [] ws h = h
-fit_rest (u ∷ us) ws h = after us h.1
-  where
-    after : (us : List Value) → AllFit false (us ++ ws) → AllFit false ws
-    after [] h = h
-    after (u ∷ us) h = after us h.1
-
--- if vs is not empty, the next component after us and vs is not the first
-pub starts-more : (us vs : List Value) → 0 < length vs → starts (us ++ vs) ≡ false
-starts-more [] [] l = absurd (omega arith)
-starts-more [] (v ∷ vs) l = refl
-starts-more (u ∷ us) vs l = refl
 
 -- the code of a run has at least one byte, and its text has at most twice as many bytes as its code
 pub run_small : (run : Run)
@@ -54,16 +29,6 @@ run_small (Names bytes) =
     let code = length-append bytes.now (0 ∷ []) in
     let text = length-append (map decoded bytes.now) (slash ∷ []) in
     (omega (arith, code), omega (arith, code, text, length-map bytes.now decoded))
-
--- the code of a run has at most one byte more than its text
-pub code_small : (run : Run) → length (run_code run) ≤ length (run_text run) + 1
-code_small run_variants.ParentDir = omega arith
-code_small (Names bytes) = omega (
-  arith,
-  length-append bytes.now (0 ∷ []),
-  length-append (map decoded bytes.now) (slash ∷ []),
-  length-map bytes.now decoded,
-)
 
 -- if s begins with `run`, the code of `run` is not longer than s
 pub run_within : {s : List ℕ} {run : Run} → TakesRun s run
@@ -128,9 +93,10 @@ pub reads_run : {key rest more : List ℕ} {len n : ℕ} {run : Run}
     → n ≡ len + length (run_text run) → ReadsRuns key more n
 reads_run {key} {rest} {more} {len} {n} {run} h k e count = record {
   us = h.us ++ k.vs;
-  fit = fit_all h.us k.vs h.fit k.fit;
-  inner = λ ws fit _. subst (λ b. AllFit b ws) (starts-more h.us k.vs k.some)
-      (fit_rest (h.us ++ k.vs) ws fit);
+  fit = AllFit-append true h.us k.vs h.fit (AllFit-any _ k.vs k.fit);
+  inner = λ ws fit _. subst (λ b. AllFit b ws)
+      (and_left _ true (starts-more h.us k.vs k.some))
+      (AllFit-after true (h.us ++ k.vs) ws fit);
   whole =
       ap (λ c. c ++ more) (key_of-append h.us k.vs ∙ ap (λ c. key_of h.us ++ c) k.code_is)
       ∙ append_assoc (key_of h.us) (run_code run) more
@@ -159,18 +125,10 @@ reads_run {key} {rest} {more} {len} {n} {run} h k e count = record {
 -- path has the key
 pub reads_no_run : {key rest : List ℕ} {len : ℕ} → ReadsRuns key rest len
     → HoldsNone rest → 0 < length rest → IsKey key → ⊥
-reads_no_run {key} {rest} {len} h none some is = by begins.0 begins.1
+reads_no_run {key} {rest} {len} h none some is =
+    by (key_of-split true true h.us (values is.0) rest h.fit (values-fit is.0) (h.whole ∙ sym is.1))
   where
-    begins : (ws : List Value) × (h.us ++ ws ≡ values is.0)
-    begins = key_of-begins h.us (values is.0) (AllFit-coded true h.us h.fit) (values-coded is.0)
-        rest (h.whole ∙ sym is.1)
-
-    remain : (ws : List Value) → h.us ++ ws ≡ values is.0 → key_of ws ≡ rest
-    remain ws e = append_cancel_left (key_of h.us) (key_of ws) rest
-        (sym (key_of-append h.us ws) ∙ ap key_of e ∙ is.1 ∙ sym h.whole)
-
-    by : (ws : List Value) → h.us ++ ws ≡ values is.0 → ⊥
-    by [] e = omega (arith, ap length (remain [] e), ap length key_of-nil)
-    by (w ∷ ws) e = none w ws
-        (h.inner (w ∷ ws) (subst (AllFit true) (sym e) (values-fit is.0)) (remain (w ∷ ws) e))
-        (remain (w ∷ ws) e)
+    by : (ws : List Value) × (h.us ++ ws ≡ values is.0) × (key_of ws ≡ rest) → ⊥
+    by ([], e, remain) = omega (arith, ap length remain, ap length key_of-nil)
+    by (w ∷ ws, e, remain) = none w ws
+        (h.inner (w ∷ ws) (subst (AllFit true) (sym e) (values-fit is.0)) remain) remain

@@ -2,7 +2,7 @@
 use Rattle.std.proofs.Common.{◌≡◌, ◌≤◌, ◌+◌, ℕ, true, false, List, [], ◌∷◌, ◌++◌}
 use Rattle.std.proofs.Common.{length, drop, refl, sym, ap, ◌∙◌, arith, subst, append_assoc}
 use Rattle.std.proofs.Common.{append-nil, length-append, length-drop}
-use Rattle.std.proofs.lemmas.List.{append_cancel_left, drop_all}
+use Rattle.std.proofs.lemmas.List.{drop_all}
 use Rattle.unix_path.specs.Parts.{Value}
 use Rattle.path_runs.specs.Overlay.{overlay}
 use Rattle.path_runs.proofs.lemmas.lists.OverlayLemmas.{buffer_after-fits}
@@ -15,9 +15,8 @@ use Rattle.path_keys.specs.Runs.{lead_text, run_code, run_text, BeginsLead, Hold
 use Rattle.path_keys.specs.Runs.{TakesRun}
 use Rattle.path_keys.specs.declared.runs.Lead.{Lead}
 use Rattle.path_keys.specs.declared.runs.Run.{Run}
-use Rattle.path_keys.proofs.lemmas.reading.FitLemmas.{AllFit-coded}
-use Rattle.path_keys.proofs.lemmas.values.KeyLemmas.{key_of-append}
-use Rattle.path_keys.proofs.lemmas.values.OrderLemmas.{key_of-begins, key_of-same}
+use Rattle.path_keys.proofs.lemmas.reading.FitLemmas.{AllFit-coded, AllFit-later, key_of-split}
+use Rattle.path_keys.proofs.lemmas.values.OrderLemmas.{key_of-same}
 use Rattle.path_keys.proofs.lemmas.reading.TextLemmas.{text_of-append, text_of-nil}
 
 -- `out` is `old` with the text of some components of the key written over its beginning, up to
@@ -37,36 +36,23 @@ pub record SpellsOn (key rest old : List ℕ) (at : ℕ) (out : List ℕ) : Type
 pub spells_lead : {key rest old out : List ℕ} {lead : Lead} {at : ℕ} → ReadsAs key (length old)
     → BeginsLead key rest lead → out ≡ overlay 0 (lead_text lead) old
     → at ≡ length (lead_text lead) → SpellsOn key rest old at out
-spells_lead {key} {rest} {old} {out} {lead} {at} h k is_put ends = by begins.0 begins.1
-  where
-    begins : (ws : List Value) × (k.vs ++ ws ≡ h.vs)
-    begins = key_of-begins k.vs h.vs (AllFit-coded true k.vs k.fit) (AllFit-coded true h.vs h.fit)
-        rest (k.key_is ∙ sym h.key_is)
-
-    by : (ws : List Value) → k.vs ++ ws ≡ h.vs → SpellsOn key rest old at out
-    by ws e =
-        let fit = subst (AllFit true) (sym e) h.fit in
-        let after : key_of ws ≡ rest =
-        append_cancel_left (key_of k.vs) (key_of ws) rest
-        (sym (key_of-append k.vs ws) ∙ ap key_of e ∙ h.key_is ∙ sym k.key_is) in
-        record {
-          us = k.vs;
-          ws = ws;
-          fit = fit;
-          inner = k.inner ws fit after;
-          key_is = ap key_of e ∙ h.key_is;
-          rest_is = sym after;
-          fits = ap (λ vs. length (text_of vs)) e ∙ sym h.len_is;
-          written = writes_stretch (lead_text lead) (text_of ws)
-              (writes_first (text_of (k.vs ++ ws)) old refl)
-              (text_of-append k.vs ws ∙ ap (λ t. t ++ text_of ws) k.text_is) is_put
-              (omega (arith, ends));
-        }
-
--- if vs and ws together may follow other components, ws may follow other components
-fit_later : (vs ws : List Value) → AllFit false (vs ++ ws) → AllFit false ws
-fit_later [] ws h = h
-fit_later (v ∷ vs) ws h = fit_later vs ws h.1
+spells_lead {key} {rest} {old} {out} {lead} {at} h k is_put ends =
+    let (ws, e, after) =
+    key_of-split true true k.vs h.vs rest k.fit h.fit (k.key_is ∙ sym h.key_is) in
+    let fit = subst (AllFit true) (sym e) h.fit in
+    record {
+      us = k.vs;
+      ws = ws;
+      fit = fit;
+      inner = k.inner ws fit after;
+      key_is = ap key_of e ∙ h.key_is;
+      rest_is = sym after;
+      fits = ap (λ vs. length (text_of vs)) e ∙ sym h.len_is;
+      written = writes_stretch (lead_text lead) (text_of ws)
+          (writes_first (text_of (k.vs ++ ws)) old refl)
+          (text_of-append k.vs ws ∙ ap (λ t. t ++ text_of ws) k.text_is) is_put
+          (omega (arith, ends));
+    }
 
 -- the components ws begin with the components vs of the run, and the bytes of `rest` after the run
 -- are the key of the remaining components
@@ -79,17 +65,10 @@ record NextIs (rest : List ℕ) (ws vs : List Value) (run : Run) : Type 0 where
 next_is : {rest : List ℕ} {run : Run} (ws : List Value) → AllFit false ws
     → rest ≡ key_of ws → (k : TakesRun rest run) → NextIs rest ws k.vs run
 next_is {rest} {run} ws h e k =
-    let after = drop (length (run_code run)) rest in
-    let whole : key_of k.vs ++ after ≡ key_of ws =
-    ap (λ c. c ++ after) k.code_is ∙ sym k.is ∙ e in
-    let begins = key_of-begins k.vs ws (AllFit-coded false k.vs k.fit) (AllFit-coded false ws h)
-    after whole in
-    record {
-      more = begins.0;
-      is = sym begins.1;
-      after = append_cancel_left (key_of k.vs) after (key_of begins.0)
-          (whole ∙ ap key_of (sym begins.1) ∙ key_of-append k.vs begins.0);
-    }
+    let rests = drop (length (run_code run)) rest in
+    let (more, is, after) = key_of-split false false k.vs ws rests k.fit h
+    (ap (λ c. c ++ rests) k.code_is ∙ sym k.is ∙ e) in
+    record { more = more; is = sym is; after = sym after }
 
 -- if ws is vs and then `more`, and the text of vs is the text of `run`, the text of ws is the text
 -- of `run` and then the text of `more`
@@ -110,17 +89,7 @@ spells_fits {key} {rest} {old} {out} {at} {run} h k =
 -- `out` is as long as `old`
 pub spells_long : {key rest old out : List ℕ} {at : ℕ}
     → SpellsOn key rest old at out → length out ≡ length old
-spells_long {key} {rest} {old} {out} {at} h =
-    let w = h.written in
-    omega (
-      arith,
-      h.fits,
-      ap length w.out_is,
-      ap length w.whole_is,
-      length-append w.start (text_of h.ws),
-      length-append w.start (drop (length w.start) old),
-      length-drop (length w.start) old,
-    )
+spells_long {key} {rest} {old} {out} {at} h = grind (arith, length-append, length-drop)
 
 -- if `rest` begins with `run`, writing the text of `run` at index `at` leaves the text of the rest
 -- after `run` to be written
@@ -136,7 +105,7 @@ spells_one {key} {rest} {old} {out} {more} {new} {at} {end} {run} h k e is_put e
       us = h.us ++ k.vs;
       ws = next.more;
       fit = subst (AllFit true) all h.fit;
-      inner = fit_later k.vs next.more (subst (AllFit false) next.is h.inner);
+      inner = AllFit-later k.vs next.more (subst (AllFit false) next.is h.inner);
       key_is = ap key_of (sym all) ∙ h.key_is;
       rest_is = e ∙ next.after;
       fits = ap (λ vs. length (text_of vs)) (sym all) ∙ h.fits;

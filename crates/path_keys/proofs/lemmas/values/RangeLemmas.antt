@@ -1,11 +1,13 @@
 -- The byte strings that begin with a key are those in its range.
 use Rattle.std.proofs.Common.{◌≡◌, ◌↔◌, ◌<◌, ℕ, ◌+◌, ◌-◌, true, List, [], ◌∷◌, ◌++◌, length}
 use Rattle.std.proofs.Common.{Option, Some, None}
-use Rattle.std.proofs.Common.{Less, Equal, Greater, slice_index, slice_set, refl, sym, ap, ap₂}
-use Rattle.std.proofs.Common.{◌∙◌, subst, arith, ⊎_elim}
+use Rattle.std.proofs.Common.{Ordering, Less, Equal, Greater, slice_index, slice_set, refl, sym, ap}
+use Rattle.std.proofs.Common.{ap₂, ◌∙◌, subst, arith, ⊎_elim}
 use Rattle.std.proofs.lemmas.Bool.{cases_order}
 use Rattle.std.proofs.lemmas.Bool.Decides.{nat_tests}
-use Rattle.std.specs.Ordering.{is_le, nat_cmp}
+use Rattle.std.proofs.lemmas.Cmp.{nat_cmp_total, tied_itself}
+use Rattle.std.specs.Cmp.{nat_cmp_is}
+use Rattle.std.specs.Ordering.{is_le, nat_cmp, ordering_then}
 use Rattle.unix_path.specs.Prefixes.{IsPrefixOf}
 use Rattle.path_keys.specs.Ranges.{bytes_cmp, end_of, InRange, IsRangeEnd, LiesUnder}
 
@@ -20,41 +22,27 @@ LiesIn b bs key = (is_le (bytes_cmp (b ∷ bs) key) ≡ true)
     × (bytes_cmp key (last_raised b bs) ≡ Less)
 
 -- if a is less than b, comparing a with b leads to `Less`
-less_is : (a b : ℕ) → a < b → nat_cmp a b ≡ Less
-less_is a b h = grind (arith, nat_tests)
+pub less_is : (a b : ℕ) → a < b → nat_cmp a b ≡ Less
+less_is a b h = sym (nat_cmp_is a b Less h)
 
 -- if b is less than a, comparing a with b leads to `Greater`
-greater_is : (a b : ℕ) → b < a → nat_cmp a b ≡ Greater
-greater_is a b h = grind (arith, nat_tests)
+pub greater_is : (a b : ℕ) → b < a → nat_cmp a b ≡ Greater
+greater_is a b h = sym (nat_cmp_is a b Greater h)
 
 -- comparing a with itself leads to `Equal`
-equal_is : (a : ℕ) → nat_cmp a a ≡ Equal
-equal_is a = grind (arith, nat_tests)
+pub equal_is : (a : ℕ) → nat_cmp a a ≡ Equal
+equal_is = tied_itself nat_cmp_total
 
 -- if b is less than c, bytes that begin with c are not less than the single byte `b + 1`
 above-not_less : (b c : ℕ) (key : List ℕ) → b < c → bytes_cmp (c ∷ key) ((b + 1) ∷ []) ≡ Less → ⊥
-above-not_less b c key l h = ⊎_elim
-    (λ same.
-    let tie : nat_cmp c (b + 1) ≡ Equal = ap (nat_cmp c) (sym same) ∙ equal_is c in
-    at_end key (rw tie at h))
-    (λ other. ⊎_elim (λ less. omega arith)
-    (λ more. let d = rw (greater_is c (b + 1) more) at h in cc) other)
-    (cases_order c (b + 1))
+above-not_less b c key l h = at_end key (tied (bytes_cmp key []) h)
   where
+    tied : (o : Ordering) → ordering_then (nat_cmp c (b + 1)) o ≡ Less → o ≡ Less
+    tied o e = grind (arith, nat_tests)
+
     at_end : (key : List ℕ) → bytes_cmp key [] ≡ Less → ⊥
     at_end [] e = cc
     at_end (x ∷ key) e = cc
-
--- if c is less than b, bytes that begin with b are not less than or equal to bytes that begin with
--- c
-before-not_le : (b c : ℕ) (bs key : List ℕ) → c < b
-    → is_le (bytes_cmp (b ∷ bs) (c ∷ key)) ≡ true → ⊥
-before-not_le b c bs key l h = let d = rw (greater_is b c l) at h in cc
-
--- if b is less than c, bytes that begin with c are not less than bytes that begin with b
-after-not_less : (b c : ℕ) (bs key : List ℕ) → b < c
-    → bytes_cmp (c ∷ key) (b ∷ bs) ≡ Less → ⊥
-after-not_less b c bs key l h = let d = rw (greater_is c b l) at h in cc
 
 -- if `key` is in the range of the bytes b and bs, it begins with them
 lies_in-begins : (b : ℕ) (bs key : List ℕ) → LiesIn b bs key → IsPrefixOf (b ∷ bs) key
@@ -62,7 +50,7 @@ lies_in-begins b bs [] h = absurd (let d = h.0 in cc)
 lies_in-begins b [] (c ∷ key) h = ⊎_elim
     (λ same. (key, ap (λ x. x ∷ key) same))
     (λ other. absurd (⊎_elim (λ less. above-not_less b c key less h.1)
-    (λ more. before-not_le b c [] key more h.0) other))
+    (λ more. let d = rw (greater_is b c more) at h.0 in cc) other))
     (cases_order b c)
 lies_in-begins b (d ∷ bs) (c ∷ key) h = ⊎_elim
     (λ same.
@@ -72,8 +60,8 @@ lies_in-begins b (d ∷ bs) (c ∷ key) h = ⊎_elim
     let last = rw back at h.1 in
     let others = lies_in-begins d bs key (first, last) in
     (others.0, ap₂ (λ x xs. x ∷ xs) same others.1))
-    (λ other. absurd (⊎_elim (λ less. after-not_less b c (last_raised d bs) key less h.1)
-    (λ more. before-not_le b c (d ∷ bs) key more h.0) other))
+    (λ other. absurd (⊎_elim (λ less. let d = rw (greater_is c b less) at h.1 in cc)
+    (λ more. let d = rw (greater_is b c more) at h.0 in cc) other))
     (cases_order b c)
 
 -- the empty byte string is less than or equal to any bytes

@@ -1,6 +1,6 @@
 -- The root or the `.` with which a path begins, in a key.
 use Rattle.std.proofs.Common.{◌≡◌, ◌<◌, ℕ, true, false, eqb, List, [], ◌∷◌, ◌++◌, length}
-use Rattle.std.proofs.Common.{get_or, sym, ap, ap₂, ◌∙◌, arith, eq-eqb, ne_eqb, ◌&&◌}
+use Rattle.std.proofs.Common.{get_or, ap, ap₂, ◌∙◌, arith, eq-eqb, ne_eqb, ◌&&◌}
 use Rattle.std.proofs.lemmas.List.{nil_from_length}
 use Rattle.std.specs.List.{slice_split}
 use Rattle.unix_path.specs.CommonDir.{inner_values}
@@ -16,10 +16,7 @@ use Rattle.path_keys.proofs.lemmas.values.KeyLemmas.{key_of-nil, key_of-cons}
 
 -- if s is empty, its key is the key of its inner components
 pub lead-none : (s : List ℕ) → length s ≡ 0 → key_of (values s) ≡ key_of (inner_values s)
-lead-none s e =
-    let none = nil_from_length s e in
-    ap (λ s. key_of (values s)) none ∙ ap key_of (values-nil ∙ sym inner_values-nil)
-    ∙ sym (ap (λ s. key_of (inner_values s)) none)
+lead-none s e = grind (arith, nil_from_length, values-nil, inner_values-nil)
 
 -- if s begins neither with a slash nor with a piece `.`, its key is the key of its inner components
 pub lead-not_filler : (s : List ℕ) → is_filler s 0 ≡ false

@@ -63,9 +63,7 @@ key_of-names (p ∷ ps) = ap (λ k. (map raised p ++ 0 ∷ []) ++ k) (key_of-nam
 -- mark
 pub stretch_key : (s : List ℕ) → AllByRecursion IsName (slice_split is_slash s)
     → key_of (inner_values s) ≡ map coded s ++ 0 ∷ []
-stretch_key s h =
-    ap key_of (inner_values-pieces s ∙ names_of-names (slice_split is_slash s) h)
-    ∙ key_of-names (slice_split is_slash s) ∙ sym (coded-pieces s)
+stretch_key s h = grind (arith, inner_values-pieces, names_of-names, key_of-names, coded-pieces)
 
 -- all pieces except the first
 abbrev pub later : List (List ℕ) → List (List ℕ)

@@ -2,7 +2,7 @@
 use Rattle.std.proofs.Common.{◌≡◌, ◌<◌, ◌≤◌, ◌+◌, ℕ, true, false, cond, eqb, List, []}
 use Rattle.std.proofs.Common.{◌∷◌, ◌++◌, length, take, drop, map, get_or, refl, sym, ap, ap₂, ◌∙◌}
 use Rattle.std.proofs.Common.{subst, arith, append-nil, eq-eqb}
-use Rattle.std.proofs.Common.{filter, take-append-drop, ⊎_elim}
+use Rattle.std.proofs.Common.{take-append-drop, ⊎_elim}
 use Rattle.std.proofs.lemmas.Bool.{cases_lt, false≢true}
 use Rattle.std.proofs.lemmas.List.{take_all, drop_all, drop_more, map-append}
 use Rattle.std.proofs.lemmas.List.Elements.{filter-append}
@@ -10,7 +10,7 @@ use Rattle.std.proofs.lemmas.List.Splits.{slice_split-cons_yes, slice_split-cons
 use Rattle.std.specs.List.{AllByRecursion, slice_split, onto_first, position_or_len}
 use Rattle.unix_path.specs.CommonDir.{inner_values}
 use Rattle.unix_path.specs.Parts.{ParentDir, Normal, Part, is_slash, slash}
-use Rattle.unix_path.specs.Parts.{counts, inner_parts, value_of_piece, values}
+use Rattle.unix_path.specs.Parts.{inner_parts, values}
 use Rattle.unix_path.specs.Scan.{starts_with_parent_dir, is_filler}
 use Rattle.unix_bytes.proofs.lemmas.lists.ListLemmas.{by_test}
 use Rattle.unix_path.proofs.lemmas.order.CommonPrefixLemmas.{inner_values-nil}
@@ -19,7 +19,7 @@ use Rattle.unix_path.proofs.lemmas.steps.LeadLemmas.{length-parent_first}
 use Rattle.unix_path.proofs.lemmas.steps.LeadLemmas.{values-parent_first}
 use Rattle.unix_path.proofs.lemmas.parts.PartLemmas.{parts-name}
 use Rattle.unix_path.proofs.lemmas.parts.PieceLemmas.{first_piece, slice_split-first}
-use Rattle.path_runs.proofs.lemmas.spelling.PieceValueLemmas.{inner_values-pieces, names_of}
+use Rattle.path_runs.proofs.lemmas.spelling.PieceValueLemmas.{inner_values-pieces}
 use Rattle.path_keys.specs.Keys.{key_of}
 use Rattle.path_keys.specs.Codes.{AllFit, IsName}
 use Rattle.path_keys.specs.NameBytes.{coded}
@@ -75,19 +75,12 @@ slice_split-append (x ∷ t) r = by_test (eqb x 47)
     ∙ sym (ap (λ ps. ps ++ slice_split is_slash r)
     (slice_split-cons_no is_slash x t e ∙ ap (onto_first x) some.2)))
 
--- the components of the pieces ps and qs together are those of ps and then those of qs
-names_of-append : (ps qs : List (List ℕ)) → names_of (ps ++ qs) ≡ names_of ps ++ names_of qs
-names_of-append ps qs = ap (map value_of_piece) (filter-append counts ps qs)
-    ∙ map-append value_of_piece (filter counts ps) (filter counts qs)
-
 -- the inner components of t, a slash and r together are those of t and then those of the slash and
 -- r
 inner_values-cut : (t r : List ℕ)
     → inner_values (t ++ slash ∷ r) ≡ inner_values t ++ inner_values (slash ∷ r)
 inner_values-cut t r =
-    inner_values-pieces (t ++ slash ∷ r) ∙ ap names_of (slice_split-append t r)
-    ∙ names_of-append (slice_split is_slash t) (slice_split is_slash r)
-    ∙ sym (ap₂ (λ vs ws. vs ++ ws) (inner_values-pieces t) (inner_values-pieces (slash ∷ r)))
+    grind (arith, inner_values-pieces, slice_split-append, filter-append, map-append)
 
 -- if the run of names at the beginning of s ends at index n within s, there is a slash at index n
 cut_at : (s : List ℕ) (n : ℕ) → FirstStop s n → n < length s
@@ -115,10 +108,6 @@ whole_pieces s n h p ps e = ⊎_elim
     ))
     (cases_lt n (length s))
 
--- equal lists have equal first elements
-cons_first : {p q : List ℕ} {ps qs : List (List ℕ)} → p ∷ ps ≡ q ∷ qs → p ≡ q
-cons_first e = cc
-
 -- if the run of names at the beginning of s ends at index n, the first n bytes have the same first
 -- piece as s
 first_same : (s : List ℕ) (n : ℕ) → FirstStop s n
@@ -126,7 +115,8 @@ first_same : (s : List ℕ) (n : ℕ) → FirstStop s n
 first_same s n h =
     let some = some_piece (take n s) in
     let rest = whole_pieces s n h some.0 some.1 some.2 in
-    let same : some.0 ≡ first_piece s = cons_first (sym rest.1 ∙ slice_split-first s) in
+    let whole = sym rest.1 ∙ slice_split-first s in
+    let same : some.0 ≡ first_piece s = cc in
     (some.1, some.2 ∙ ap (λ p. p ∷ some.1) same)
 
 -- if the run of names at the beginning of s ends at index n, the inner components of s are those of
@@ -147,10 +137,7 @@ split_at s n h = ⊎_elim
 -- if s is not empty, and the run of names at its beginning ends at index 0, s begins with a slash
 first_stops : (s : List ℕ) (n : ℕ) → 0 < length s → FirstStop s n → n ≤ 0
     → eqb (get_or s 0 0) 47 ≡ true
-first_stops s n l h none =
-    let zero_is : n ≡ 0 = omega arith in
-    ap (λ k. eqb (get_or s k 0) 47) (sym zero_is)
-    ∙ eq-eqb (get_or s n 0) 47 (separator_at_end 47 46 s n h (omega arith))
+first_stops s n l h none = grind (arith, eq-eqb, separator_at_end)
 
 -- if s begins neither with filler nor with `..`, and the run of names at its beginning ends at
 -- index n, the first n bytes of s are a run

@@ -10,9 +10,7 @@ pub returns-then-len-out-clause-length : goal.returns-then-len-out-clause-length
 returns-then-len-out-clause-length c = λ s e. path_long s c.in-Some.ensures.some e
 
 pub returns-clause-out : goal.returns-clause-out
-returns-clause-out c = λ s e.
-    written_back c.args.out.now s c.in-Some.ensures.some c.write_text.ensures e
-    (omega (arith, c.if-len-out.false))
+returns-clause-out c = grind (arith, written_back)
 
 pub returns-clause-length : goal.returns-clause-length
 returns-clause-length c = λ s e. path_long s c.in-Some.ensures.some e

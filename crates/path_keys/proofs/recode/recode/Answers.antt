@@ -1,13 +1,7 @@
 use Rattle.std.proofs.Common.{◌+◌, ◌-◌, length, arith}
 use Rattle.path_keys.specs.NameBytes.{recoded}
-use Rattle.path_keys.proofs.lemmas.lanes.PutLemmas.{put_none, put_fewer, put_many, put_all}
+use Rattle.path_keys.proofs.lemmas.lanes.PutLemmas.{put_fewer, put_many, put_all}
 use Rattle.path_keys.proofs.recode.recode.Goals as goal
-
-pub loop-from-init : goal.loop-from-init
-loop-from-init c = record {
-  in_range = omega arith;
-  put = put_none (recoded c.args.how) c.args.bytes.now c.args.out.now c.args.at;
-}
 
 pub loop-from-preserved : goal.loop-from-preserved
 loop-from-preserved c = record {

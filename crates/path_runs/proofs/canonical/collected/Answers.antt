@@ -1,4 +1,4 @@
-use Rattle.std.proofs.Common.{◌≡◌, ◌∙◌, List, [], ℕ, Option, ap, map, rules, tests}
+use Rattle.std.proofs.Common.{◌≡◌, ◌∙◌, List, [], ℕ, Option, ap, map, rules, tests, arith}
 use Rattle.std.specs.Iterator.{Drains}
 use Rattle.std.proofs.iter.Yields.{gives_Drains}
 use Rattle.std.proofs.lemmas.Iterator.{YieldsList, YieldsList-from_map_by}
@@ -15,8 +15,7 @@ use Rattle.path_runs.proofs.canonical.collected.Goals as goal
 
 map-Drains : {S A B : Type 0} {steps : S → Option A → S → Type 0} (v : A → B) (xs : List A)
     (ys : List B) {s : S} → Drains steps s xs → YieldsList steps v s ys → map v xs ≡ ys
-map-Drains {S} {A} {B} {steps} v xs ys {s} drains yields =
-    gives_Drains steps v xs ys s yields.runs drains
+map-Drains {S} {A} {B} {steps} v xs ys {s} drains yields = grind (arith, gives_Drains)
 
 pub returns-clause-succeeds : goal.returns-clause-succeeds
 returns-clause-succeeds c = λ none.

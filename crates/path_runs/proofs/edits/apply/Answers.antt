@@ -6,13 +6,8 @@ use Rattle.path_runs.proofs.edits.apply.Goals as goal
 pub loop-done-preserved : goal.loop-done-preserved
 loop-done-preserved c =
     let h = c.loop-done.invariant in
-    let one = c.in-Ok-apply_one.ensures in
-    let pushed = c.push_reserved.ensures in
-    record {
-      so_far = rw pushed.items
-          (HasApplied-more (path_bytes c.args.path.now) c.args.edits.now c.loop-done.done _ _ _ _ _
-          h.so_far c.loop-done-test.true one.ok one.value);
-      cache = one.cache;
-      len = omega (arith, pushed.len, h.len);
-      capacity = omega (arith, pushed.capacity, h.capacity);
-    }
+    let one = c.in-Ok-apply_one.ensures in grind (
+      arith,
+      HasApplied-more (path_bytes c.args.path.now) c.args.edits.now c.loop-done.done _ _ _ _ _
+          h.so_far c.loop-done-test.true one.ok one.value,
+    )

@@ -1,6 +1,6 @@
 -- A list of edits with one more edit at its end.
 use Rattle.std.proofs.Common.{◌≡◌, ℕ, ◌+◌, ◌<◌, List, [], ◌∷◌, ◌++◌, length, take, get_or, refl}
-use Rattle.std.proofs.Common.{map, sym, ap, ap₂, ◌∙◌}
+use Rattle.std.proofs.Common.{map, arith}
 use Rattle.std.proofs.lemmas.List.{map_more}
 use Rattle.path_runs.specs.declared.edits.Answer.{Answer}
 use Rattle.path_runs.specs.declared.edits.Edit.{Edit}
@@ -22,8 +22,7 @@ result_of-append s (d ∷ es) e = result_of-append (edit_of s d).0 es e
 answers-append : (s : List ℕ) (es : List EditValue) (e : EditValue)
     → (edits_of s (es ++ e ∷ [])).1 ≡ (edits_of s es).1 ++ (edit_of (result_of s es) e).1 ∷ []
 answers-append s [] e = refl
-answers-append s (d ∷ es) e =
-    ap (λ more. (edit_of s d).1 ∷ more) (answers-append (edit_of s d).0 es e)
+answers-append s (d ∷ es) e = cc (answers-append (edit_of s d).0 es e)
 
 -- `bytes` is the result of applying the first i edits to s, and `answers` are their answers
 pub record HasApplied (s : List ℕ) (edits : List Edit) (i : ℕ) (bytes : List ℕ)
@@ -41,11 +40,4 @@ pub HasApplied-more : (s : List ℕ) (es : List Edit) (i : ℕ) (d : Edit) (t u 
 HasApplied-more s es i d t u answers a h l bytes answer =
     let e = edit_value (get_or es i d) in
     let more = map_more edit_value es i d l in
-    record {
-      bytes_are = bytes ∙ ap (λ t. (edit_of t e).0) h.bytes_are
-          ∙ sym (ap (result_of s) more ∙ result_of-append s (map edit_value (take i es)) e);
-      answers_are = ap₂ (λ bs a. bs ++ a ∷ []) h.answers_are
-          (answer ∙ ap (λ t. (edit_of t e).1) h.bytes_are)
-          ∙ sym (ap (λ es. (edits_of s es).1) more
-          ∙ answers-append s (map edit_value (take i es)) e);
-    }
+    grind (arith, result_of-append, answers-append)

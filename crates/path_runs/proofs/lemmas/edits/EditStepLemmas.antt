@@ -1,13 +1,12 @@
 -- The leading bytes of a path that an edit keeps. Paths without a parent or without a file name.
-use Rattle.std.proofs.Common.{◌≡◌, ℕ, zero, suc, ◌+◌, ◌-◌, ◌≤◌, false, eqb, List, [], ◌∷◌}
-use Rattle.std.proofs.Common.{◌++◌, ◌<◌, length, get_or, take, map, None, is_some, refl, sym}
-use Rattle.std.proofs.Common.{ap, ◌∙◌, arith, length-append, length-take-le}
+use Rattle.std.proofs.Common.{◌≡◌, ℕ, zero, suc, ◌+◌, ◌-◌, ◌≤◌, false, List, [], ◌∷◌}
+use Rattle.std.proofs.Common.{◌++◌, ◌<◌, length, get_or, take, map, None, refl, sym}
+use Rattle.std.proofs.Common.{ap, ◌∙◌, arith, length-append, length-take-le, rules}
 use Rattle.std.proofs.Math.Seq.{take-length}
 use Rattle.std.proofs.lemmas.List.{take-append-le, take-take, append_assoc}
 use Rattle.unix_path.specs.Parts.{Part, RootDir, is_rooted, parts, values}
 use Rattle.unix_path.specs.Rest.{rest}
-use Rattle.unix_path.specs.Parents.{depth_of, parent_of}
-use Rattle.unix_path.specs.Names.{file_name_of}
+use Rattle.unix_path.specs.Parents.{parent_of}
 use Rattle.unix_path.specs.Joins.{needs_no_separator, join_of}
 use Rattle.unix_path.specs.Edits.{before_name_of, popped_of, with_name_of}
 use Rattle.unix_path.specs.Extensions.{name_end_of}
@@ -33,26 +32,17 @@ pub record Keeps (s t : List ℕ) (n : ℕ) : Type 0 where
 -- if s has at least n bytes, and y is the first n bytes of s and then x, y keeps the first n bytes
 -- of s
 pub keeps-front : (s x y : List ℕ) (n : ℕ) → n ≤ length s → y ≡ take n s ++ x → Keeps s y n
-keeps-front s x y n l is =
-    let size = length-take-le n s l in record {
-      in_range = omega (arith, ap length is, length-append (take n s) x);
-      same = sym (ap (take n) is ∙ take-append-le n (take n s) x (omega arith)
-          ∙ take-take n n s (omega arith));
-    }
+keeps-front s x y n l is = grind (arith, length-take-le, length-append, take-append-le, take-take)
 
 -- if t keeps the first n bytes of s, it keeps the first k bytes of s for each k up to n
 pub keeps-fewer : (s t : List ℕ) (k n : ℕ) → Keeps s t n → k ≤ n → Keeps s t k
-keeps-fewer s t k n h l = record {
-  in_range = omega (arith, h.in_range);
-  same = sym (take-take k n s l) ∙ ap (take k) h.same ∙ take-take k n t l;
-}
+keeps-fewer s t k n h l = grind (arith, take-take k n s l, take-take k n t l)
 
 -- a cache that is valid for s is also valid for t if t keeps all bytes of s
 IsCacheOf-keeps : (s t : List ℕ) (k : ScanCache) → IsCacheOf s k → Keeps s t (length s)
     → IsCacheOf t k
 IsCacheOf-keeps s t k h keeps = record {
-  end = CachesEnd-unchanged s t (length s) k.end k.len h.end keeps.in_range keeps.same
-      h.end.in_range;
+  end = search (rules, CachesEnd-unchanged);
   stack = h.stack;
   stems = λ i l. CachesStem-unchanged s t (length s) _ (h.stems i l) keeps.in_range keeps.same
       (h.stems i l).in_range;
@@ -72,30 +62,14 @@ pub IsCacheOf_join : (s b : List ℕ) (k : ScanCache) → IsCacheOf s k → is_r
     → IsCacheOf (join_of s b) k
 IsCacheOf_join s b k h r = IsCacheOf-keeps s (join_of s b) k h (keeps-join s b r)
 
--- if v is s and has at least n bytes, and t is the first n bytes of s, then y and then x, t keeps
--- the first n bytes of v
-pub keeps-replaced : (s t v y x : List ℕ) (n : ℕ) → v ≡ s → n ≤ length v
-    → t ≡ (take n s ++ y) ++ x → Keeps v t n
-keeps-replaced s t v y x n view few made = keeps-front v (y ++ x) t n few
-    (made ∙ append_assoc (take n s) y x ∙ ap (λ s. take n s ++ (y ++ x)) (sym view))
-
--- a path keeps all its bytes
-keeps-self : (s : List ℕ) → Keeps s s (length s)
-keeps-self s = record { in_range = omega arith; same = refl }
-
 -- the rest of s without its last m components has the same bytes as the beginning of s
 keeps-rest : (s : List ℕ) (m : ℕ) → Keeps s (rest s 0 m) (length (rest s 0 m))
-keeps-rest s m = record {
-  in_range = omega arith;
-  same = take-rest s m ∙ sym (take-length (rest s 0 m));
-}
+keeps-rest s m = grind (arith, take-rest, take-length)
 
 -- if a pop of s leaves t, which has n bytes, t keeps the first n bytes of s
 pub keeps-pop : (s t : List ℕ) (n : ℕ) → t ≡ popped_of s → n ≡ length t → Keeps s t n
 unfolding popped_of parent_of
-keeps-pop s t n e size = by_test (eqb (depth_of s) 0)
-    (λ root. rw (size, e, root) (keeps-self s))
-    (λ deep. rw (size, e, deep) (keeps-rest s 1))
+keeps-pop s t n e size = grind (arith, keeps-rest)
 
 -- if s begins with a slash, and the first `end` bytes of s, at most one, have all components of s,
 -- then s has no parent
@@ -103,8 +77,7 @@ pub parent_of-root_only : (s : List ℕ) (end : ℕ) → 0 < length s → get_or
     → parts (take end s) ≡ parts s → end ≤ 1 → None ≡ parent_of s
 unfolding values
 parent_of-root_only [] end some r same few = absurd (omega arith)
-parent_of-root_only (b ∷ s) zero some r same few =
-    parent_of-none (b ∷ s) (ap (map (λ (p : Part). p.value)) (sym same ∙ parts-nil))
+parent_of-root_only (b ∷ s) zero some r same few = grind (arith, parent_of-none, parts-nil)
 parent_of-root_only (b ∷ s) (suc zero) some r same few =
     parent_of-root (b ∷ s) [] (ap (map (λ (p : Part). p.value)) (sym same ∙ parts-root (b ∷ []) r)
     ∙ ap (λ (ps : List Part). RootDir ∷ map (λ p. p.value) ps) (inner_parts-nil 1))
@@ -116,32 +89,19 @@ pub with_name_of-nameless : (s name : List ℕ) → None ≡ name_end_of s
 unfolding before_name_of
 with_name_of-nameless s name e = rw (file_name_of-no_name_end s e) refl
 
--- s without its file name and the filler around it, or all of s if it has no file name, has the
--- same bytes as the beginning of s
-keeps-before : (s : List ℕ) → Keeps s (before_name_of s) (length (before_name_of s))
-unfolding before_name_of
-keeps-before s = by_test (is_some (file_name_of (values s)))
-    (λ named. rw named (keeps-rest s 1))
-    (λ nameless. rw nameless (keeps-self s))
-
 -- if t is s with the new file name `name`, and n is the length of t less the length of `name` and
 -- one more byte (0 if t is shorter), t keeps the first n bytes of s
 pub keeps-name : (s t name : List ℕ) (n : ℕ) → t ≡ with_name_of s name
     → n ≡ length t - (length name + 1) → Keeps s t n
-keeps-name s t name n made size =
-    let b = before_name_of s in
-    by_test (is_rooted name)
-    (λ r.
-    let none : n ≡ 0 = omega (arith, ap length (made ∙ join_of_rooted b name r)) in record {
-      in_range = omega arith;
-      same = ap (λ k. take k s) none ∙ sym (ap (λ k. take k t) none);
-    })
-    (λ r.
-    let few : n ≤ length b = by_test (needs_no_separator b)
-    (λ o. omega (arith, ap length made, length-join_of_no_separator b name r o))
-    (λ o. omega (arith, ap length made, length-join_of_separator b name r o)) in
-    let before = keeps-fewer s b n (length b) (keeps-before s) few in
-    let joined = keeps-fewer b (join_of b name) n (length b) (keeps-join b name r) few in
-    record { in_range = omega arith; same = before.same ∙ joined.same ∙ ap (take n) (sym made) })
+unfolding before_name_of
+keeps-name s t name n made size = grind (
+  arith,
+  join_of_rooted,
+  length-join_of_no_separator,
+  length-join_of_separator,
+  keeps-fewer,
+  keeps-join,
+  keeps-rest,
+)
 
 pub ruleset name_cases = (with_name_of-nameless)

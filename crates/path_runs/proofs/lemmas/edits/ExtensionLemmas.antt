@@ -1,22 +1,18 @@
 -- Setting a simple extension: one that isn't empty and has neither a dot nor a slash.
-use Rattle.std.proofs.Common.{◌≡◌, ◌≢◌, ℕ, ◌<◌, true, List, [], ◌∷◌, ◌++◌, length, Option, Some}
-use Rattle.std.proofs.Common.{None, is_some, option_map, refl, sym, ap, subst, ◌∙◌, arith}
+use Rattle.std.proofs.Common.{◌≡◌, ◌≢◌, ℕ, ◌<◌, true, List, [], ◌∷◌, ◌++◌, length, Some}
+use Rattle.std.proofs.Common.{refl, sym, ap, subst, ◌∙◌, arith}
 use Rattle.std.proofs.Common.{append_assoc, length-append}
-use Rattle.std.specs.Option.{option_and_then}
 use Rattle.unix_path.specs.Parts.{Normal, values}
 use Rattle.unix_path.specs.Rest.{rest}
 use Rattle.unix_path.specs.Parents.{parent_of}
 use Rattle.unix_path.specs.Names.{file_name_of, split_name, stem_of, extension_of}
 use Rattle.unix_path.specs.Edits.{with_extension_of}
-use Rattle.unix_path.specs.Extensions.{has_slash}
 use Rattle.unix_path.specs.Joins.{needs_no_separator}
 use Rattle.unix_path.proofs.lemmas.edits.EditLemmas.{dot_before-some}
-use Rattle.path_runs.specs.declared.edits.Answer.TheVariants.{Flag, Separator}
 use Rattle.path_runs.specs.EditLaws.{HasNoByte, IsSimpleExtension, SetsExtension}
-use Rattle.unix_bytes.proofs.lemmas.lists.ListLemmas.{by_test}
 use Rattle.path_runs.proofs.lemmas.joins.AppendedLemmas.{rest-appended}
 use Rattle.path_runs.proofs.lemmas.names.ExtensionCutLemmas.{with_extension_of-cut}
-use Rattle.path_runs.proofs.lemmas.names.DotLemmas.{SplitCase, Whole, Cut, split_case}
+use Rattle.path_runs.proofs.lemmas.names.DotLemmas.{split_case}
 use Rattle.path_runs.proofs.lemmas.names.DotLemmas.{split_name-dot}
 use Rattle.path_runs.proofs.lemmas.joins.LeadLemmas.{append_values, append_values-inner}
 use Rattle.path_runs.proofs.lemmas.joins.LeadLemmas.{values-append_open}
@@ -28,11 +24,7 @@ use Rattle.path_runs.proofs.lemmas.joins.SiblingLemmas.{parent_of-name, file_nam
 
 -- if `name` has at least one byte, its stem does too
 some_stem : (name : List ℕ) → 0 < length name → 0 < length (split_name name).0
-some_stem name l = by (split_case name)
-  where
-    by : SplitCase name → 0 < length (split_name name).0
-    by (Whole e) = subst (λ c. 0 < length c.0) (sym e) l
-    by (Cut b f x w e) = subst (λ c. 0 < length c.0) (sym e) (omega arith)
+some_stem name l = grind (arith, split_case)
 
 -- t has a file name with the stem `stem` and the extension x, and the same parent as s
 record NewExtension (s t stem x : List ℕ) : Type 0 where
@@ -58,10 +50,7 @@ new_name name b x h k =
 -- name `name`, then the parent of s is u without trailing filler
 parent_of-open : (s u b name : List ℕ) → s ≡ u ++ b → needs_no_separator u ≡ true
     → values s ≡ values u ++ Normal name ∷ [] → parent_of s ≡ Some (rest u 0 0)
-parent_of-open s u b name is o e =
-    parent_of-name s name (values u) e
-    ∙ ap Some (ap (λ s. rest s 0 1) is
-    ∙ rest-appended u b (Normal name) o (ap values (sym is) ∙ e))
+parent_of-open s u b name is o e = grind (arith, parent_of-name, rest-appended)
 
 -- if s has the file name `name` and is cut at that name (`NameCut`), and b ∷ x has neither a dot
 -- nor a slash, then s with b ∷ x set as its extension has the same stem and parent as s, and the
@@ -94,48 +83,34 @@ set_extension : (s name x : List ℕ) → file_name_of (values s) ≡ Some name
     → IsSimpleExtension x
     → NewExtension s (with_extension_of s x) (split_name name).0 x
 set_extension s name [] e h = absurd (h.some refl)
-set_extension s name (b ∷ x) e h =
-    new_extension-cut s name b x e (name_cut s name e) h.no_dot h.no_slash
+set_extension s name (b ∷ x) e h = grind (arith, new_extension-cut, name_cut)
 
 -- if x is simple, and setting it as the extension turns s into t, with the answer true, then s has
 -- a file name, and t has the stem and the parent of s, and the extension x
 new_extension : (s x t : List ℕ) → SetsExtension s x t
     → (name : List ℕ) × (file_name_of (values s) ≡ Some name)
     × NewExtension s t (split_name name).0 x
-new_extension s x t h = by_test (has_slash x)
-    (λ y. absurd (let no : Separator ≡ Flag true = ap (λ p. p.1) (rw y at h.1) in cc))
-    (λ n. let is = rw n at h.1 in
-    by (file_name_of (values s)) refl (ap (λ p. p.0) is) (ap (λ p. p.1) is))
-  where
-    by : (o : Option (List ℕ)) → file_name_of (values s) ≡ o → with_extension_of s x ≡ t
-        → Flag (is_some o) ≡ Flag true
-        → (name : List ℕ) × (file_name_of (values s) ≡ Some name)
-        × NewExtension s t (split_name name).0 x
-    by None is e flag = absurd (cc)
-    by (Some name) is e flag = (
-      name,
-      is,
-      subst (λ t. NewExtension s t (split_name name).0 x) e (set_extension s name x is h.0),
-    )
+new_extension s x t h = grind (arith, set_extension)
 
 -- if x is simple, and setting it as the extension turns s into t, with the answer true, then t has
 -- the stem of s
 pub stem_of-new_extension : (s x t : List ℕ) → SetsExtension s x t
     → stem_of (values t) ≡ stem_of (values s)
-stem_of-new_extension s x t h =
-    let new = new_extension s x t h in
-    ap (option_map (λ name. (split_name name).0)) new.2.file_name ∙ ap (λ c. Some c.0) new.2.split
-    ∙ sym (ap (option_map (λ name. (split_name name).0)) new.1)
+stem_of-new_extension s x t h = grind (arith, new_extension s x t h)
 
 -- if x is simple, and setting it as the extension turns s into t, with the answer true, then t has
 -- the extension x
 pub extension_of-new_extension : (s x t : List ℕ) → SetsExtension s x t
     → extension_of (values t) ≡ Some x
-extension_of-new_extension s x t h =
-    let new = new_extension s x t h in
-    ap (option_and_then (λ name. (split_name name).1)) new.2.file_name ∙ ap (λ c. c.1) new.2.split
+extension_of-new_extension s x t h = grind (arith, new_extension s x t h)
 
 -- if x is simple, and setting it as the extension turns s into t, with the answer true, then t has
 -- the parent of s
 pub parent_of-new_extension : (s x t : List ℕ) → SetsExtension s x t → parent_of t ≡ parent_of s
 parent_of-new_extension s x t h = (new_extension s x t h).2.parent
+
+pub ruleset extension_set_cases = (
+  stem_of-new_extension,
+  extension_of-new_extension,
+  parent_of-new_extension,
+)

@@ -1,8 +1,8 @@
 -- The first gap of a string. A gap is a slash before an empty piece or the piece `.`. The bytes
 -- before the first gap are the first piece and then components, each after a slash.
 -- `slashed_parts s` are the components of s without a leading root or `.`, each after a slash.
-use Rattle.std.proofs.Common.{◌≡◌, ℕ, zero, suc, ◌+◌, ◌-◌, ◌<◌, ◌≤◌, true, false, eqb, ◌&&◌, ◌||◌}
-use Rattle.std.proofs.Common.{List, [], ◌∷◌, ◌++◌, length, take, drop, map, get_or, refl, sym, ap}
+use Rattle.std.proofs.Common.{◌≡◌, ℕ, zero, suc, ◌+◌, ◌-◌, ◌<◌, ◌≤◌, true, false, eqb}
+use Rattle.std.proofs.Common.{List, [], ◌∷◌, ◌++◌, length, take, drop, map, refl, sym, ap}
 use Rattle.std.proofs.Common.{ap₂, ◌∙◌, eqb-true, arith, append-nil, drop-cons, length-drop}
 use Rattle.std.proofs.Common.{take_all}
 use Rattle.std.specs.Prelude.{slice_range}
@@ -40,19 +40,11 @@ slashed_parts-not_filler : (s : List ℕ) → 0 < length s → is_filler s 0 ≡
 unfolding slashed_parts
 slashed_parts-not_filler s l e =
     let n = position_or_len is_slash s in
-    ap (λ (ps : List Part). flat_map (λ v. slash ∷ value_bytes v) (map (λ p. p.value) ps))
-    (inner_parts_not_filler 0 s l e)
-    ∙ ap₂ (λ p vs. slash ∷ (p ++ flat_map (λ v. slash ∷ value_bytes v) vs))
-    (value_bytes-piece (first_piece s)) (values-inner_parts (0 + n) (drop n s))
+    simp (inner_parts_not_filler, value_bytes-piece, values-inner_parts)
 
 -- a gap of x ∷ s begins at index i + 1 if and only if a gap of s begins at index i
 pub is_gap-after_start : (x : ℕ) (s : List ℕ) (i : ℕ) → is_gap (x ∷ s) (suc i) ≡ is_gap s i
-is_gap-after_start x s i =
-    let next : get_or (x ∷ s) (suc i + 1) 47 ≡ get_or s (i + 1) 47 =
-    ap (λ k. get_or (x ∷ s) k 47) {x = suc i + 1} {y = suc (i + 1)} (omega arith) in
-    let after : get_or (x ∷ s) (suc i + 2) 47 ≡ get_or s (i + 2) 47 =
-    ap (λ k. get_or (x ∷ s) k 47) {x = suc i + 2} {y = suc (i + 2)} (omega arith) in
-    ap₂ (λ b c. eqb (get_or s i 0) 47 && (eqb b 47 || (eqb b 46 && eqb c 47))) next after
+is_gap-after_start x s i = grind arith
 
 -- if the first gap of x ∷ s is at index n + 1, the first gap of s is at index n; in a string
 -- without a gap, the end counts as one
@@ -75,8 +67,7 @@ component_after_slash x (y ∷ s) e g = (omega arith, rw e at g)
 pub first_slash : (x : ℕ) (s : List ℕ) → eqb x 47 ≡ true
     → first_piece (x ∷ s) ++ slashed_parts (drop (position_or_len is_slash (x ∷ s)) (x ∷ s))
     ≡ slashed_parts (x ∷ s)
-first_slash x s e = ap₂ (λ p k. p ++ slashed_parts (drop k (x ∷ s))) (first_piece-slash x s e)
-    (position_or_len-slash x s e)
+first_slash x s e = simp (first_piece-slash, position_or_len-slash)
 
 -- if x is a slash, x ∷ s and s have the same components, apart from a leading root or `.`
 pub slashed_parts-slash : (x : ℕ) (s : List ℕ) → eqb x 47 ≡ true
@@ -89,10 +80,8 @@ slashed_parts-slash x s e = slashed_parts-filler (x ∷ s) 0 (omega arith) (rw e
 pub before_first_gap : (s : List ℕ) (n : ℕ) → FirstGap s n
     → first_piece s ++ slashed_parts (drop (position_or_len is_slash s) s)
     ≡ take n s ++ slashed_parts (drop n s)
-before_first_gap [] n h = ap (λ k. take k [] ++ slashed_parts (drop k [])) {x = 0} {y = n}
-    (omega (arith, h.in_range))
-before_first_gap (x ∷ s) zero h =
-    first_slash x s (and_parts (eqb x 47) _ (h.gap (omega arith))).0
+before_first_gap [] n h = grind arith
+before_first_gap (x ∷ s) zero h = grind (arith, first_slash, and_parts)
 before_first_gap (x ∷ s) (suc n) h = by_test (eqb x 47)
     (λ e.
     let not_filler = component_after_slash x s e (h.none_before 0 (omega arith)) in
@@ -113,25 +102,18 @@ before_first_gap (x ∷ s) (suc n) h = by_test (eqb x 47)
 pub component_before_gap : (s : List ℕ) (n : ℕ) → 0 < length s → is_filler s 0 ≡ false
     → FirstGap s n
     → slashed_parts s ≡ (slash ∷ take n s) ++ slashed_parts (drop n s)
-component_before_gap s n l e h = slashed_parts-not_filler s l e
-    ∙ ap (λ u. slash ∷ u) (before_first_gap s n h)
+component_before_gap s n l e h = grind (arith, slashed_parts-not_filler, before_first_gap)
 
 -- if i is at least the length of s, no component follows index i of s, so nothing is appended to a
 pub no_parts_after_end : (a s : List ℕ) (i : ℕ) → length s ≤ i → a ++ slashed_parts (drop i s) ≡ a
 unfolding slashed_parts inner_parts
-no_parts_after_end a s i l =
-    ap (λ u. a ++ slashed_parts u) (drop_all i s l) ∙ append-nil a
+no_parts_after_end a s i l = simp (drop_all, append-nil)
 
 -- if a component begins at `start`, the slice from the slash before it to index `start + n`,
 -- exclusive, is this slash and the n bytes after it
 pub slice_from_slash : (s : List ℕ) (start n : ℕ) → start < length s → IsPartStart s start
     → slice_range s (start - 1) (start + n) ≡ slash ∷ take n (drop start s)
-slice_from_slash s start n l part =
-    let some = part.after_start in
-    let count : start + n - (start - 1) ≡ suc n = omega arith in
-    let next : suc (start - 1) ≡ start = omega arith in
-    ap₂ take count (drop-cons s (start - 1) 0 (omega arith)
-    ∙ ap₂ (λ b k. b ∷ drop k s) part.after_slash next)
+slice_from_slash s start n l part = grind (arith, drop-cons)
 
 pub slice_range-from : (s : List ℕ) (i : ℕ) → slice_range s i (length s) ≡ drop i s
 slice_range-from s i = take_all (length s - i) (drop i s) (omega (arith, length-drop i s))

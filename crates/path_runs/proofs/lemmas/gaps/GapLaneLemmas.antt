@@ -1,7 +1,6 @@
 -- A search for a gap in 16 bytes at once. A gap is a slash before an empty piece or the piece `.`.
 use Rattle.std.proofs.Common.{◌≡◌, ℕ, ◌+◌, ◌<◌, ◌≤◌, Bool, eqb, ◌&&◌, ◌||◌, List, length, get_or}
-use Rattle.std.proofs.Common.{ap₂, subst, arith, false, ⊎_elim}
-use Rattle.std.proofs.lemmas.Bool.{cases_lt}
+use Rattle.std.proofs.Common.{ap₂, subst, arith, rules}
 use Rattle.std.specs.Simd.Lanes.{chunk}
 use Rattle.std.proofs.lemmas.Simd.{length-chunk}
 use Rattle.unix_bytes.proofs.lemmas.vectors.TestLaneLemmas.{hits, both, either, Tells, Tells-hits}
@@ -25,10 +24,7 @@ Tells-gap : (here next after : List ℕ) (i : ℕ) → length here ≡ 16 → le
     → length after ≡ 16 → i < 16
     → Tells 16 (gap_lanes here next after) i
     (gap (get_or here i 0) (get_or next i 0) (get_or after i 0))
-Tells-gap here next after i l m n few =
-    Tells-both few (Tells-hits 16 here 47 i l few)
-    (Tells-either few (Tells-hits 16 next 47 i m few)
-    (Tells-both few (Tells-hits 16 next 46 i m few) (Tells-hits 16 after 47 i n few)))
+Tells-gap here next after i l m n few = search (rules, Tells-both, Tells-hits, Tells-either)
 
 -- the lanes that show at which of the 16 bytes of s from index `at` on a gap begins
 abbrev lanes : List ℕ → ℕ → List ℕ
@@ -50,11 +46,3 @@ lanes_show_gaps s at l = record {
       (length-chunk at 16 s (omega arith)) (length-chunk (at + 1) 16 s (omega arith))
       (length-chunk (at + 2) 16 s (omega arith)) few);
 }
-
--- if no gap of s begins before `at`, and none from `at` up to `end`, exclusive, none begins before
--- `end`
-pub none_to : (s : List ℕ) (at end : ℕ) → ((i : ℕ) → i < at → is_gap s i ≡ false)
-    → ((i : ℕ) → at ≤ i → i < end → is_gap s i ≡ false) → (i : ℕ) → i < end
-    → is_gap s i ≡ false
-none_to s at end before behind i l = ⊎_elim (λ (less : i < at). before i less)
-    (λ (more : at ≤ i). behind i more l) (cases_lt i at)

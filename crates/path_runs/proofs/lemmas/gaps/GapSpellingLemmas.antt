@@ -1,8 +1,8 @@
 -- The canonical form of a path is its bytes up to the first gap, followed by the components after
 -- that gap. A gap is a slash before an empty piece or the piece `.`.
 use Rattle.std.proofs.Common.{◌≡◌, ℕ, ◌<◌, ◌≤◌, true, false, eqb, List, [], ◌∷◌, ◌++◌, length, take}
-use Rattle.std.proofs.Common.{drop, map, get_or, refl, sym, ap, ap₂, subst, ◌∙◌, append-nil}
-use Rattle.std.proofs.Common.{eqb-true, arith, take_all, ◌⊎◌, inl, inr}
+use Rattle.std.proofs.Common.{drop, map, get_or, sym, ap, ap₂, ◌∙◌, append-nil}
+use Rattle.std.proofs.Common.{eqb-true, arith, ◌⊎◌, inl, inr}
 use Rattle.std.specs.List.{position_or_len}
 use Rattle.unix_path.specs.Parts.{Part, Value, RootDir, is_slash, slash, inner_parts, value_bytes}
 use Rattle.unix_path.specs.Parts.{values}
@@ -21,6 +21,7 @@ use Rattle.path_runs.proofs.lemmas.gaps.FirstGapLemmas.{no_parts_after_end}
 use Rattle.path_runs.proofs.lemmas.gaps.FirstGapLemmas.{slashed_parts-slash}
 use Rattle.path_runs.proofs.lemmas.spelling.SpellLemmas.{spelling_of-cons, spelling_of-nil}
 use Rattle.path_runs.proofs.lemmas.spelling.SpellLemmas.{spelling_of-root, spelling_of-rooted}
+use Rattle.std.proofs.lemmas.Grind.{common_steps}
 
 -- v and vs with slashes between them are the bytes of v, followed by the components vs, each after
 -- a slash
@@ -77,13 +78,8 @@ spelling_of-run (x ∷ s) n l ends h = by_test (eqb x 47)
 pub spelling_of-short : (s : List ℕ) → length s < 2 → spelling_of (values s) ≡ s
 unfolding slashed_parts inner_parts
 spelling_of-short [] l = ap spelling_of values-nil ∙ spelling_of-nil
-spelling_of-short (x ∷ []) l = by_test (eqb x 47)
-    (λ e. ap (λ b. spelling_of (values (b ∷ []))) (eqb-true x 47 e) ∙ root
-    ∙ ap (λ b. b ∷ []) (sym (eqb-true x 47 e)))
-    (λ e. spelling_of-name (x ∷ []) (omega arith) e ∙ rw e refl)
-  where
-    root : spelling_of (values (47 ∷ [])) ≡ 47 ∷ []
-    root = spelling_of-rooted []
+spelling_of-short (x ∷ []) l =
+    grind (arith, eqb-true, spelling_of-name, spelling_of-rooted)
 spelling_of-short (x ∷ y ∷ s) l = absurd (omega arith)
 
 -- if a path is empty or ends in a component, and has no gap or at most one byte, it is its own
@@ -92,11 +88,10 @@ pub spelling_of-whole : (s : List ℕ) (n : ℕ) → EndsInPart s → FirstGap s
     → (length s < 2) ⊎ ((2 ≤ length s) × (n ≡ length s)) → spelling_of (values s) ≡ s
 spelling_of-whole s n ends h (inl short) = spelling_of-short s short
 spelling_of-whole s n ends h (inr whole) =
-    let all : length s ≤ n = omega (arith, whole.1) in
-    spelling_of-run s n whole.0 ends h ∙ no_parts_after_end (take n s) s n all ∙ take_all n s all
+    grind (arith, common_steps, spelling_of-run s n whole.0 ends h, no_parts_after_end)
 
 -- a path without its trailing filler is empty or ends in a component
 pub rest-ends : (s t : List ℕ) → t ≡ rest s 0 0 → EndsInPart t
-rest-ends s t e =
-    let trim = trims_end s in
-    subst EndsInPart (sym (e ∙ rest-trimmed s trim.len trim.in_range trim.same trim.ends)) trim.ends
+rest-ends s t e = grind (arith, trims_end s, rest-trimmed)
+
+pub ruleset trimmed_cases = rest-ends

@@ -3,7 +3,7 @@
 use Rattle.std.proofs.Common.{◌≡◌, ℕ, zero, suc, ◌+◌, ◌<◌, ◌≤◌, true, nat_eq, eqb, List, [], ◌∷◌}
 use Rattle.std.proofs.Common.{length, take, drop, sym, ap, ◌∙◌, arith, eqb-true, eq-eqb, ltb-true}
 use Rattle.std.proofs.Common.{ltb-false, length-append, length-take-le, take_all, ◌⊎◌, inl, inr}
-use Rattle.std.proofs.lemmas.Bool.{and_parts}
+use Rattle.std.proofs.lemmas.Bool.{and_parts, lt-ltb}
 use Rattle.std.proofs.Math.Dec.{ltb}
 use Rattle.std.specs.Prelude.{IsTrue}
 use Rattle.unix_path.specs.Parts.{values}
@@ -17,6 +17,8 @@ use Rattle.path_runs.proofs.lemmas.gaps.FirstGapLemmas.{is_gap-after_start, no_p
 use Rattle.path_runs.proofs.lemmas.gaps.FirstGapLemmas.{slashed_parts-filler, slashed_parts-slash}
 use Rattle.path_runs.proofs.lemmas.spelling.LeanLemmas.{slashed_parts-length, spelling_of-shortest}
 use Rattle.path_runs.proofs.lemmas.gaps.GapSpellingLemmas.{spelling_of-run, spelling_of-whole}
+use Rattle.std.proofs.lemmas.Grind.{common_steps}
+use Rattle.path_runs.proofs.lemmas.gaps.GapSpellingLemmas.{spelling_of-short}
 
 -- if s begins with a gap, the components of s without the root, each with a slash before it, have
 -- fewer bytes in total than s
@@ -25,11 +27,7 @@ first_gap-longer : (s : List ℕ) → 0 < length s → is_gap s 0 ≡ true
 first_gap-longer [] l g = absurd (omega arith)
 first_gap-longer (x ∷ []) l g =
     let e = (and_parts (eqb x 47) _ g).0 in
-    omega (
-      arith,
-      ap length (slashed_parts-slash x [] e),
-      ap length (no_parts_after_end [] [] 0 (omega arith)),
-    )
+    grind (arith, slashed_parts-slash x [] e, no_parts_after_end [] [] 0 (omega arith))
 first_gap-longer (x ∷ y ∷ s) l g =
     let both = and_parts (eqb x 47) _ g in
     omega (
@@ -44,9 +42,8 @@ first_gap-longer (x ∷ y ∷ s) l g =
 gap-longer : (s : List ℕ) (n : ℕ) → n < length s → is_gap s n ≡ true
     → length (slashed_parts (drop n s)) + n < length s
 gap-longer [] n l g = absurd (omega arith)
-gap-longer (x ∷ s) zero l g = omega (arith, first_gap-longer (x ∷ s) l g)
-gap-longer (x ∷ s) (suc n) l g =
-    omega (arith, gap-longer s n (omega arith) (sym (is_gap-after_start x s n) ∙ g))
+gap-longer (x ∷ s) n l g =
+    grind (arith, common_steps, gap-longer s n, first_gap-longer, is_gap-after_start)
 
 -- if n is the index of a gap of s, or the length of s, the components after n, each with a slash
 -- before it, have at most as many bytes in total as s has from n on
@@ -66,30 +63,18 @@ gap_respelled : (s : List ℕ) (n : ℕ) → 1 < length s → EndsInPart s → F
     → n < length s → s ≡ spelling_of (values s) → ⊥
 gap_respelled s n l ends h some own =
     let is = ap length (own ∙ spelling_of-run s n l ends h) in
-    omega (
-      arith,
-      is,
-      length-append (take n s) (slashed_parts (drop n s)),
-      length-take-le n s h.in_range,
-      gap-longer s n some (h.gap some),
-    )
+    grind (arith, length-append, length-take-le, gap-longer)
 
 -- if t is s without its trailing filler, has the components of s and is shorter than s, then s
 -- isn't its own canonical form
 pub tail_respelled : (s t : List ℕ) → t ≡ rest s 0 0 → values t ≡ values s → length t < length s
     → s ≡ spelling_of (values s) → ⊥
-tail_respelled s t e same l own = by (spelling_of-shortest s t same)
-  where
-    by : (t ≡ spelling_of (values s)) ⊎ (length (spelling_of (values s)) < length t) → ⊥
-    by (inl f) = omega (arith, ap length f, ap length own)
-    by (inr h) = omega (arith, ap length own)
+tail_respelled s t e same l own =
+    grind (arith, spelling_of-shortest)
 
 -- if t is s without its trailing filler, and as long as s, then t is s
 pub rest-all : (s t : List ℕ) → t ≡ rest s 0 0 → length s ≤ length t → t ≡ s
-rest-all s t e l =
-    let trim = trims_end s in
-    let is = e ∙ rest-trimmed s trim.len trim.in_range trim.same trim.ends in
-    is ∙ take_all trim.len s (omega (arith, ap length is, length-take-le trim.len s trim.in_range))
+rest-all s t e l = grind (arith, common_steps, trims_end s, rest-trimmed, length-take-le)
 
 -- if a path has at least two bytes and ends in a component, it is its own canonical form if and
 -- only if it has no gap
@@ -102,3 +87,13 @@ own_if_gapless s n l ends h = (
       (λ e. absurd (gap_respelled s n l ends h (ltb-true n (length s) e) own))
       (λ e. eq-eqb n (length s) (omega (arith, ltb-false n (length s) e, h.in_range))),
 )
+
+pub ruleset is_canonical_cases = (
+  tail_respelled,
+  rest-all,
+  spelling_of-short,
+  lt-ltb,
+  own_if_gapless,
+)
+
+pub ruleset parts_len_cases = (length-append, gap_or_end-length, no_parts_after_end)

@@ -1,36 +1,23 @@
 -- The canonical form consists of bytes of the path: the bytes before the first gap, and gapless
 -- runs. A gap is a slash before an empty piece or the piece `.`. A gapless run is a slash and the
 -- components after it, up to the next gap or the end.
-use Rattle.std.proofs.Common.{◌≡◌, ℕ, zero, suc, ◌+◌, ◌-◌, ◌<◌, ◌≤◌, true, false, eqb, List, ◌++◌}
-use Rattle.std.proofs.Common.{length, take, drop, get_or, sym, ap, ap₂, ◌∙◌, eqb-true, arith}
-use Rattle.std.proofs.Common.{drop-drop, length-drop, length-take-le, take_all}
+use Rattle.std.proofs.Common.{◌≡◌, ℕ, zero, suc, ◌+◌, ◌-◌, ◌<◌, false, List, ◌++◌}
+use Rattle.std.proofs.Common.{length, drop, sym, ap, ap₂, ◌∙◌, eqb-true, arith}
+use Rattle.std.proofs.Common.{drop-drop, length-drop, length-take-le}
 use Rattle.std.specs.Prelude.{slice_range}
 use Rattle.std.proofs.lemmas.Bool.{and_parts}
 use Rattle.std.proofs.lemmas.List.{get_or-drop}
-use Rattle.unix_path.specs.Parts.{values}
 use Rattle.unix_path.specs.Scan.{is_filler}
 use Rattle.unix_path.proofs.lemmas.filler.FillerLemmas.{is_filler-drop}
 use Rattle.path_runs.specs.Gaps.{slashed_parts, FirstGap, IsGaplessRun, IsPartStart}
-use Rattle.path_runs.specs.Spelling.{spelling_of}
-use Rattle.path_runs.proofs.lemmas.gaps.FirstGapLemmas.{no_parts_after_end, component_before_gap}
+use Rattle.path_runs.proofs.lemmas.gaps.FirstGapLemmas.{component_before_gap}
 use Rattle.path_runs.proofs.lemmas.gaps.FirstGapLemmas.{slice_from_slash}
-use Rattle.path_runs.proofs.lemmas.gaps.GapSpellingLemmas.{spelling_of-short}
-
--- if s has n bytes, at most one, its canonical form is its first n bytes and the components after
--- them, of which there are none
-pub spelling_of-single : (s : List ℕ) (n : ℕ) → length s < 2 → n ≡ length s
-    → spelling_of (values s) ≡ take n s ++ slashed_parts (drop n s)
-spelling_of-single s n l e =
-    let all : length s ≤ n = omega arith in
-    spelling_of-short s l ∙ sym (no_parts_after_end (take n s) s n all ∙ take_all n s all)
 
 -- if s isn't empty, and begins neither with a slash nor with the piece `.`, then n, the index of
 -- the first gap of s (or its length, if it has no gap), is greater than 0
 first_gap_positive : (s : List ℕ) (n : ℕ) → 0 < length s → is_filler s 0 ≡ false → FirstGap s n → 0
     < n
-first_gap_positive s zero l e h =
-    let slash = (and_parts (eqb (get_or s 0 0) 47) _ (h.gap l)).0 in
-    absurd (let d : true ≡ false = rw slash at e in cc)
+first_gap_positive s zero l e h = grind (arith, and_parts)
 first_gap_positive s (suc n) l e h = omega arith
 
 -- if a component of s begins at `start`, after a slash, and the first gap from `start` on, or the
@@ -50,10 +37,7 @@ is_gapless_run s start n l part h =
     record {
       more = omega (arith, size, some);
       in_range = omega (arith, end, h.in_range, rest_len);
-      gap = λ more.
-          let slash = and_parts (eqb (get_or (drop start s) n 0) 47) _
-          (h.gap (omega (arith, end, rest_len, more))) in
-          ap (λ k. get_or s k 0) (sym end) ∙ sym (get_or-drop start s n 0) ∙ eqb-true _ 47 slash.0;
+      gap = grind (arith, and_parts, get_or-drop, eqb-true);
       same = component_before_gap (drop start s) n (omega (arith, rest_len)) not_filler h
           ∙ ap₂ (λ u v. u ++ slashed_parts v) (sym is)
           (drop-drop n start s ∙ ap (λ k. drop k s) end);

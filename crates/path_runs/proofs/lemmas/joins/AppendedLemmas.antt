@@ -1,13 +1,12 @@
 -- A component that is appended to an open path and removed again. A string is open if it is empty
 -- or ends in a slash.
 use Rattle.std.proofs.Common.{◌≡◌, ℕ, ◌≤◌, true, List, [], ◌∷◌, ◌++◌, length, take, map, refl, sym}
-use Rattle.std.proofs.Common.{ap, subst, ◌∙◌, arith, append-nil}
+use Rattle.std.proofs.Common.{ap, ◌∙◌, arith, append-nil}
 use Rattle.std.proofs.lemmas.List.{map-append, take-append-le, append_cancel_left}
-use Rattle.unix_path.specs.Parts.{Part, Value, inner_parts, parts, values}
+use Rattle.unix_path.specs.Parts.{Part, Value, parts, values}
 use Rattle.unix_path.specs.Rest.{rest}
 use Rattle.unix_path.proofs.lemmas.parts.PlaceLemmas.{parts_end}
 use Rattle.unix_path.specs.Joins.{needs_no_separator}
-use Rattle.unix_bytes.proofs.lemmas.lists.ListLemmas.{by_test}
 use Rattle.unix_path.proofs.lemmas.order.CommonPrefixLemmas.{parts-past_slash}
 use Rattle.unix_path.proofs.lemmas.parts.PartLemmas.{parts-nil}
 use Rattle.unix_path.proofs.lemmas.steps.SpanLemmas.{length-rest_whole, rest-whole, span-parts}
@@ -27,19 +26,15 @@ parts-open : (u b : List ℕ) → needs_no_separator u ≡ true
     → (more : List Part) × (parts (u ++ b) ≡ parts u ++ more)
 parts-open [] b o = (parts b, sym (ap (λ ps. ps ++ parts b) parts-nil))
 parts-open (x ∷ u) b o =
-    let cut = ends_open (x ∷ u) o (omega arith) in (
-      inner_parts (length (x ∷ u)) b,
-      subst (λ u. parts (u ++ b) ≡ parts u ++ inner_parts (length u) b) cut.1
-          (parts-past_slash cut.0 b),
-    )
+    let cut = ends_open (x ∷ u) o (omega arith) in
+    grind (arith, parts-past_slash cut.0 b)
 
 -- if the parts ps, without their positions, are the one component v, then ps is one part
 single_part : (ps : List Part) (v : Value) → map value_of_part ps ≡ v ∷ []
     → (p : Part) × (ps ≡ p ∷ [])
 single_part [] v e = absurd (let no : [] ≡ v ∷ [] = e in cc)
 single_part (p ∷ []) v e = (p, refl)
-single_part (p ∷ q ∷ ps) v e =
-    absurd (let no : p.value ∷ q.value ∷ map value_of_part ps ≡ v ∷ [] = e in cc)
+single_part (p ∷ q ∷ ps) v e = cc
 
 -- if u is empty or ends in a slash, and u followed by b has the components of u and then v, then u
 -- followed by b has the parts of u and then one part
@@ -50,38 +45,30 @@ unfolding values
 last_appended u b v o e =
     let appended = parts-open u b o in
     let more = appended.0 in
-    let one = single_part more v (append_cancel_left (map value_of_part (parts u))
-    (map value_of_part more) (v ∷ [])
+    let one =
+    single_part more v
+    (append_cancel_left (map value_of_part (parts u)) (map value_of_part more) (v ∷ [])
     (sym (map-append value_of_part (parts u) more) ∙ ap (map value_of_part) (sym appended.1) ∙ e))
     in
-    (one.0, appended.1 ∙ ap (λ ps. parts u ++ ps) one.1)
+    grind arith
 
 parts_end-le : (s : List ℕ) → parts_end (parts s) ≤ length s
 parts_end-le s = omega (arith, length-rest_whole s, length-rest_whole-le s)
 
 -- u followed by b, cut where the last part of u ends, is u without trailing filler
 take-parts_end : (u b : List ℕ) → take (parts_end (parts u)) (u ++ b) ≡ rest u 0 0
-take-parts_end u b =
-    take-append-le (parts_end (parts u)) u b (parts_end-le u) ∙ sym (rest-whole u)
+take-parts_end u b = simp (take-append-le, parts_end-le, rest-whole)
 
 -- if u is empty or ends in a slash, and u followed by b has the components of u and then v, then u
 -- followed by b, without its last component, is u without trailing filler
 pub rest-appended : (u b : List ℕ) (v : Value) → needs_no_separator u ≡ true
     → values (u ++ b) ≡ values u ++ v ∷ [] → rest (u ++ b) 0 1 ≡ rest u 0 0
 rest-appended u b v o e =
-    let last = last_appended u b v o e in
-    rest-last (u ++ b) (parts u) last.0 last.1 ∙ span-parts (u ++ b) u ∙ take-parts_end u b
-
--- r followed by the slash, if any, that a join inserts after r has the parts of r
-parts-separator : (r : List ℕ) → parts (r ++ separator r) ≡ parts r
-parts-separator r = by_test (needs_no_separator r) (λ o. rw o (ap parts (append-nil r)))
-    (λ o. rw o (parts-slash r (not_open r o)))
+    grind (arith, last_appended u b v o e, rest-last, span-parts (u ++ b) u, take-parts_end u b)
 
 pub values-separator : (r : List ℕ) → values (r ++ separator r) ≡ values r
 unfolding values
-values-separator r = ap (map value_of_part) (parts-separator r)
+values-separator r = grind (arith, append-nil, parts-slash, not_open)
 
 pub rest-separator : (r : List ℕ) → rest (r ++ separator r) 0 0 ≡ rest r 0 0
-rest-separator r = rest-whole (r ++ separator r)
-    ∙ ap (λ ps. take (parts_end ps) (r ++ separator r)) (parts-separator r)
-    ∙ take-parts_end r (separator r)
+rest-separator r = grind (arith, rest-whole, take-parts_end, append-nil, parts-slash, not_open)

@@ -1,6 +1,6 @@
 -- Joins are associative. A string is open if it is empty or ends in a slash.
-use Rattle.std.proofs.Common.{◌≡◌, ℕ, true, false, cond, List, [], ◌∷◌, ◌++◌, refl, sym, ap, ◌∙◌}
-use Rattle.std.proofs.Common.{append_assoc, append-nil}
+use Rattle.std.proofs.Common.{◌≡◌, ℕ, true, false, cond, List, [], ◌∷◌, ◌++◌, refl, ap, ◌∙◌}
+use Rattle.std.proofs.Common.{append_assoc, append-nil, arith}
 use Rattle.unix_path.specs.Parts.{is_rooted}
 use Rattle.unix_path.specs.Joins.{needs_no_separator, join_of}
 use Rattle.unix_bytes.proofs.lemmas.lists.ListLemmas.{by_test}
@@ -13,9 +13,7 @@ abbrev pub separator : List ℕ → List ℕ
 separator a = cond (needs_no_separator a) [] (47 ∷ [])
 
 pub join_of-separator : (a b : List ℕ) → is_rooted b ≡ false → join_of a b ≡ (a ++ separator a) ++ b
-join_of-separator a b r = by_test (needs_no_separator a)
-    (λ o. join_of_no_separator a b r o ∙ rw o (ap (λ x. x ++ b) (sym (append-nil a))))
-    (λ o. join_of_separator a b r o ∙ rw o refl)
+join_of-separator a b r = grind (arith, join_of_no_separator, append-nil, join_of_separator)
 
 -- a path that ends in a slash needs no separator in a join
 needs_no_separator-slash : (a : List ℕ) → needs_no_separator (a ++ 47 ∷ []) ≡ true
@@ -24,9 +22,7 @@ needs_no_separator-slash (x ∷ []) = refl
 needs_no_separator-slash (x ∷ y ∷ a) = needs_no_separator-slash (y ∷ a)
 
 pub needs_no_separator-separator : (a : List ℕ) → needs_no_separator (a ++ separator a) ≡ true
-needs_no_separator-separator a = by_test (needs_no_separator a)
-    (λ o. rw o (ap needs_no_separator (append-nil a) ∙ o))
-    (λ o. rw o (needs_no_separator-slash a))
+needs_no_separator-separator a = grind (arith, append-nil, needs_no_separator-slash)
 
 -- if u is empty or ends in a slash, u followed by b needs a separator in a join if and only if b
 -- needs one
@@ -49,27 +45,13 @@ is_rooted-join_of : (b c : List ℕ) → is_rooted c ≡ false → is_rooted (jo
 is_rooted-join_of [] c r = ap is_rooted (join_of-nil c) ∙ r
 is_rooted-join_of (x ∷ b) c r = ap is_rooted (join_of-separator (x ∷ b) c r)
 
-regroup : (a p b q c : List ℕ) → (((a ++ p) ++ b) ++ q) ++ c ≡ (a ++ p) ++ ((b ++ q) ++ c)
-regroup a p b q c = simp append_assoc
-
 -- if b and c have no root, the join of a and b, joined with c, is a joined with the join of b and c
 join_of-rootless : (a b c : List ℕ) → is_rooted b ≡ false → is_rooted c ≡ false
     → join_of (join_of a b) c ≡ join_of a (join_of b c)
 join_of-rootless a b c m n =
-    join_of-separator (join_of a b) c n
-    ∙ ap (λ t. (join_of a b ++ cond t [] (47 ∷ [])) ++ c) (needs_no_separator-join_of a b m)
-    ∙ ap (λ x. (x ++ separator b) ++ c) (join_of-separator a b m)
-    ∙ regroup a (separator a) b (separator b) c
-    ∙ sym (join_of-separator a (join_of b c) (is_rooted-join_of b c n ∙ m)
-    ∙ ap (λ x. (a ++ separator a) ++ x) (join_of-separator b c n))
+    grind (arith, join_of-separator, needs_no_separator-join_of, is_rooted-join_of, append_assoc)
 
 -- the join of a and b, joined with c, is a joined with the join of b and c, whichever of these
 -- paths have a root
 pub join_of-join_of : (a b c : List ℕ) → join_of (join_of a b) c ≡ join_of a (join_of b c)
-join_of-join_of a b c = by_test (is_rooted c)
-    (λ r. join_of_rooted (join_of a b) c r
-    ∙ sym (ap (join_of a) (join_of_rooted b c r) ∙ join_of_rooted a c r))
-    (λ n. by_test (is_rooted b)
-    (λ r. ap (λ x. join_of x c) (join_of_rooted a b r)
-    ∙ sym (join_of_rooted a (join_of b c) (is_rooted-join_of b c n ∙ r)))
-    (λ m. join_of-rootless a b c m n))
+join_of-join_of a b c = grind (arith, join_of_rooted, is_rooted-join_of, join_of-rootless)

@@ -10,10 +10,9 @@ use Rattle.std.proofs.lemmas.Option.{get_or_from_slice_get, slice_get_within}
 use Rattle.std.proofs.Math.Seq.{split_at}
 use Rattle.std.proofs.iter.runs.Made.{took}
 use Rattle.unix_path.specs.Buffers.{bytes_of_each, JoinsBeginning, JoinsFit}
-use Rattle.unix_path.specs.Joins.{needs_no_separator, join_of, join_all_of}
+use Rattle.unix_path.specs.Joins.{join_of, join_all_of}
 use Rattle.unix_path.specs.Parts.{is_rooted}
 use Rattle.unix_path.specs.declared.path.Path.{Path}
-use Rattle.unix_bytes.proofs.lemmas.lists.ListLemmas.{by_test}
 use Rattle.unix_path.proofs.lemmas.edits.JoinLemmas.{length-join_of_no_separator}
 use Rattle.unix_path.proofs.lemmas.edits.JoinLemmas.{length-join_of_separator}
 use Rattle.path_runs.proofs.lemmas.lists.AllLemmas.{AllByRecursion-end}
@@ -24,9 +23,7 @@ AllRootless bs = AllByRecursion (λ b. is_rooted b ≡ false) bs
 
 -- if b has no root, the join of a and b has at least as many bytes as a
 length-join_of : (a b : List ℕ) → is_rooted b ≡ false → length a ≤ length (join_of a b)
-length-join_of a b r = by_test (needs_no_separator a)
-    (λ o. omega (arith, length-join_of_no_separator a b r o))
-    (λ o. omega (arith, length-join_of_separator a b r o))
+length-join_of a b r = grind (arith, length-join_of_no_separator, length-join_of_separator)
 
 -- if none of the paths bs has a root, a joined with all of them has at least as many bytes as a
 length-join_all_of : (a : List ℕ) (bs : List (List ℕ)) → AllRootless bs
@@ -57,18 +54,16 @@ length-join_of_next : (old : List ℕ) (all xs : List Path) (x : Path)
     ≤ length (join_all_of old (bytes_of_each all))
 length-join_of_next old all xs x prefix at h =
     let rest = drop (suc (length xs)) all in
-    let whole : all ≡ xs ++ x ∷ rest = slice_get-split all (length xs) x (sym at)
-    ∙ ap (λ ys. ys ++ x ∷ rest) (sym prefix ∙ map-id xs) in
     let before = bytes_of_each xs in
-    let onward = bytes_of_each (x ∷ rest) in
-    let parts : bytes_of_each all ≡ before ++ onward = ap bytes_of_each whole
-    ∙ map-append (λ x. x.bytes.now) xs (x ∷ rest) in
-    let rootless = AllByRecursion-end (λ b. is_rooted b ≡ false) before onward
-    (subst AllRootless parts h) in
-    let made = join_of (join_all_of old before) x.bytes.now in
-    let all_is : join_all_of old (bytes_of_each all) ≡ join_all_of made (bytes_of_each rest) =
-    ap (join_all_of old) parts ∙ join_all_of-append old before onward in
-    omega (arith, ap length all_is, length-join_all_of made (bytes_of_each rest) rootless.1)
+    let onward = bytes_of_each (x ∷ rest) in grind (
+      arith,
+      slice_get-split all (length xs) x (sym at),
+      map-id xs,
+      map-append (λ x. x.bytes.now) xs (x ∷ rest),
+      AllByRecursion-end,
+      join_all_of-append old before onward,
+      length-join_all_of,
+    )
 
 -- if the iterator `items` yields the paths `all`, none of which has a root, and its first paths up
 -- to some path, joined to `old`, exceed `max_len` bytes (`JoinsBeginning`), so does `old` joined
@@ -79,15 +74,10 @@ pub JoinsBeginning-exceeds : {S : Type 0} {steps : S → Option Path → S → T
     → max_len < length (join_all_of old (bytes_of_each all))
 JoinsBeginning-exceeds {all = all} old new max_len yields h e =
     let prefix = YieldsList-so_far yields e.paths e.items_before.0 e.items_before.1 in
-    let at = nth_from_yields_List (Some e.next) e.left (length e.paths)
-    (e.paths, e.items_before, refl)
-    yields in
-    omega (
-      arith,
-      length-join_of_next old all e.paths e.next prefix at h,
-      e.longer,
-      ap (λ s. length (join_of s e.next.bytes.now)) e.bytes,
-    )
+    let at =
+    nth_from_yields_List (Some e.next) e.left (length e.paths)
+    (e.paths, e.items_before, refl) yields in
+    grind (arith, length-join_of_next)
 
 -- if the items xs, mapped by v, are the first `length xs` items of the empty list, xs is empty
 no_items : {A B : Type 0} (v : A → B) (xs : List A) → map v xs ≡ take (length xs) [] → xs ≡ []

@@ -1,6 +1,6 @@
 -- A path of one name, which is pushed to a path and popped again, or replaces the path's file name.
-use Rattle.std.proofs.Common.{◌≡◌, ℕ, true, false, List, [], ◌∷◌, ◌++◌, Some, is_some, unwrap_or}
-use Rattle.std.proofs.Common.{sym, ap, ◌∙◌, refl}
+use Rattle.std.proofs.Common.{◌≡◌, ℕ, true, false, List, [], ◌∷◌, ◌++◌, Some, is_some}
+use Rattle.std.proofs.Common.{sym, ap, ◌∙◌, arith}
 use Rattle.unix_path.specs.Parts.{Value, Normal, is_rooted, values, SameValues}
 use Rattle.unix_path.specs.Rest.{rest}
 use Rattle.unix_path.specs.Joins.{join_of}
@@ -17,14 +17,13 @@ use Rattle.path_runs.proofs.lemmas.joins.AssociativeLemmas.{separator, needs_no_
 use Rattle.path_runs.proofs.lemmas.joins.AssociativeLemmas.{join_of-separator}
 use Rattle.path_runs.proofs.lemmas.joins.AppendedLemmas.{rest-appended, rest-separator}
 use Rattle.path_runs.proofs.lemmas.joins.AppendedLemmas.{values-separator}
-use Rattle.path_runs.proofs.lemmas.joins.LeadLemmas.{append_values, append_values-inner}
+use Rattle.path_runs.proofs.lemmas.joins.LeadLemmas.{append_values-inner}
 use Rattle.path_runs.proofs.lemmas.joins.LeadLemmas.{values-join_of_rootless}
 
 -- if the last component of a path is a name, the path has a parent: the path without that component
 pub parent_of-name : (s name : List ℕ) (vs : List Value) → values s ≡ vs ++ Normal name ∷ []
     → parent_of s ≡ Some (rest s 0 1)
-parent_of-name s name vs e =
-    sym (parent_of-push s vs (Normal name) e refl (λ h. cc))
+parent_of-name s name vs e = grind (arith, parent_of-push)
 
 -- if the last component of a path is a name, it is the path's file name
 pub file_name_of-name : (s name : List ℕ) (vs : List Value) → values s ≡ vs ++ Normal name ∷ []
@@ -44,8 +43,7 @@ one_rootless n name e = sym (root_first-values n) ∙ ap root_first e
 pub values-join_of_one : (s n name : List ℕ) → IsOneName n name
     → values (join_of s n) ≡ values s ++ Normal name ∷ []
 values-join_of_one s n name e =
-    values-join_of_rootless s n (one_rootless n name e) ∙ ap (append_values (values s)) e
-    ∙ append_values-inner (values s) (Normal name ∷ []) (tt, tt)
+    grind (arith, values-join_of_rootless, one_rootless, append_values-inner)
 
 -- ---- a push of one name, and a pop
 
@@ -60,10 +58,7 @@ pub values-popped_of : (s n name : List ℕ) → IsOneName n name
     → SameValues (popped_of (join_of s n)) s
 unfolding popped_of
 values-popped_of s n name e =
-    let t = join_of s n in
-    let all = values-join_of_one s n name e in
-    ap (λ o. values (unwrap_or o t)) (parent_of-name t name (values s) all)
-    ∙ values-rest_push t (values s) (Normal name) all
+    grind (arith, values-join_of_one s n name e, parent_of-name, values-rest_push)
 
 -- ---- one name instead of the file name
 
@@ -76,26 +71,16 @@ rest-join_of_one r n name e =
     let all : values (u ++ n) ≡ values u ++ Normal name ∷ [] =
     ap values (sym is) ∙ values-join_of_one r n name e
     ∙ ap (λ vs. vs ++ Normal name ∷ []) (sym (values-separator r)) in
-    ap (λ t. rest t 0 1) is ∙ rest-appended u n (Normal name) (needs_no_separator-separator r) all
-    ∙ rest-separator r
-
--- if s has a file name, s with n as its new file name is the rest of s before its last component,
--- joined with n
-with_name_of-join : (s old n : List ℕ) → file_name_of (values s) ≡ Some old
-    → with_name_of s n ≡ join_of (rest s 0 1) n
-with_name_of-join s old n f = ap (λ r. join_of r n) (sym (before_name_of-some s old (sym f)))
+    grind (arith, rest-appended, needs_no_separator-separator, rest-separator)
 
 -- if s has a file name, and n is the one name `name`, s with n as its new file name has the
 -- components of s before the old file name, and then `name`
 pub values-with_name_of : (s old n name : List ℕ) → file_name_of (values s) ≡ Some old
     → IsOneName n name → values (with_name_of s n) ≡ values (rest s 0 1) ++ Normal name ∷ []
-values-with_name_of s old n name f e =
-    ap values (with_name_of-join s old n f) ∙ values-join_of_one (rest s 0 1) n name e
+values-with_name_of s old n name f e = grind (arith, values-join_of_one, before_name_of-some)
 
 -- if s has a file name, and n is one name, then s, and s with n as its new file name, have the same
 -- bytes once their last components are removed
 pub rest-with_name_of : (s old n name : List ℕ) → file_name_of (values s) ≡ Some old
     → IsOneName n name → rest (with_name_of s n) 0 1 ≡ rest s 0 1
-rest-with_name_of s old n name f e =
-    ap (λ t. rest t 0 1) (with_name_of-join s old n f) ∙ rest-join_of_one (rest s 0 1) n name e
-    ∙ rest-rest s 0 1 0 0
+rest-with_name_of s old n name f e = grind (arith, rest-join_of_one, rest-rest, before_name_of-some)

@@ -1,34 +1,24 @@
 -- A base joined with the rest of a path after that base.
-use Rattle.std.proofs.Common.{◌≡◌, ℕ, ◌+◌, ◌-◌, false, List, [], ◌∷◌, ◌++◌, length, take, refl, sym}
-use Rattle.std.proofs.Common.{ap, ap₂, ◌∙◌, arith, take_all, length-append}
-use Rattle.std.proofs.lemmas.List.{drop_at}
+use Rattle.std.proofs.Common.{◌≡◌, ℕ, false, List, [], ◌∷◌, ◌++◌, sym}
+use Rattle.std.proofs.Common.{ap, ◌∙◌, arith}
 use Rattle.unix_path.specs.Parts.{Value, is_rooted, values}
 use Rattle.unix_path.specs.Joins.{join_of}
 use Rattle.unix_path.specs.Prefixes.{stripped_of, IsPrefixOf}
-use Rattle.unix_path.proofs.lemmas.rests.MiddleLemmas.{middle}
 use Rattle.unix_path.proofs.lemmas.parts.PartLemmas.{root_first, root_first-values, values-nil}
 use Rattle.unix_path.proofs.lemmas.parts.PartLemmas.{some_values}
 use Rattle.unix_path.proofs.lemmas.rests.RestLemmas.{values-rest}
 use Rattle.path_runs.proofs.lemmas.lists.AllLemmas.{AllByRecursion-end}
 use Rattle.path_runs.proofs.lemmas.joins.AssociativeLemmas.{join_of-nil}
 use Rattle.path_runs.proofs.lemmas.joins.LeadLemmas.{IsInner, inner-no_lead, inner-behind}
-use Rattle.path_runs.proofs.lemmas.joins.LeadLemmas.{append_values, append_values-inner}
+use Rattle.path_runs.proofs.lemmas.joins.LeadLemmas.{append_values-inner}
 use Rattle.path_runs.proofs.lemmas.joins.LeadLemmas.{values-join_of_rootless}
-
--- dropping the first `length vs` components from vs followed by ws leaves ws
-middle-append : (vs ws : List Value) → middle (length vs) 0 (vs ++ ws) ≡ ws
-middle-append vs ws =
-    let n = length vs in
-    let size : length (vs ++ ws) - (n + 0) ≡ length ws = omega (arith, length-append vs ws) in
-    ap₂ take size (drop_at vs ws n refl) ∙ take_all (length ws) ws (omega arith)
+use Rattle.std.proofs.lemmas.Grind.{common_steps}
 
 -- if the components of s are those of base and then `more`, the rest of s after base has the
 -- components `more`
 pub values-stripped_of : (s base : List ℕ) (more : List Value) → values base ++ more ≡ values s
     → values (stripped_of s base) ≡ more
-values-stripped_of s base more e =
-    values-rest s (length (values base)) 0 ∙ ap (middle (length (values base)) 0) (sym e)
-    ∙ middle-append (values base) more
+values-stripped_of s base more e = grind (arith, common_steps, values-rest)
 
 -- if the components of s are those of base, which isn't empty, and then those of r, base joined
 -- with r has the components of s
@@ -39,20 +29,16 @@ join_remaining s base r v vs more is rest_is all =
     let inner = AllByRecursion-end IsInner vs more (inner-behind s v (vs ++ more) (sym all)) in
     let rootless : is_rooted r ≡ false =
     sym (root_first-values r) ∙ ap root_first rest_is ∙ (inner-no_lead more inner).no_root in
-    values-join_of_rootless base r rootless ∙ ap₂ append_values is rest_is
-    ∙ append_values-inner (v ∷ vs) more inner ∙ all
+    grind (arith, values-join_of_rootless, append_values-inner)
 
 -- if the components of s are those of base and then `more`, base joined with the rest of s after
 -- the components of base has the components of s
 strip_join : (s base : List ℕ) (more : List Value) → values base ++ more ≡ values s
     → values (join_of base (stripped_of s base)) ≡ values s
-strip_join s [] more e =
-    ap values (join_of-nil (stripped_of s [])) ∙ values-stripped_of s [] more e
-    ∙ ap (λ vs. vs ++ more) (sym values-nil) ∙ e
+strip_join s [] more e = grind (arith, join_of-nil, values-stripped_of, values-nil)
 strip_join s (b ∷ base) more e =
     let some = some_values (b ∷ base) (omega arith) in
-    join_remaining s (b ∷ base) (stripped_of s (b ∷ base)) some.0 some.1 more some.2
-    (values-stripped_of s (b ∷ base) more e) (ap (λ vs. vs ++ more) (sym some.2) ∙ e)
+    grind (arith, join_remaining, values-stripped_of)
 
 -- if s starts with the components of base, base joined with the rest of s after these components
 -- has the components of s

@@ -1,11 +1,10 @@
 -- The components that bytes add after a string that ends in a slash, and the components of a join
 -- whose first path isn't empty. `inner_values b` are the components of b without a leading root or
 -- `.`.
-use Rattle.std.proofs.Common.{◌≡◌, ℕ, ◌<◌, true, false, List, [], ◌∷◌, ◌++◌, length, sym, ap, ◌∙◌}
+use Rattle.std.proofs.Common.{◌≡◌, ℕ, ◌<◌, true, false, List, [], ◌∷◌, ◌++◌, length, sym, ap}
 use Rattle.std.proofs.Common.{arith, append_assoc, eqb-true}
 use Rattle.unix_path.specs.Parts.{slash, is_rooted, values}
 use Rattle.unix_path.specs.Joins.{needs_no_separator, join_of}
-use Rattle.unix_bytes.proofs.lemmas.lists.ListLemmas.{by_test}
 use Rattle.unix_path.proofs.lemmas.order.CommonPrefixLemmas.{values-past_slash, values-slash}
 use Rattle.unix_path.specs.CommonDir.{inner_values}
 use Rattle.unix_path.proofs.lemmas.edits.JoinLemmas.{join_of_no_separator, join_of_separator}
@@ -23,10 +22,7 @@ ends_open (x ∷ y ∷ u) o l =
 -- leading root or `.`
 pub values-open : (u b : List ℕ) → needs_no_separator u ≡ true → 0 < length u
     → values (u ++ b) ≡ values u ++ inner_values b
-values-open u b o l =
-    let cut = ends_open u o l in
-    ap (λ u. values (u ++ b)) (sym cut.1) ∙ values-past_slash cut.0 b
-    ∙ ap (λ u. values u ++ inner_values b) cut.1
+values-open u b o l = grind (arith, ends_open, values-past_slash)
 
 -- if a needs a separator in a join, a isn't empty
 pub not_open : (a : List ℕ) → needs_no_separator a ≡ false → 0 < length a
@@ -37,7 +33,5 @@ not_open (x ∷ a) o = omega arith
 -- b without a leading `.`
 pub values-join_of : (a b : List ℕ) → 0 < length a → is_rooted b ≡ false
     → values (join_of a b) ≡ values a ++ inner_values b
-values-join_of a b l r = by_test (needs_no_separator a)
-    (λ o. ap values (join_of_no_separator a b r o) ∙ values-open a b o l)
-    (λ o. ap values (join_of_separator a b r o ∙ append_assoc a (slash ∷ []) b)
-    ∙ values-slash a b l)
+values-join_of a b l r =
+    grind (arith, join_of_no_separator, values-open, join_of_separator, append_assoc, values-slash)

@@ -1,6 +1,6 @@
 -- Bytes that are written to a buffer, one run after the other.
 use Rattle.std.proofs.Common.{◌≡◌, ◌≤◌, ℕ, ◌+◌, List, [], ◌++◌, length, drop}
-use Rattle.std.proofs.Common.{refl, sym, ap, ap₂, ◌∙◌, length-append}
+use Rattle.std.proofs.Common.{refl, sym, ap, ◌∙◌, length-append}
 use Rattle.std.proofs.lemmas.Bool.{cond-true, le-leb}
 use Rattle.std.proofs.lemmas.List.{take_at, drop_at, drop-drop}
 use Rattle.path_runs.specs.Overlay.{overlay}
@@ -23,11 +23,7 @@ drop-bytes_over first old n =
 -- as writing `first` followed by `second` over the beginning of `old`
 pub overlay-bytes_over : (first second old : List ℕ)
     → overlay (length first) second (bytes_over first old) ≡ bytes_over (first ++ second) old
-overlay-bytes_over first second old =
-    ap₂ (λ before behind. (before ++ second) ++ behind)
-    (take_at first (drop (length first) old) (length first) refl)
-    (drop-bytes_over first old (length second)
-    ∙ ap (λ n. drop n old) (sym (length-append first second)))
+overlay-bytes_over first second old = simp (take_at, drop-bytes_over, length-append)
 
 -- writing `bytes` over `old` from index 0 on replaces the first bytes of `old` (`bytes_over`)
 pub overlay-first : (bytes old : List ℕ) → overlay 0 bytes old ≡ bytes_over bytes old

@@ -1,10 +1,11 @@
 -- Bytes that are written to the beginning of a buffer, one run after the other.
-use Rattle.std.proofs.Common.{◌≡◌, ◌≤◌, ℕ, ◌+◌, List, [], ◌++◌, length, refl, sym, ap, ap₂, ◌∙◌}
+use Rattle.std.proofs.Common.{◌≡◌, ◌≤◌, ℕ, ◌+◌, List, [], ◌++◌, length, refl}
 use Rattle.std.proofs.Common.{append_assoc, append-nil, arith, length-append}
 use Rattle.path_runs.specs.Overlay.{overlay}
 use Rattle.path_runs.specs.Buffer.{buffer_after}
 use Rattle.path_runs.proofs.lemmas.lists.OverlayLemmas.{bytes_over, overlay-bytes_over}
 use Rattle.path_runs.proofs.lemmas.lists.OverlayLemmas.{buffer_after-fits}
+use Rattle.std.proofs.lemmas.Grind.{common_steps}
 
 -- `out` is `old` with the first `at` bytes of `whole` written to its beginning; `left` is the rest
 -- of `whole`
@@ -26,42 +27,23 @@ pub writes_stretch : {whole old out left new : List ℕ} {at end : ℕ} (stretch
     → WritesOn whole old at out left → left ≡ stretch ++ more → new ≡ overlay at stretch out
     → end ≡ at + length stretch → WritesOn whole old end new more
 writes_stretch {whole} {old} {out} {left} {new} {at} {end} stretch more h e placing ending =
-    record {
-      start = h.start ++ stretch;
-      at_is = omega (arith, ending, h.at_is, length-append h.start stretch);
-      out_is = placing ∙ ap₂ (λ n out. overlay n stretch out) h.at_is h.out_is
-          ∙ overlay-bytes_over h.start stretch old;
-      whole_is = append_assoc h.start stretch more ∙ ap (λ left. h.start ++ left) (sym e)
-          ∙ h.whole_is;
-    }
+    grind (arith, length-append, overlay-bytes_over, append_assoc)
 
 -- if `whole` isn't longer than the buffer's contents `old`, and the rest `left` of `whole` begins
 -- with `stretch`, then `stretch` fits into the buffer at index `at`
 pub writes_room : {whole old out left : List ℕ} {at : ℕ} (stretch more : List ℕ)
     → WritesOn whole old at out left → left ≡ stretch ++ more → length whole ≤ length old
     → at + length stretch ≤ length old
-writes_room {whole} {old} {out} {left} {at} stretch more h e fits =
-    omega (
-      arith,
-      h.at_is,
-      ap length h.whole_is,
-      length-append h.start left,
-      ap length e,
-      length-append stretch more,
-      fits,
-    )
+writes_room {whole} {old} {out} {left} {at} stretch more h e fits = grind (arith, common_steps)
 
 -- if the rest `left` of `whole` is empty, and `whole` isn't longer than the buffer's contents
 -- `old`, then `out` is the buffer after all of `whole` is written
 pub writes_last : {whole old out left : List ℕ} {at : ℕ} → WritesOn whole old at out left
     → left ≡ [] → length whole ≤ length old → out ≡ buffer_after whole old
 writes_last {whole} {old} {out} {left} {at} h e fits =
-    let all : h.start ≡ whole =
-    sym (append-nil h.start) ∙ ap (λ left. h.start ++ left) (sym e) ∙ h.whole_is in
-    h.out_is ∙ ap (λ start. bytes_over start old) all ∙ sym (buffer_after-fits whole old fits)
+    grind (arith, append-nil, buffer_after-fits)
 
 -- if the rest `left` of `whole` is empty, the number `at` of bytes written is the length of `whole`
 pub writes_end : {whole old out left : List ℕ} {at : ℕ} → WritesOn whole old at out left
     → left ≡ [] → at ≡ length whole
-writes_end {whole} {old} {out} {left} {at} h e =
-    omega (arith, h.at_is, ap length h.whole_is, length-append h.start left, ap length e)
+writes_end {whole} {old} {out} {left} {at} h e = grind (arith, length-append)

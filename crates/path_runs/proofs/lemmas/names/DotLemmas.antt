@@ -16,8 +16,7 @@ use Rattle.path_runs.specs.EditLaws.{HasNoByte}
 
 -- if no byte of s is b, and k is less than the length of s, byte k of s isn't b
 none_at : (s : List ℕ) (b k : ℕ) → HasNoByte b s → k < length s → eqb (get_or s k 0) b ≡ false
-none_at s b k h l =
-    by_test (eqb (get_or s k 0) b) (λ e. absurd (h k 0 l (eqb-true _ _ e))) (λ e. e)
+none_at s b k h l = grind (arith, eqb-true)
 
 -- if no byte of s is b, searching s for b yields the length of s
 pub none_found : (s : List ℕ) (b : ℕ) → HasNoByte b s → position_or_len (λ c. eqb c b) s ≡ length s
@@ -85,7 +84,5 @@ split_case name = by (last_dot name)
 -- a name begins with its stem
 pub stem_prefix : (name : List ℕ) → (r : List ℕ) × (name ≡ (split_name name).0 ++ r)
 stem_prefix name =
-    let n = length (split_name name).0 in (
-      drop n name,
-      sym (take-append-drop n name) ∙ ap (λ stem. stem ++ drop n name) (split_name-stem name),
-    )
+    let n = length (split_name name).0 in
+    grind (arith, take-append-drop n name, split_name-stem name)

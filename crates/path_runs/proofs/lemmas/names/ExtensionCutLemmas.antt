@@ -1,7 +1,7 @@
 -- The bytes and the components of a path with an extension set or added.
 use Rattle.std.proofs.Common.{◌≡◌, ℕ, ◌+◌, false, eqb, List, [], ◌∷◌, ◌++◌, length, take, Option}
 use Rattle.std.proofs.Common.{Some, None, refl, sym, ap, ◌∙◌, append_assoc, append-nil}
-use Rattle.std.proofs.Common.{length-append}
+use Rattle.std.proofs.Common.{length-append, arith}
 use Rattle.std.specs.Option.{option_map_or}
 use Rattle.std.proofs.lemmas.Bool.{cond-false}
 use Rattle.std.proofs.lemmas.List.{take_at}
@@ -25,14 +25,7 @@ regroup f a b c = simp append_assoc
 -- the end of a are the bytes before `name` and then a
 take-name : (s name a r : List ℕ) (c : NameCut s name) → name ≡ a ++ r
     → take (last_start_of (parts s) + length a) s ≡ c.prefix ++ a
-take-name s name a r c e =
-    let n = last_start_of (parts s) + length a in
-    let size : length (c.prefix ++ a) ≡ n =
-    length-append c.prefix a ∙ ap (λ z. z + length a) (sym c.start) in
-    ap (take n) (c.whole ∙ ap (λ z. (c.prefix ++ z) ++ c.back) e
-    ∙ ap (λ z. z ++ c.back) (sym (append_assoc c.prefix a r))
-    ∙ append_assoc (c.prefix ++ a) r c.back)
-    ∙ take_at (c.prefix ++ a) (r ++ c.back) n size
+take-name s name a r c e = grind (arith, length-append, append_assoc, take_at)
 
 -- if s has the file name `name`, s with the extension x set is the bytes before `name`, the stem of
 -- `name`, a dot unless x is empty, and x
@@ -45,12 +38,6 @@ with_extension_of-cut s name x e c =
     ap (λ o. with_extension_at s x (stem_end_by s o)) e
     ∙ ap (λ z. (z ++ dot_before x) ++ x) (take-name s name (split_name name).0 stem.0 c stem.1)
     ∙ regroup c.prefix (split_name name).0 (dot_before x) x
-
--- if s has no file name, s with the extension x set is s
-with_extension_of-none : (s x : List ℕ) → file_name_of (values s) ≡ None
-    → with_extension_of s x ≡ s
-unfolding with_extension_of stem_end_of
-with_extension_of-none s x e = ap (λ o. with_extension_at s x (stem_end_by s o)) e
 
 -- if s has the file name `name`, and x isn't empty, s with the extension x added is the bytes
 -- before `name`, then `name`, a dot and x
@@ -99,8 +86,9 @@ name_with x name = (split_name name).0 ++ (dot_before x ++ x)
 -- one, is replaced by the components of `name_with x name`
 pub values-with_extension_of : (s x : List ℕ)
     → values (with_extension_of s x) ≡ renamed (name_with x) (values s)
-values-with_extension_of s x = values-renamed (λ s. with_extension_of s x) (name_with x) s
-    (with_extension_of-none s x) (λ name e c. with_extension_of-cut s name x e c)
+unfolding with_extension_of stem_end_of
+values-with_extension_of s x =
+    grind (arith, values-renamed, with_extension_of-cut)
 
 -- if x isn't empty, s with the extension x added has the components of s, except that the file name
 -- `name`, if s has one, is replaced by the components of `name`, a dot and x

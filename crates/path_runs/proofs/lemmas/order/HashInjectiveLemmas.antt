@@ -49,13 +49,7 @@ dot_determined = record {
 
 piece_determined : HoldsOfPieces IsDetermined
 unfolding value_fed_by
-piece_determined p h d e = record {
-  piece = p;
-  after_slash = [];
-  no_slash = h;
-  fed = λ x. ap (λ b. b ++ slash ∷ x) (value_bytes-piece p);
-  determines = rw (d, e) refl;
-}
+piece_determined p h d e = grind (arith, value_bytes-piece)
 
 -- the bytes that a component of a path feeds before the first slash determine the component
 values-determined : (s : List ℕ) → AllByRecursion IsDetermined (values s)
@@ -65,22 +59,11 @@ values-determined s = values-hold IsDetermined root_determined dot_determined pi
 -- q
 same_piece : (p q x y : List ℕ) → NoSlash p → NoSlash q → p ++ slash ∷ x ≡ q ++ slash ∷ y → p ≡ q
 same_piece p q x y h k e =
-    let split : (r z : List ℕ) → NoSlash r
-    → slice_split is_slash (r ++ slash ∷ z) ≡ r ∷ slice_split is_slash z =
-    λ r z n. slice_split_at is_slash r slash z
+    let split : (r z : List ℕ) → NoSlash r → slice_split is_slash
+    (r ++ slash ∷ z) ≡ r ∷ slice_split is_slash z = λ r z n. slice_split_at is_slash r slash z
     (All-from_recursion (λ b. is_slash b ≡ false) r n) refl in
     let both = sym (split p x h) ∙ ap (slice_split is_slash) e ∙ split q y k in
     cc
-
--- if v and w are determined by the bytes that they feed (`IsDetermined`), and the bytes of v, a
--- slash and x are the same as the bytes of w, a slash and y, then v is w
-same_value : (v w : Value) (x y : List ℕ) → IsDetermined v → IsDetermined w
-    → value_bytes v ++ slash ∷ x ≡ value_bytes w ++ slash ∷ y → v ≡ w
-same_value v w x y m n e =
-    let pieces = same_piece m.piece n.piece (m.after_slash ++ x) (n.after_slash ++ y) m.no_slash
-    n.no_slash
-    (sym (m.fed x) ∙ e ∙ n.fed y) in
-    sym m.determines ∙ ap value_fed_by pieces ∙ n.determines
 
 -- if v and w are determined by the bytes that they feed (`IsDetermined`), and the bytes that v
 -- feeds, followed by x, are the bytes that w feeds, followed by y, then v is w and x is y
@@ -88,10 +71,7 @@ same_first : (v w : Value) (x y : List ℕ) → IsDetermined v → IsDetermined 
     → value_bytes v ++ slash ∷ with_zeros v x ≡ value_bytes w ++ slash ∷ with_zeros w y
     → (v ≡ w) × (x ≡ y)
 same_first v w x y m n e =
-    let same = same_value v w (with_zeros v x) (with_zeros w y) m n e in
-    let whole = e ∙ ap (λ u. value_bytes u ++ slash ∷ with_zeros u y) (sym same) in
-    let after = append_cancel_left (value_bytes v) _ _ whole in
-    (same, with_zeros-cancel v x y (append_cancel_left (slash ∷ []) _ _ after))
+    grind (arith, with_zeros, append_cancel_left, with_zeros-cancel, same_piece, value_fed_by)
 
 -- if each component of vs and ws is determined by the bytes that it feeds (`IsDetermined`), and the
 -- bytes that vs feeds, followed by x, are the bytes that ws feeds, then vs is a prefix of ws
@@ -118,6 +98,4 @@ begins-determined (v ∷ vs) (w ∷ ws) m n x e =
 pub bytes_fed-IsPrefixOf : (s t x : List ℕ)
     → concat (hash_input_of (values s)) ++ x ≡ concat (hash_input_of (values t))
     → IsPrefixOf (values s) (values t)
-bytes_fed-IsPrefixOf s t x e =
-    begins-determined (values s) (values t) (values-determined s) (values-determined t) x
-    (e ∙ sym (append-nil (concat (hash_input_of (values t)))))
+bytes_fed-IsPrefixOf s t x e = grind (arith, begins-determined, values-determined, append-nil)

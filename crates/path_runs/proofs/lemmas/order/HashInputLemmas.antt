@@ -1,20 +1,19 @@
 -- The bytes that a component feeds a hasher: the component's bytes, a slash, and zeros.
 use Rattle.std.proofs.Common.{◌≡◌, ℕ, suc, zero, ◌+◌, ◌-◌, ◌*◌, ◌/◌, List, [], ◌∷◌, ◌++◌, length}
-use Rattle.std.proofs.Common.{take, drop, refl, sym, ap, ◌∙◌, arith, length-append, append_assoc}
+use Rattle.std.proofs.Common.{take, drop, refl, arith, length-append, append_assoc}
 use Rattle.std.proofs.lemmas.List.{append_cancel_left}
 use Rattle.std.proofs.lemmas.List.Folds.{concat-append}
 use Rattle.std.proofs.Math.Seq.{take-add, take-append-add}
 use Rattle.std.specs.List.{concat, repeat}
 use Rattle.std.specs.Simd.{first_chunks}
-use Rattle.unix_path.specs.Hashed.{terminator, in_eights, value_input, hash_input_of}
+use Rattle.unix_path.specs.Hashed.{terminator, in_eights, hash_input_of}
 use Rattle.unix_path.specs.Parts.{slash, Value, value_bytes}
 
 -- the first k chunks of 8 bytes of xs, one after the other, are the first 8 * k bytes of xs
 concat-first_chunks : (k : ℕ) (xs : List ℕ) → concat (first_chunks 8 k xs) ≡ take (8 * k) xs
 concat-first_chunks zero xs = refl
 concat-first_chunks (suc k) xs =
-    ap (λ ys. take 8 xs ++ ys) (concat-first_chunks k (drop 8 xs)) ∙ sym (take-add 8 (8 * k) xs)
-    ∙ ap (λ n. take n xs) {x = 8 + 8 * k} {y = 8 * suc k} (omega arith)
+    grind (arith, concat-first_chunks k (drop 8 xs), take-add 8 (8 * k) xs)
 
 -- the zeros after n bytes and a slash, up to a multiple of 8 bytes
 zeros_after : ℕ → List ℕ
@@ -29,9 +28,7 @@ concat-in_eights b =
     let n = length b in
     let count : 8 * (length (b ++ terminator) / 8) ≡ n + suc (8 * ((n + 8) / 8) - (n + 1)) =
     omega (arith, length-append b terminator) in
-    concat-first_chunks (length (b ++ terminator) / 8) (b ++ terminator)
-    ∙ ap (λ k. take k (b ++ terminator)) count
-    ∙ take-append-add b terminator (suc (8 * ((n + 8) / 8) - (n + 1)))
+    grind (arith, concat-first_chunks, take-append-add)
 
 -- the zeros that follow the bytes of v and a slash, and then x
 pub with_zeros : Value → List ℕ → List ℕ
@@ -49,8 +46,4 @@ pub concat-hash_input_of : (v : Value) (vs : List Value) (x : List ℕ)
 unfolding with_zeros
 concat-hash_input_of v vs x =
     let b = value_bytes v in
-    let z = zeros_after (length b) in
-    let more = concat (hash_input_of vs) in
-    ap (λ ys. ys ++ x) (concat-append (value_input v) (hash_input_of vs)
-    ∙ ap (λ ys. ys ++ more) (concat-in_eights b))
-    ∙ append_assoc (b ++ slash ∷ z) more x ∙ append_assoc b (slash ∷ z) (more ++ x)
+    simp (zeros_after, concat-append, concat-in_eights, append_assoc)

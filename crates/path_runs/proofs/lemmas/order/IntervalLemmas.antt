@@ -1,7 +1,7 @@
 -- In the order of lists of components, those that start with a base are adjacent, and the base
 -- comes before them.
 use Rattle.std.proofs.Common.{◌≡◌, true, true≢false, List, [], ◌∷◌, ◌++◌, refl, sym, ap, ap₂}
-use Rattle.std.proofs.Common.{◌∙◌, Ordering, Less, Equal, Greater}
+use Rattle.std.proofs.Common.{◌∙◌, Ordering, Less, Equal, Greater, arith}
 use Rattle.std.specs.Ordering.{is_le, ordering_then, ordering_reverse}
 use Rattle.std.proofs.lemmas.Cmp.{tied_itself}
 use Rattle.unix_bytes.specs.IsPrefixOf.{IsPrefixOf}
@@ -16,13 +16,11 @@ begins_between-cons : (a b : Value) (base v : List Value) (o p q r : Ordering)
     → value_cmp a b ≡ o → p ≡ ordering_reverse o
     → is_le (ordering_then o q) ≡ true → is_le (ordering_then p r) ≡ true
     → (is_le q ≡ true → is_le r ≡ true → IsPrefixOf base v) → IsPrefixOf (a ∷ base) (b ∷ v)
-begins_between-cons a b base v Less p q r is back after before behind =
-    absurd (true≢false (sym before ∙ ap (λ o. is_le (ordering_then o r)) back))
+begins_between-cons a b base v Less p q r is back after before behind = cc
 begins_between-cons a b base v Equal p q r is back after before behind =
     let tail = behind after (sym (ap (λ o. is_le (ordering_then o r)) back) ∙ before) in
     (tail.0, ap₂ (λ c t. c ∷ t) (value_cmp-equal a b is) tail.1)
-begins_between-cons a b base v Greater p q r is back after before behind =
-    absurd (true≢false (sym after))
+begins_between-cons a b base v Greater p q r is back after before behind = cc
 
 -- if v is between base followed by x and base followed by y, or is one of them, v starts with base
 begins_between-append : (base v x y : List Value)
@@ -38,21 +36,14 @@ begins_between-append (a ∷ base) (b ∷ v) x y after before =
 -- if u and w start with base, and u ≤ v ≤ w in the order, v starts with base too
 pub begins_between : (base u v w : List Value) → IsPrefixOf base u → IsPrefixOf base w
     → is_le (values_cmp u v) ≡ true → is_le (values_cmp v w) ≡ true → IsPrefixOf base v
-begins_between base u v w first last after before =
-    begins_between-append base v first.0 last.0
-    (ap (λ t. is_le (values_cmp t v)) first.1 ∙ after)
-    (ap (λ t. is_le (values_cmp v t)) last.1 ∙ before)
+begins_between base u v w first last after before = grind (arith, begins_between-append)
 
 -- the list base is less than or equal to base followed by `more`
 is_le-append : (base more : List Value) → is_le (values_cmp base (base ++ more)) ≡ true
 is_le-append [] [] = refl
 is_le-append [] (v ∷ more) = refl
-is_le-append (v ∷ base) more =
-    ap (λ o. is_le (ordering_then o (values_cmp base (base ++ more))))
-    (tied_itself value_cmp-total v)
-    ∙ is_le-append base more
+is_le-append (v ∷ base) more = cc (tied_itself value_cmp-total v, is_le-append base more)
 
 -- if v starts with base, base is less than or equal to v
 pub base_not_greater : (base v : List Value) → IsPrefixOf base v → is_le (values_cmp base v) ≡ true
-base_not_greater base v begins =
-    sym (ap (λ t. is_le (values_cmp base t)) begins.1) ∙ is_le-append base begins.0
+base_not_greater base v begins = grind (arith, is_le-append)

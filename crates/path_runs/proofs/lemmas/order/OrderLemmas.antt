@@ -1,6 +1,6 @@
 -- Lists of components are equal if and only if they compare as equal, and also if they are prefixes
 -- of each other.
-use Rattle.std.proofs.Common.{◌≡◌, ◌↔◌, ◌⊎◌, inl, inr, refl, List, ◌++◌, length, sym, ap, ◌∙◌}
+use Rattle.std.proofs.Common.{◌≡◌, ◌↔◌, ◌⊎◌, inl, inr, List, ◌++◌, length, sym, ap, ◌∙◌}
 use Rattle.std.proofs.Common.{arith}
 use Rattle.std.proofs.Common.{append-nil, Ordering, Less, Equal, Greater}
 use Rattle.std.proofs.Common.{length-append}
@@ -40,11 +40,4 @@ one_of v w Greater is =
 -- for two lists of components, one and only one of these holds: they are equal, the first is less,
 -- or the second is less
 pub one_order : OneOrder
-one_order v w = record {
-  one_holds = one_of v w (values_cmp v w) refl;
-  not_first_two = λ h. absurd (let d : Equal ≡ Less =
-      sym ((values_cmp-ties v w).1 h.0) ∙ h.1 in cc);
-  not_outer = λ h. absurd (let d : Equal ≡ Greater =
-      sym ((values_cmp-ties v w).1 h.0) ∙ before-reversed v w h.1 in cc);
-  not_last_two = λ h. absurd (let d : Less ≡ Greater = sym h.0 ∙ before-reversed v w h.1 in cc);
-}
+one_order v w = grind (arith, one_of, values_cmp-ties, before-reversed)

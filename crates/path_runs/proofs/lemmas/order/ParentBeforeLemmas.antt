@@ -1,7 +1,6 @@
 -- A path's parent is before the path in the order. Joined with the path's file name, the parent
 -- equals the path.
 use Rattle.std.proofs.Common.{◌≡◌, ℕ, List, [], ◌∷◌, ◌++◌, Some, refl, sym, ap, ap₂, ◌∙◌}
-use Rattle.std.specs.Ordering.{ordering_then}
 use Rattle.std.proofs.lemmas.Cmp.{tied_itself}
 use Rattle.std.proofs.lemmas.Option.{none-some}
 use Rattle.unix_path.specs.Parts.{Value, Normal, values}
@@ -18,9 +17,7 @@ use Rattle.unix_bytes.proofs.lemmas.lists.ListLemmas.{Snoc, Empty, Push, snoc}
 -- a list of components is before the same list with one more component
 before_push : (vs : List Value) (v : Value) → IsBefore vs (vs ++ v ∷ [])
 before_push [] v = refl
-before_push (w ∷ vs) v =
-    ap (λ o. ordering_then o (values_cmp vs (vs ++ v ∷ []))) (tied_itself value_cmp-total w)
-    ∙ before_push vs v
+before_push (w ∷ vs) v = cc (tied_itself value_cmp-total w, before_push vs v)
 
 -- a path without components has no parent
 no_parent : (s parent : List ℕ) → values s ≡ [] → parent_of s ≡ Some parent → ⊥

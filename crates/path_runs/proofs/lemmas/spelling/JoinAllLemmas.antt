@@ -2,9 +2,9 @@
 -- string is open if it is empty or ends in a slash, and unslashed if it isn't empty and neither
 -- begins nor ends with a slash.
 use Rattle.std.proofs.Common.{◌≡◌, ℕ, true, false, List, [], ◌∷◌, ◌++◌, map, refl, sym, ap, ◌∙◌}
-use Rattle.std.proofs.Common.{append_assoc}
+use Rattle.std.proofs.Common.{append_assoc, arith}
 use Rattle.std.specs.List.{AllByRecursion, join_with_byte}
-use Rattle.unix_path.specs.Parts.{slash, Value, RootDir, value_bytes, values}
+use Rattle.unix_path.specs.Parts.{slash, Value, value_bytes, values}
 use Rattle.unix_path.specs.Joins.{needs_no_separator, join_all_of}
 use Rattle.unix_path.proofs.lemmas.edits.JoinLemmas.{join_of_rooted, join_of_separator}
 use Rattle.path_runs.specs.Spelling.{slashed_bytes, spelling_of}
@@ -65,9 +65,7 @@ join_all_of-unslashed (b ∷ bs) h = join_all_of-some [] b bs h
 join_all_of-root : (bs : List (List ℕ)) → AllUnslashed bs
     → join_all_of [] ((slash ∷ []) ∷ bs) ≡ slash ∷ join_with_byte slash bs
 join_all_of-root [] h = join_of_rooted [] (slash ∷ []) refl
-join_all_of-root (b ∷ bs) h =
-    ap (λ c. join_all_of c (b ∷ bs)) (join_of_rooted [] (slash ∷ []) refl)
-    ∙ join_all_of-some (slash ∷ []) b bs h
+join_all_of-root (b ∷ bs) h = grind (arith, join_of_rooted, join_all_of-some)
 
 pub unslashed_bytes : (vs : List Value) → AllByRecursion IsUnslashedValue vs
     → AllUnslashed (map value_bytes vs)
@@ -80,8 +78,7 @@ pub spelling_of-unslashed : (vs : List Value) → AllByRecursion IsUnslashedValu
     → spelling_of vs ≡ slashed_bytes vs
 unfolding spelling_of
 spelling_of-unslashed [] h = refl
-spelling_of-unslashed (RootDir ∷ vs) h = absurd (h.0.no_root refl)
-spelling_of-unslashed (v ∷ vs) h = refl
+spelling_of-unslashed (v ∷ vs) h = grind arith
 
 -- the empty path, joined with the bytes of each component of s, one after the other, is the
 -- canonical form of s

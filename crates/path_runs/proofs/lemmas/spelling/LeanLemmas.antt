@@ -19,6 +19,7 @@ use Rattle.path_runs.proofs.lemmas.gaps.FirstGapLemmas.{first_slash, no_parts_af
 use Rattle.path_runs.proofs.lemmas.gaps.FirstGapLemmas.{slashed_parts-slash}
 use Rattle.path_runs.proofs.lemmas.gaps.GapSpellingLemmas.{slashed_bytes-cons}
 use Rattle.path_runs.proofs.lemmas.gaps.GapSpellingLemmas.{spelling_of-name, spelling_of-short}
+use Rattle.path_runs.proofs.lemmas.spelling.ReadBackLemmas.{values-spelling_of, spelling_of-same}
 
 -- u has the same bytes as s, or is shorter
 abbrev SameOrShorter : List ℕ → List ℕ → Type 0
@@ -72,9 +73,7 @@ each_piece-whole s =
 slashed_parts-lean : (s : List ℕ) → SameOrShorter (slashed_parts s) (slash ∷ s)
 unfolding slashed_parts
 slashed_parts-lean s =
-    subst (λ vs. SameOrShorter (slash_each vs) (slash ∷ s)) (sym (inner_values-pieces s))
-    (subst (SameOrShorter (slash_each (names_of (slice_split is_slash s)))) (each_piece-whole s)
-    (SameOrShorter-names (slice_split is_slash s)))
+    grind (arith, inner_values-pieces, each_piece-whole, SameOrShorter-names)
 
 SameOrShorter-length : (u s : List ℕ) → SameOrShorter u s → length u ≤ length s
 SameOrShorter-length u s (inl e) = omega (arith, ap length e)
@@ -83,8 +82,7 @@ SameOrShorter-length u s (inr h) = omega arith
 -- the components of s without a leading root or `.`, each after a slash, have at most one byte more
 -- than s
 pub slashed_parts-length : (s : List ℕ) → length (slashed_parts s) ≤ length s + 1
-slashed_parts-length s =
-    omega (arith, SameOrShorter-length (slashed_parts s) (slash ∷ s) (slashed_parts-lean s))
+slashed_parts-length s = grind (arith, SameOrShorter-length, slashed_parts-lean)
 
 -- the components of s without a leading root or `.`, with slashes between them, have at most as
 -- many bytes as s
@@ -134,9 +132,8 @@ spelling_of-lean (x ∷ s) = by_test (eqb x 47)
 pub spelling_of-shortest : (s t : List ℕ) → values t ≡ values s
     → (t ≡ spelling_of (values s)) ⊎ (length (spelling_of (values s)) < length t)
 spelling_of-shortest s t e =
-    by (subst (λ z. SameOrShorter (spelling_of z) t) e (spelling_of-lean t))
-  where
-    by : SameOrShorter (spelling_of (values s)) t
-        → (t ≡ spelling_of (values s)) ⊎ (length (spelling_of (values s)) < length t)
-    by (inl h) = inl (sym h)
-    by (inr h) = inr h
+    grind (arith, spelling_of-lean)
+
+pub ruleset canonical_form_cases = (values-spelling_of, spelling_of-shortest, spelling_of-same)
+
+pub ruleset canonical_is_short_cases = spelling_of-shortest

@@ -1,7 +1,7 @@
 -- The components of a path, computed from the pieces between its slashes, and predicates that hold
 -- of all components. A piece counts if it is neither empty nor `.`.
 use Rattle.std.proofs.Common.{◌≡◌, ℕ, ◌+◌, Bool, true, false, cond, eqb, List, [], ◌∷◌, ◌++◌}
-use Rattle.std.proofs.Common.{length, map, filter, refl, sym, ap, subst, ◌∙◌, eqb-true}
+use Rattle.std.proofs.Common.{length, map, filter, refl, sym, ap, subst, ◌∙◌, eqb-true, arith}
 use Rattle.std.specs.List.{AllByRecursion, slice_split, onto_first}
 use Rattle.std.specs.Str.{bytes_eq}
 use Rattle.std.proofs.lemmas.List.Splits.{slice_split-cons_yes, slice_split-cons_no}
@@ -9,7 +9,7 @@ use Rattle.unix_path.specs.Parts.{is_slash, slash, cur_dir, Part, Value, RootDir
 use Rattle.unix_path.specs.Parts.{parts_of_pieces, counts, value_of_piece, inner_parts, is_rooted}
 use Rattle.unix_path.specs.Parts.{values}
 use Rattle.unix_bytes.proofs.lemmas.lists.ListLemmas.{by_test}
-use Rattle.path_runs.proofs.lemmas.joins.LeadLemmas.{dot_first, lead_by, values-lead}
+use Rattle.path_runs.proofs.lemmas.joins.LeadLemmas.{dot_first, values-lead}
 use Rattle.unix_path.specs.CommonDir.{inner_values}
 
 -- the components of these pieces, leaving out empty pieces and `.`
@@ -30,36 +30,23 @@ filter-all (p ∷ ps) h = rw h.0 (ap (λ qs. p ∷ qs) (filter-all ps h.1))
 names_of-parts : (at : ℕ) (ps : List (List ℕ))
     → map (λ (p : Part). p.value) (parts_of_pieces at ps) ≡ names_of ps
 names_of-parts at [] = refl
-names_of-parts at (p ∷ ps) =
-    let next = names_of-parts (at + length p + 1) ps in
-    by_test (counts p) (λ e. rw e (ap (λ vs. value_of_piece p ∷ vs) next)) (λ e. rw e next)
+names_of-parts at (p ∷ ps) = grind (arith, names_of-parts (at + length p + 1) ps)
 
 pub inner_values-pieces : (s : List ℕ) → inner_values s ≡ names_of (slice_split is_slash s)
 unfolding inner_parts
 inner_values-pieces s = names_of-parts 0 (slice_split is_slash s)
 
--- the components of s are its leading root or `.`, if it has one, followed by the components of the
--- pieces of s that are neither empty nor `.`
-values-pieces : (s : List ℕ)
-    → values s ≡ lead_by (is_rooted s) (dot_first (slice_split is_slash s)) ++ names_of
-    (slice_split is_slash s)
-values-pieces s = values-lead s
-    ∙ ap (λ vs. lead_by (is_rooted s) (dot_first (slice_split is_slash s)) ++ vs)
-    (inner_values-pieces s)
-
 -- the components of a slash and then t are the root, followed by the components of the pieces of t
 -- that are neither empty nor `.`
 pub values-rooted : (t : List ℕ) → values (slash ∷ t) ≡ RootDir ∷ names_of (slice_split is_slash t)
-values-rooted t = values-pieces (slash ∷ t)
+values-rooted t = simp (values-lead, inner_values-pieces)
 
 -- if s has no root, and ps are its pieces, the components of s are a `.` if the first piece is `.`,
 -- followed by the components of the pieces that are neither empty nor `.`
 pub values-rootless : (s : List ℕ) (ps : List (List ℕ)) → is_rooted s ≡ false
     → slice_split is_slash s ≡ ps
     → values s ≡ cond (dot_first ps) (CurDir ∷ []) [] ++ names_of ps
-values-rootless s ps r e =
-    values-pieces s ∙ ap (λ ps. lead_by (is_rooted s) (dot_first ps) ++ names_of ps) e
-    ∙ ap (λ c. lead_by c (dot_first ps) ++ names_of ps) r
+values-rootless s ps r e = grind (arith, values-lead, inner_values-pieces)
 
 -- a rooted path is a slash and then a string t
 pub is_rooted-slash : (s : List ℕ) → is_rooted s ≡ true → (t : List ℕ) × (s ≡ slash ∷ t)
@@ -97,10 +84,7 @@ HoldsOfPieces P =
 names_of-hold : (P : Value → Type 0) → HoldsOfPieces P → (ps : List (List ℕ))
     → AllByRecursion NoSlash ps → AllByRecursion P (names_of ps)
 names_of-hold P of_piece [] h = tt
-names_of-hold P of_piece (p ∷ ps) h =
-    let more = names_of-hold P of_piece ps h.1 in
-    by_test (bytes_eq p []) (λ e. rw e more) (λ e. by_test (bytes_eq p cur_dir)
-    (λ f. rw (e, f) more) (λ f. rw (e, f) (of_piece p h.0 e f, more)))
+names_of-hold P of_piece (p ∷ ps) h = grind (arith, names_of-hold P of_piece ps h.1)
 
 -- if P holds of `.` and of the components vs, it holds of vs after an optional leading `.`
 lead-hold : (P : Value → Type 0) → P CurDir → (c : Bool) (vs : List Value)

@@ -1,7 +1,7 @@
 -- The canonical form of a path has the path's components. Here pieces are always joined by slashes,
 -- and a piece counts if it is neither empty nor `.`.
 use Rattle.std.proofs.Common.{◌≡◌, ℕ, Bool, true, false, cond, List, [], ◌∷◌, ◌++◌, map, filter}
-use Rattle.std.proofs.Common.{refl, sym, ap, subst, ◌∙◌}
+use Rattle.std.proofs.Common.{refl, sym, ap, ◌∙◌, arith}
 use Rattle.std.specs.List.{AllByRecursion, slice_split, join_with_byte}
 use Rattle.std.specs.Str.{bytes_eq}
 use Rattle.std.proofs.lemmas.List.Elements.{All-from_recursion}
@@ -22,8 +22,7 @@ use Rattle.path_runs.proofs.lemmas.spelling.SpellLemmas.{spelling_of-pieces, spe
 -- its slashes yields p and ps again
 slice_split-join_with_byte : (p : List ℕ) (ps : List (List ℕ)) → AllByRecursion NoSlash (p ∷ ps)
     → slice_split is_slash (join_with_byte slash (p ∷ ps)) ≡ p ∷ ps
-slice_split-join_with_byte p [] h =
-    slice_split_none is_slash p (All-from_recursion (λ b. is_slash b ≡ false) p h.0)
+slice_split-join_with_byte p [] h = grind (arith, slice_split_none, All-from_recursion)
 slice_split-join_with_byte p (q ∷ ps) h =
     slice_split_at is_slash p slash (join_with_byte slash (q ∷ ps))
     (All-from_recursion (λ b. is_slash b ≡ false) p h.0) refl
@@ -33,14 +32,11 @@ slice_split-join_with_byte p (q ∷ ps) h =
 filter-no_slash : (ps : List (List ℕ)) → AllByRecursion NoSlash ps
     → AllByRecursion NoSlash (filter counts ps)
 filter-no_slash [] h = tt
-filter-no_slash (p ∷ ps) h =
-    by_test (counts p) (λ e. rw e (h.0, filter-no_slash ps h.1))
-    (λ e. rw e (filter-no_slash ps h.1))
+filter-no_slash (p ∷ ps) h = grind (arith, filter-no_slash ps h.1)
 
 filter-counts : (ps : List (List ℕ)) → AllCount (filter counts ps)
 filter-counts [] = tt
-filter-counts (p ∷ ps) =
-    by_test (counts p) (λ e. rw e (e, filter-counts ps)) (λ e. rw e (filter-counts ps))
+filter-counts (p ∷ ps) = grind (arith, filter-counts ps)
 
 names_of-counts : (ps : List (List ℕ)) → AllCount ps → names_of ps ≡ map value_of_piece ps
 names_of-counts ps h = ap (map value_of_piece) (filter-all ps h)
@@ -50,8 +46,7 @@ names_of-counts ps h = ap (map value_of_piece) (filter-all ps h)
 pub names_of-join_with_byte : (ps : List (List ℕ)) → AllByRecursion NoSlash ps → AllCount ps
     → names_of (slice_split is_slash (join_with_byte slash ps)) ≡ map value_of_piece ps
 names_of-join_with_byte [] h k = refl
-names_of-join_with_byte (p ∷ ps) h k =
-    ap names_of (slice_split-join_with_byte p ps h) ∙ names_of-counts (p ∷ ps) k
+names_of-join_with_byte (p ∷ ps) h k = simp (slice_split-join_with_byte, names_of-counts)
 
 -- if the first piece begins with a byte x that isn't a slash, the pieces joined by slashes are a
 -- path without a root
@@ -61,8 +56,7 @@ is_rooted-join_with_byte x p [] h = h
 is_rooted-join_with_byte x p (q ∷ ps) h = h
 
 counts-no_dot : (x : ℕ) (p : List ℕ) → counts (x ∷ p) ≡ true → bytes_eq (x ∷ p) cur_dir ≡ false
-counts-no_dot x p e = by_test (bytes_eq (x ∷ p) cur_dir)
-    (λ d. absurd (let k : false ≡ true = rw d at e in cc)) (λ d. d)
+counts-no_dot x p e = grind arith
 
 -- the canonical form of a path with a root has the path's components
 values-spelling_rooted : (t : List ℕ)
@@ -116,11 +110,8 @@ values-spelling_rootless s r =
 
 -- the canonical form of a path has the path's components
 pub values-spelling_of : (s : List ℕ) → values (spelling_of (values s)) ≡ values s
-values-spelling_of s = by_test (is_rooted s)
-    (λ r. let t = is_rooted-slash s r in
-    subst (λ s. values (spelling_of (values s)) ≡ values s) (sym t.1)
-    (values-spelling_rooted t.0))
-    (values-spelling_rootless s)
+values-spelling_of s =
+    grind (arith, is_rooted-slash, values-spelling_rooted, values-spelling_rootless)
 
 -- if two paths have the same canonical form, they have the same components
 pub spelling_of-same : (s t : List ℕ) → spelling_of (values s) ≡ spelling_of (values t)

@@ -1,22 +1,16 @@
 -- The canonical form of components, with and without a root as the first of them.
-use Rattle.std.proofs.Common.{◌≡◌, ℕ, List, [], ◌∷◌, map, filter, refl, ap, ap₂, ◌∙◌}
+use Rattle.std.proofs.Common.{◌≡◌, ℕ, List, [], ◌∷◌, map, filter, refl, ap₂, rules}
 use Rattle.std.specs.List.{slice_split, join_with_byte}
 use Rattle.unix_path.specs.Parts.{is_slash, slash, Value, RootDir, CurDir, value_of_piece}
 use Rattle.unix_path.specs.Parts.{value_bytes, counts, values}
 use Rattle.unix_path.proofs.lemmas.parts.ValueLemmas.{value_bytes-piece, no_root_piece}
 use Rattle.path_runs.specs.Spelling.{slashed_bytes, spelling_of}
-use Rattle.path_runs.proofs.lemmas.spelling.PieceValueLemmas.{names_of, values-rooted}
+use Rattle.path_runs.proofs.lemmas.spelling.PieceValueLemmas.{values-rooted}
 
 -- the bytes of the component of each piece of ps are that piece
 pub bytes_of_pieces : (ps : List (List ℕ)) → map value_bytes (map value_of_piece ps) ≡ ps
 bytes_of_pieces [] = refl
 bytes_of_pieces (p ∷ ps) = ap₂ (λ q qs. q ∷ qs) (value_bytes-piece p) (bytes_of_pieces ps)
-
--- the components of the pieces ps, with slashes between them, are the pieces of ps that are neither
--- empty nor `.`, with slashes between them
-pub slashed_bytes-names : (ps : List (List ℕ))
-    → slashed_bytes (names_of ps) ≡ join_with_byte slash (filter counts ps)
-slashed_bytes-names ps = ap (join_with_byte slash) (bytes_of_pieces (filter counts ps))
 
 pub spelling_of-root : (vs : List Value) → spelling_of (RootDir ∷ vs) ≡ slash ∷ slashed_bytes vs
 unfolding spelling_of
@@ -41,9 +35,7 @@ spelling_of-nil = refl
 pub spelling_of-pieces : (ps : List (List ℕ))
     → spelling_of (map value_of_piece ps) ≡ join_with_byte slash ps
 spelling_of-pieces [] = spelling_of-nil
-spelling_of-pieces (p ∷ ps) =
-    spelling_of-cons (value_of_piece p) (map value_of_piece ps) (no_root_piece p)
-    ∙ ap (join_with_byte slash) (bytes_of_pieces (p ∷ ps))
+spelling_of-pieces (p ∷ ps) = search (rules, spelling_of-cons, no_root_piece, bytes_of_pieces)
 
 -- the canonical form of a slash and then t is a slash, followed by the pieces of t that are neither
 -- empty nor `.`, with slashes between them
@@ -52,5 +44,4 @@ pub spelling_of-rooted : (t : List ℕ)
     (filter counts (slice_split is_slash t))
 spelling_of-rooted t =
     let ps = slice_split is_slash t in
-    ap spelling_of (values-rooted t) ∙ spelling_of-root (names_of ps)
-    ∙ ap (λ r. slash ∷ r) (slashed_bytes-names ps)
+    simp (values-rooted, spelling_of-root, bytes_of_pieces)

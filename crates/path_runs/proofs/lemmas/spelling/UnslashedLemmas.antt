@@ -1,8 +1,8 @@
 -- The components of a path, except its root, neither begin nor end with a slash.
-use Rattle.std.proofs.Common.{◌≡◌, ℕ, true, false, List, [], ◌∷◌, refl}
+use Rattle.std.proofs.Common.{◌≡◌, ℕ, true, false, List, [], ◌∷◌, refl, arith}
 use Rattle.std.specs.List.{AllByRecursion}
 use Rattle.std.specs.Str.{bytes_eq}
-use Rattle.unix_path.specs.Parts.{parent_dir, Value, RootDir, value_of_piece, value_bytes}
+use Rattle.unix_path.specs.Parts.{Value, RootDir, value_bytes}
 use Rattle.unix_path.specs.Parts.{is_rooted, values}
 use Rattle.unix_path.specs.Joins.{needs_no_separator}
 use Rattle.unix_bytes.proofs.lemmas.lists.ListLemmas.{by_test}
@@ -30,14 +30,8 @@ pub record IsUnslashedValue (v : Value) : Type 0 where
   pub unslashed : IsUnslashed (value_bytes v)
   pub no_root : v ≡ RootDir → ⊥
 
-unslashed_value : (p : List ℕ) → IsUnslashed p → IsUnslashedValue (value_of_piece p)
-unslashed_value p h = by_test (bytes_eq p parent_dir)
-    (λ e. rw e
-    (record { unslashed = record { rootless = refl; closed = refl }; no_root = λ d. cc }))
-    (λ e. rw e (record { unslashed = h; no_root = λ d. cc }))
-
 unslashed_names : HoldsOfPieces IsUnslashedValue
-unslashed_names p h e f = unslashed_value p (unslashed_piece p h e)
+unslashed_names p h e f = grind (arith, unslashed_piece)
 
 -- the components vs are the root and then components that are unslashed and not the root, or they
 -- are only such components

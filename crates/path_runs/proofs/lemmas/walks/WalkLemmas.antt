@@ -1,6 +1,6 @@
 -- The components that a walk has taken after some of its turns, and the rest.
 use Rattle.std.proofs.Common.{◌≡◌, ℕ, ◌+◌, cond, length, List, [], ◌∷◌, ◌++◌, take, reverse, refl}
-use Rattle.std.proofs.Common.{ap, arith, length-append, Bool, not}
+use Rattle.std.proofs.Common.{arith, length-append, Bool, not}
 use Rattle.std.specs.List.{count_by}
 use Rattle.std.proofs.lemmas.List.{length-reverse}
 use Rattle.std.proofs.lemmas.List.Sums.{sum_by-cons}
@@ -43,13 +43,5 @@ pub length-remaining : {s : List ℕ} {ts : List Turn} {i : ℕ} {front behind :
     {remaining : List ℕ}
     → HasWalked s ts i front remaining behind
     → length (values remaining) + length (take (length (values s)) (take i ts)) ≡ length (values s)
-length-remaining {s} {ts} {i} {front} {behind} {remaining} h = omega (
-  arith,
-  ap length h.whole,
-  length-append (front ++ values remaining) (reverse behind),
-  length-append front (values remaining),
-  length-reverse behind,
-  h.fronts,
-  h.backs,
-  turns_total (take (length (values s)) (take i ts)),
-)
+length-remaining {s} {ts} {i} {front} {behind} {remaining} h =
+    grind (arith, length-append, length-reverse, turns_total)

@@ -1,12 +1,13 @@
 use Rattle.std.proofs.lemmas.Bool.{false≢true}
 use Rattle.std.proofs.lemmas.List.{map-append}
 use Rattle.unix_path.specs.Views.{value_of}
-use Rattle.unix_path.specs.Cursor.{cursor_values}
 use Rattle.path_runs.proofs.lemmas.walks.WalkStepLemmas.{HasWalked-front, HasWalked-back}
-use Rattle.path_runs.proofs.lemmas.walks.WalkStepLemmas.{none_after, none_before, none_of_empty}
+use Rattle.path_runs.proofs.lemmas.walks.WalkStepLemmas.{none_after, none_before}
 use Rattle.path_runs.proofs.walk.walk.Goals.{in-Front+in_ok-push_some-in-Front}
 use Rattle.path_runs.proofs.walk.walk.Goals.{in-Back+in_ok-push_some-in-Back}
 use Rattle.path_runs.proofs.walk.walk.Goals as goal
+use Rattle.std.proofs.Common.{arith}
+use Rattle.unix_path.proofs.lemmas.parts.PartLemmas.{rest-nil, values-nil}
 
 pub loop-turn-preserved : goal.loop-turn-preserved
 loop-turn-preserved c =
@@ -34,16 +35,10 @@ loop-turn-preserved c =
 
 pub returns-in_err-push_some-in-Front-clause-succeeds_empty :
     goal.returns-in_err-push_some-in-Front-clause-succeeds_empty
-returns-in_err-push_some-in-Front-clause-succeeds_empty c = λ empty.
-    let none = none_before value_of cursor_values c.loop-turn.remaining c.next.new.self
-    c.next.result
-    c.next.ensures.steps.item_is (none_of_empty c.loop-turn.invariant empty) in
-    absurd (false≢true (c.in_err-push_some-in-Front.ensures.succeeds none))
+returns-in_err-push_some-in-Front-clause-succeeds_empty c =
+    grind (arith, none_before, false≢true, rest-nil, values-nil)
 
 pub returns-in_err-push_some-in-Back-clause-succeeds_empty :
     goal.returns-in_err-push_some-in-Back-clause-succeeds_empty
-returns-in_err-push_some-in-Back-clause-succeeds_empty c = λ empty.
-    let none = none_after value_of cursor_values c.loop-turn.remaining c.next_back.new.self
-    c.next_back.result c.next_back.ensures.steps.item_is
-    (none_of_empty c.loop-turn.invariant empty) in
-    absurd (false≢true (c.in_err-push_some-in-Back.ensures.succeeds none))
+returns-in_err-push_some-in-Back-clause-succeeds_empty c =
+    grind (arith, none_after, false≢true, rest-nil, values-nil)

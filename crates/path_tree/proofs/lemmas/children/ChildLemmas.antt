@@ -1,8 +1,10 @@
 -- The children of a base, found in a walk that continues after the range of each child.
+use Rattle.std.proofs.Common.{arith}
 use Rattle.std.proofs.Common.{◌≡◌, ◌∙◌, ℕ, Bool, true, false, cond, eqb, List, [], ◌∷◌}
 use Rattle.std.proofs.Common.{Some, None, Option, Less, map}
 use Rattle.std.proofs.Common.{ap, refl, sym, is_le}
 use Rattle.std.proofs.lemmas.Cmp.{tied_itself}
+use Rattle.std.proofs.lemmas.Map.Keys.{sorted_head, sorted_tail}
 use Rattle.std.specs.Cmp.Lexicographic.{nat_list_cmp_total}
 use Rattle.std.specs.List.{AllByRecursion, dedup_from, filter, starts_with}
 use Rattle.std.specs.List.Sorted.{IsStrictlySortedBy}
@@ -15,10 +17,9 @@ use Rattle.path_tree.specs.Children.{child_entry, child_of, children_of, have_sa
 use Rattle.path_tree.specs.Rows.{Key, key_entries}
 use Rattle.path_tree.proofs.lemmas.keys.ChildKeyLemmas.{ChildKey}
 use Rattle.path_tree.proofs.lemmas.keys.IntervalLemmas.{interval, le_less}
-use Rattle.path_tree.proofs.lemmas.keys.RowLemmas.{keys_cmp}
-use Rattle.path_tree.proofs.lemmas.rows.EntryLemmas.{between-starts, items_of}
-use Rattle.path_tree.proofs.lemmas.rows.WalkLemmas.{all_from_first, filter_all, sorted_first}
-use Rattle.path_tree.proofs.lemmas.rows.WalkLemmas.{sorted_others}
+use Rattle.path_tree.proofs.lemmas.keys.RowLemmas.{items_of, keys_cmp}
+use Rattle.path_tree.proofs.lemmas.rows.EntryLemmas.{between-starts}
+use Rattle.path_tree.proofs.lemmas.rows.WalkLemmas.{all_from_first, filter_all}
 
 -- the key starts with the child that was found last, if one was found
 abbrev pub goes_on_in : List ℕ → Option (List ℕ) → List ℕ → Bool
@@ -77,9 +78,7 @@ module _ {V : Type 0} (base : List ℕ) where
 -- a key that starts with a child's key has that child
 pub child-begun : (base c key : List ℕ) → ChildKey base c → starts_with eqb key c ≡ true
     → child_of base key ≡ c
-child-begun base c key child starts =
-    let begins = (begins_told key c _ refl).0 starts in
-    ap (child_of base) (sym begins.1) ∙ child.child_is begins.0
+child-begun base c key child starts = grind (arith, begins_told)
 
 -- the key is not less than the end of a range, and so is after the range
 abbrev pub is_after : List ℕ → Key → Bool
@@ -108,7 +107,7 @@ module _ {V : Type 0} where
       same_child base c (e.0.items, e.1) (child-begun base c e.0.items child starts)
       (key_entries es)
       ∙ pass_child base c end child ends es
-      (sorted_others (keys_cmp items_of) e es sorted) from.1
+      (sorted_tail (keys_cmp items_of) e.0 _ sorted) from.1
       ∙ ap (λ b. fresh base (Some c) (key_entries
       (cond b (e ∷ filter (λ e. is_after end e.0) es) (filter (λ e. is_after end e.0) es))))
       (sym other))
@@ -132,4 +131,4 @@ module _ {V : Type 0} where
   unfolding fresh
   none_more base e es sorted less other last =
       rw other (none_under base e.0 (ap is_le less) other es
-      (sorted_first (keys_cmp items_of) e es sorted) last)
+      (sorted_head (keys_cmp items_of) e.0 _ sorted) last)

@@ -1,11 +1,18 @@
 -- The walk that finds the children of a base: how far it has come, and each of its steps.
-use Rattle.std.proofs.Common.{◌≡◌, ◌∙◌, ◌&&◌, ◌<◌, ℕ, Bool, true, false, cond, List, []}
+use Rattle.std.proofs.Common.{◌≡◌, ◌∙◌, ◌&&◌, ◌<◌, ℕ, Bool, true, false, List, []}
 use Rattle.std.proofs.Common.{◌∷◌, ◌++◌, Some, None, Option, Ordering, Less, Equal, Greater, IfSome}
 use Rattle.std.proofs.Common.{ap, append_assoc, append-nil, arith, eqb, is_le, length}
 use Rattle.std.proofs.Common.{length-append}
 use Rattle.std.proofs.Common.{⊎_elim, ap₂, not, refl, subst, subst₂, sym}
 use Rattle.std.proofs.lemmas.Bool.Decides.{nat_tests}
-use Rattle.std.proofs.lemmas.Cmp.{nat_list_cmp_total, tied_itself}
+use Rattle.std.proofs.Math.Bool.{and-true}
+use Rattle.std.proofs.lemmas.Cmp.{nat_cmp_total, nat_list_cmp_total, tied_itself}
+use Rattle.std.proofs.lemmas.List.Elements.{filter_agree}
+use Rattle.std.proofs.lemmas.List.Sums.{count_by-le-length, length-filter}
+use Rattle.std.proofs.lemmas.Map.Keys.{sorted_head}
+use Rattle.std.proofs.lemmas.Map.Lookups.{exact_bytes}
+use Rattle.std.proofs.lemmas.Map.Views.{tells_apart}
+use Rattle.std.specs.Cmp.{nat_cmp_is}
 use Rattle.std.proofs.lemmas.Bool.{cases_order}
 use Rattle.std.proofs.lemmas.List.{same_from_push}
 use Rattle.std.specs.FinMap.{nat_cmp-IsAntisymmetric, slice_cmp-IsAntisymmetric}
@@ -28,20 +35,19 @@ use Rattle.path_tree.proofs.lemmas.children.ChildLemmas.{new_child, none_more, p
 use Rattle.path_tree.proofs.lemmas.children.ChildLemmas.{stays_after}
 use Rattle.path_tree.proofs.lemmas.keys.ChildKeyLemmas.{ChildKey}
 use Rattle.path_tree.proofs.lemmas.keys.IntervalLemmas.{le_less}
-use Rattle.path_tree.proofs.lemmas.keys.RowLemmas.{AllOwn, Own, all_own, keys_cmp}
+use Rattle.path_tree.proofs.lemmas.keys.RowLemmas.{AllOwn, Own, all_own, items_of, keys_cmp}
 use Rattle.path_tree.proofs.lemmas.rows.DifferenceLemmas.{some_append}
-use Rattle.path_tree.proofs.lemmas.rows.EntryLemmas.{between-starts, items_of}
+use Rattle.path_tree.proofs.lemmas.rows.EntryLemmas.{between-starts}
 use Rattle.path_tree.proofs.lemmas.rows.SortedLemmas.{sorted-more}
-use Rattle.path_tree.proofs.lemmas.rows.WalkLemmas.{all_kept, all_rest, and-true, filter-suffix}
-use Rattle.path_tree.proofs.lemmas.rows.WalkLemmas.{filter_alike}
-use Rattle.path_tree.proofs.lemmas.rows.WalkLemmas.{kept_pass, length-filter_le, sorted_first}
+use Rattle.path_tree.proofs.lemmas.rows.SortedWalkLemmas.{less_is}
+use Rattle.path_tree.proofs.lemmas.rows.WalkLemmas.{all_kept, all_more, all_rest, filter-suffix}
+use Rattle.path_tree.proofs.lemmas.rows.WalkLemmas.{kept_pass}
 use Rattle.path_tree.proofs.lemmas.rows.WalkLemmas.{sorted_rest, suffix-filter}
 
 -- what a test of bytes shows, for equal bytes
-pub begins_by : (key base k b : List ℕ) (t : Bool) → t ≡ starts_with eqb key base → key ≡ k
+pub begins_by : {key base k b : List ℕ} {t : Bool} → t ≡ starts_with eqb key base → key ≡ k
     → base ≡ b → t ≡ true → IsPrefixOf b k
-begins_by key base k b t is same alike holds =
-    subst₂ IsPrefixOf alike same ((begins_told key base t is).0 holds)
+begins_by is same alike holds = subst₂ IsPrefixOf alike same ((begins_told _ _ _ is).0 holds)
 
 -- a key that starts with base and is longer is greater than base
 below_less : (base x : List ℕ) → is_below base x ≡ true → bytes_cmp base x ≡ Less
@@ -61,18 +67,6 @@ below_less base x below = by_test (starts_with eqb x base)
         absurd (grind (arith, nat_tests))
     by Greater is le more = absurd (let e = le in cc)
 
--- the comparison of a lesser number
-less_is : (a b : ℕ) → a < b → nat_cmp a b ≡ Less
-less_is a b h = grind (arith, nat_tests)
-
--- the comparison of a greater number
-greater_is : (a b : ℕ) → b < a → nat_cmp a b ≡ Greater
-greater_is a b h = grind (arith, nat_tests)
-
--- the comparison of a number with itself
-equal_is : (a : ℕ) → nat_cmp a a ≡ Equal
-equal_is a = grind (arith, nat_tests)
-
 -- bytes that are not greater than others are less than each prefix of those, if neither the bytes
 -- begin the others nor the prefix begins the bytes
 less_than_prefix : (l c e : List ℕ) → is_le (bytes_cmp l e) ≡ true → (IsPrefixOf l e → ⊥)
@@ -84,13 +78,13 @@ less_than_prefix (x ∷ l) (y ∷ c) e le apart h out =
     subst (λ k. is_le (bytes_cmp (x ∷ l) k) ≡ true) (sym h.1) le in
     ⊎_elim
     (λ same.
-    let there : nat_cmp x y ≡ Equal = ap (nat_cmp x) (sym same) ∙ equal_is x in
+    let there : nat_cmp x y ≡ Equal = ap (nat_cmp x) (sym same) ∙ tied_itself nat_cmp_total x in
     rw there (less_than_prefix l c (c ++ h.0) (rw there at by)
     (λ b. apart (b.0, ap₂ (λ z zs. z ∷ zs) same b.1 ∙ h.1)) (h.0, refl)
     (λ b. out (b.0, ap₂ (λ z zs. z ∷ zs) (sym same) b.1))))
     (λ other. ⊎_elim
-    (λ less. rw (less_is x y less) refl)
-    (λ more. absurd (let d = rw (greater_is x y more) at by in cc)) other)
+    (λ less. rw (← nat_cmp_is x y Less less) refl)
+    (λ more. absurd (let d = rw (← nat_cmp_is x y Greater more) at by in cc)) other)
     (cases_order x y)
 
 -- a child whose key begins another child's key is that child
@@ -103,9 +97,7 @@ same_child_key base c f child other begins =
 all_from : (c k : List ℕ) → is_le (bytes_cmp c k) ≡ true → (ls : List Key)
     → AllByRecursion (λ l. bytes_cmp k l.items ≡ Less) ls
     → AllByRecursion (λ l. is_le (bytes_cmp c l.items) ≡ true) ls
-all_from c k from [] less = tt
-all_from c k from (l ∷ ls) less =
-    (ap is_le (le_less c k l.items from less.0), all_from c k from ls less.1)
+all_from c k from = all_more _ _ (λ l less. ap is_le (le_less c k l.items from less))
 
 -- these children were found, and `rest` has the others
 pub record FindsChildren {V : Type 0} (base : List ℕ) (entries : List (Key × V))
@@ -124,11 +116,13 @@ pub record FindsChildren {V : Type 0} (base : List ℕ) (entries : List (Key × 
   pub answer : found ++ fresh base last (key_entries rest) ≡ children_of base (key_entries entries)
 
 -- an entry of a tree has the key of a path
-pub rest_own : {V : Type 0} (entries : List (Key × V)) → Own items_of entries
-    → (before : List (Key × V)) (e : Key × V) (es : List (Key × V)) → entries ≡ before ++ e ∷ es
-    → is_own e.0.items ≡ true
-rest_own entries all before e es is = (all_rest (λ k. is_own k.items ≡ true) before (e ∷ es)
-    (subst (AllOwn items_of) is (all_own items_of entries all))).0
+pub rest_own : {V : Type 0} {base : List ℕ} {entries left : List (Key × V)}
+    {last : Option (List ℕ)} {found : List (List ℕ × Option V)} → Own items_of entries
+    → FindsChildren base entries last left found → (e : Key × V) (es : List (Key × V))
+    → left ≡ e ∷ es → is_own e.0.items ≡ true
+rest_own {V} {base} {entries} all h e es steps =
+    (all_rest (λ k. is_own k.items ≡ true) h.before (e ∷ es) (subst (AllOwn items_of)
+    (h.suffix ∙ ap (λ l. h.before ++ l) steps) (all_own items_of entries all))).0
 
 module _ {V : Type 0} (base : List ℕ) where
   -- entries that aren't below base have no children
@@ -164,12 +158,7 @@ module _ {V : Type 0} (base : List ℕ) where
 
     -- what the test shows
     above_is : (k : Key) → is_above k ≡ true → bytes_cmp base k.items ≡ Less
-    above_is k = of (bytes_cmp base k.items)
-      where
-        of : (o : Ordering) → is_lt o ≡ true → o ≡ Less
-        of Less e = refl
-        of Equal e = absurd (let d = e in cc)
-        of Greater e = absurd (let d = e in cc)
+    above_is k = less_is (bytes_cmp base k.items)
 
     -- no entries are sorted
     none_sorted : IsStrictlySortedBy bytes_cmp (keys_of {K = List ℕ} {X = Option V} [])
@@ -182,7 +171,7 @@ module _ {V : Type 0} (base : List ℕ) where
         → FindsChildren base entries None rest []
     starts rest is =
         let whole : rest ≡ filter (λ e. is_above e.0) entries =
-        is ∙ filter_alike (λ k. is_above k && true) is_above (λ k. and-true (is_above k)) entries in
+        is ∙ filter_agree _ (λ e. is_above e.0) (λ e. and-true (is_above e.0)) entries in
         let cut = suffix-filter (keys_cmp items_of) is_above
         (λ k l above less. ap is_lt
         (nat_list_cmp_total.trans base k.items l.items (above_is k above) less))
@@ -204,16 +193,20 @@ module _ {V : Type 0} (base : List ℕ) where
         }
 
     -- if an entry is of the child that was found last, the rest of the child's range is passed over
-    module _ (c end : List ℕ) (e : Key × V) (es : List (Key × V))
-        (found : List (List ℕ × Option V))
-        (h : FindsChildren base entries (Some c) (e ∷ es) found)
+    module _ {last : Option (List ℕ)} {left : List (Key × V)} {found : List (List ℕ × Option V)}
+        (was : FindsChildren base entries last left found) (c end : List ℕ)
+        (last_is : last ≡ Some c)
+        (e : Key × V) (es : List (Key × V)) (steps : left ≡ e ∷ es)
         (in_child : IsPrefixOf c e.0.items) (ends : end_of c ≡ Some end) (rest : List (Key × V))
         (is : rest ≡ filter (λ e. is_le (bytes_cmp end e.0.items) && true) entries) where
+      -- what was found before the entry
+      h : FindsChildren base entries (Some c) (e ∷ es) found
+      h = subst₂ (λ last left. FindsChildren base entries last left found) last_is steps was
+
       -- the entries after the range are those that pass the test
       after_is : rest ≡ filter (λ e. is_after end e.0) entries
       after_is = is
-          ∙ filter_alike (λ k. is_after end k && true) (is_after end)
-          (λ k. and-true (is_after end k)) entries
+          ∙ filter_agree _ (λ e. is_after end e.0) (λ e. and-true (is_after end e.0)) entries
 
       -- the entry is not after the range
       not_after : is_after end e.0 ≡ false
@@ -234,36 +227,32 @@ module _ {V : Type 0} (base : List ℕ) where
           not_after
 
       -- fewer entries remain
-      pub passed_fewer : length rest < length (e ∷ es)
-      passed_fewer =
-          let fewer = length-filter_le (is_after end) es in
-          let same : rest ≡ filter (λ e. is_after end e.0) es =
-          after_rest ∙ ap (λ b. cond b (e ∷ filter (λ e. is_after end e.0) es)
-          (filter (λ e. is_after end e.0) es)) not_after in
-          omega (arith, ap length same, fewer)
+      pub passed_fewer : length rest < length left
+      passed_fewer = grind (arith, after_rest, not_after, length-filter, count_by-le-length)
 
       -- the walk may go on after the range
-      pub passes : FindsChildren base entries (Some c) rest found
-      passes =
+      goes_on : FindsChildren base entries (Some c) rest found
+      goes_on =
           let up = rest_sorted h.before (e ∷ es) h.suffix in
           let cut = suffix-filter (keys_cmp items_of) (is_after end) (stays_after end) entries
           sorted in
           let from = ((begins-lies_under c e.0.items).0 in_child).0 in
-          let less = sorted_first (keys_cmp items_of) e es up in
+          let less = sorted_head (keys_cmp items_of) e.0 _ up in
           record {
             before = cut.0;
             suffix = cut.1 ∙ ap (λ l. cut.0 ++ l) (sym after_is);
             above = subst (λ l. AllByRecursion (λ k. bytes_cmp base k.items ≡ Less) (keys_of l))
                 (sym after_rest)
-                (all_kept (is_after end) (λ k. bytes_cmp base k.items ≡ Less) (e ∷ es) h.above);
+                (all_kept (λ e. e.0) (λ e. is_after end e.0) (λ k. bytes_cmp base k.items ≡ Less)
+                (e ∷ es) h.above);
             last_is = h.last_is;
             some_found = h.some_found;
             sorted = h.sorted;
             last_found = h.last_found;
             from_last = subst (λ l. AllByRecursion (λ k. is_le (bytes_cmp c k.items) ≡ true)
                 (keys_of l)) (sym after_rest)
-                (all_kept (is_after end) (λ k. is_le (bytes_cmp c k.items) ≡ true)
-                (e ∷ es) h.from_last);
+                (all_kept (λ e. e.0) (λ e. is_after end e.0)
+                (λ k. is_le (bytes_cmp c k.items) ≡ true) (e ∷ es) h.from_last);
             answer = ap (λ l. found ++ fresh base (Some c) (key_entries l)) after_rest
                 ∙ ap (λ l. found ++ l)
                 (sym (pass_child base c end h.last_is ends (e ∷ es) up
@@ -271,20 +260,23 @@ module _ {V : Type 0} (base : List ℕ) where
                 ∙ h.answer;
           }
 
+      -- the same, with the child as it was found last
+      pub passes : FindsChildren base entries last rest found
+      passes = subst (λ last. FindsChildren base entries last rest found) (sym last_is) goes_on
+
     -- all children were found if the first key of the rest doesn't start with base
-    pub found_all : (last : Option (List ℕ)) (e : Key × V) (es : List (Key × V))
-        (found : List (List ℕ × Option V)) → FindsChildren base entries last (e ∷ es) found
+    pub found_all : {last : Option (List ℕ)} {left : List (Key × V)}
+        {found : List (List ℕ × Option V)} → FindsChildren base entries last left found
+        → (e : Key × V) (es : List (Key × V)) → left ≡ e ∷ es
         → starts_with eqb e.0.items base ≡ false → found ≡ children_of base (key_entries entries)
-    found_all last e es found h other =
-        let none = none_more base e es (rest_sorted h.before (e ∷ es) h.suffix) h.above.0 other last
-        in
-        sym (append-nil found) ∙ ap (λ l. found ++ l) (sym none) ∙ h.answer
+    found_all {last} {left} {found} was e es steps other =
+        grind (arith, none_more, rest_sorted, append-nil)
 
     -- a child that was found last is one of the children
-    pub not_none_found : (last : Option (List ℕ)) (c : List ℕ) (rest : List (Key × V))
-        (found : List (List ℕ × Option V)) → FindsChildren base entries last rest found
-        → last ≡ Some c → children_of base (key_entries entries) ≡ [] → ⊥
-    not_none_found last c rest found h is none =
+    pub not_none_found : {last : Option (List ℕ)} {rest : List (Key × V)}
+        {found : List (List ℕ × Option V)} → FindsChildren base entries last rest found
+        → (c : List ℕ) → last ≡ Some c → children_of base (key_entries entries) ≡ [] → ⊥
+    not_none_found {last} {rest} {found} h c is none =
         let some : 0 < length found = subst (λ o. IfSome o (λ _. 0 < length found)) is
         h.some_found in
         let more = fresh base last (key_entries rest) in
@@ -292,15 +284,20 @@ module _ {V : Type 0} (base : List ℕ) where
         omega (arith, empty, length-append found more, some)
 
     -- at the end all children were found
-    pub found_at_end : (last : Option (List ℕ)) (found : List (List ℕ × Option V))
-        → FindsChildren base entries last [] found → found ≡ children_of base (key_entries entries)
+    pub found_at_end : {last : Option (List ℕ)} {rest : List (Key × V)}
+        {found : List (List ℕ × Option V)} → FindsChildren base entries last rest found → rest ≡ []
+        → found ≡ children_of base (key_entries entries)
     unfolding fresh
-    found_at_end last found h = sym (append-nil found) ∙ h.answer
+    found_at_end {last} {rest} {found} h none = sym (append-nil found)
+        ∙ ap (λ l. found ++ fresh base last (key_entries l)) (sym none) ∙ h.answer
 
-    module _ (last : Option (List ℕ)) (e : Key × V) (es : List (Key × V))
-        (found : List (List ℕ × Option V))
-        (h : FindsChildren base entries last (e ∷ es) found)
-        (begins : IsPrefixOf base e.0.items) where
+    module _ {last : Option (List ℕ)} {left : List (Key × V)} {found : List (List ℕ × Option V)}
+        (was : FindsChildren base entries last left found) (e : Key × V) (es : List (Key × V))
+        (steps : left ≡ e ∷ es) (begins : IsPrefixOf base e.0.items) where
+      -- what was found before the entry
+      so_far : FindsChildren base entries last (e ∷ es) found
+      so_far = subst (λ l. FindsChildren base entries last l found) steps was
+
       -- an entry that begins with base is longer
       pub longer : length base < length e.0.items
       longer = by begins.0 begins.1
@@ -308,17 +305,14 @@ module _ {V : Type 0} (base : List ℕ) where
           by : (x : List ℕ) → base ++ x ≡ e.0.items → length base < length e.0.items
           by [] same =
               let tied : bytes_cmp base base ≡ Less =
-              ap (bytes_cmp base) (sym (append-nil base) ∙ same) ∙ h.above.0 in
+              ap (bytes_cmp base) (sym (append-nil base) ∙ same) ∙ so_far.above.0 in
               absurd (let d = sym tied ∙ tied_itself nat_list_cmp_total base in cc)
           by (b ∷ x) same =
               omega (arith, ap length same, length-append base (b ∷ x))
 
       -- so it is below base
       below : is_below base e.0.items ≡ true
-      below =
-          let more : nat_lt (length base) (length e.0.items) ≡ true =
-          grind (arith, nat_tests, longer) in
-          rw ((begins_told e.0.items base _ refl).1 begins, more) refl
+      below = grind (arith, longer, begins_told)
 
       module _ (child : ChildKey base (child_of base e.0.items))
           (in_entry : IsPrefixOf (child_of base e.0.items) e.0.items)
@@ -333,26 +327,14 @@ module _ {V : Type 0} (base : List ℕ) where
             by (Some c) fails = by_test (is_eq (bytes_cmp c (child_of base e.0.items)))
                 (λ same. absurd (let d = sym fails
                 ∙ (begins_told e.0.items c _ refl).1 (subst (λ k. IsPrefixOf k e.0.items)
-                (sym (tied c (child_of base e.0.items) same)) in_entry) in cc))
+                (sym (tells_apart exact_bytes c (child_of base e.0.items) same)) in_entry) in cc))
                 (λ differs. differs)
-              where
-                tied : (c d : List ℕ) → is_eq (bytes_cmp c d) ≡ true → c ≡ d
-                tied c d same =
-                    slice_cmp-IsAntisymmetric nat_cmp-IsAntisymmetric c d
-                    (of (bytes_cmp c d) same)
-                  where
-                    of : (o : Ordering) → is_eq o ≡ true → o ≡ Equal
-                    of Less e = absurd (let d = e in cc)
-                    of Equal e = refl
-                    of Greater e = absurd (let d = e in cc)
 
         -- so its child is one more
         one_more : found ++ child_entry base (e.0.items, e.1)
             ∷ fresh base (Some (child_of base e.0.items)) (key_entries es)
             ≡ children_of base (key_entries entries)
-        one_more =
-            ap (λ l. found ++ l)
-            (sym (new_child base last (e.0.items, e.1) below other (key_entries es))) ∙ h.answer
+        one_more = grind (arith, new_child, below, other, so_far)
 
         -- and there are children
         pub not_none : children_of base (key_entries entries) ≡ [] → ⊥
@@ -364,9 +346,9 @@ module _ {V : Type 0} (base : List ℕ) where
             let c = child_of base e.0.items in
             let at : (P : List ℕ → Type 0) → IfSome last P → P f =
             λ P holds. subst (λ o. IfSome o P) is holds in
-            let other : ChildKey base f = at (ChildKey base) h.last_is in
+            let other : ChildKey base f = at (ChildKey base) so_far.last_is in
             let from = (at (λ l. AllByRecursion (λ (k : Key). is_le (bytes_cmp l k.items) ≡ true)
-            (keys_of (e ∷ es))) h.from_last).0 in
+            (keys_of (e ∷ es))) so_far.from_last).0 in
             let told = begins_told e.0.items f (starts_with eqb e.0.items f) refl in
             let apart : IsPrefixOf f e.0.items → ⊥ = λ inside.
             let d = sym (at (λ l. starts_with eqb e.0.items l ≡ false) fails) ∙ told.1 inside in cc
@@ -383,19 +365,19 @@ module _ {V : Type 0} (base : List ℕ) where
             let c = child_of base e.0.items in
             let entry : List ℕ × Option V = child_entry base (e.0.items, e.1) in
             record {
-              before = h.before ++ e ∷ [];
-              suffix = h.suffix ∙ sym (append_assoc h.before (e ∷ []) es);
-              above = h.above.1;
+              before = so_far.before ++ e ∷ [];
+              suffix = so_far.suffix ∙ sym (append_assoc so_far.before (e ∷ []) es);
+              above = so_far.above.1;
               last_is = child;
               some_found = omega (arith, ap length new_is, length-append found (entry ∷ []));
               sorted = subst (λ l. IsStrictlySortedBy bytes_cmp (keys_of l)) (sym new_is)
-                  (sorted-more bytes_cmp nat_list_cmp_total c entry.1 found h.sorted
-                  (λ front f is. less_last f.0 (h.last_found front f is)));
+                  (sorted-more bytes_cmp nat_list_cmp_total c entry.1 found so_far.sorted
+                  (λ front f is. less_last f.0 (so_far.last_found front f is)));
               last_found = λ front f at.
                   ap (λ p. Some p.0) (same_from_push found front entry f (sym new_is ∙ at)).1;
               from_last = all_from c e.0.items ((begins-lies_under c e.0.items).0 in_entry).0
-                  (keys_of es) (sorted_first (keys_cmp items_of) e es
-                  (rest_sorted h.before (e ∷ es) h.suffix));
+                  (keys_of es) (sorted_head (keys_cmp items_of) e.0 _
+                  (rest_sorted so_far.before (e ∷ es) so_far.suffix));
               answer = ap (λ l. l ++ fresh base (Some c) (key_entries es)) new_is
                   ∙ append_assoc found (entry ∷ []) (fresh base (Some c) (key_entries es))
                   ∙ one_more;

@@ -1,13 +1,13 @@
 -- A key that is longer than a base that it starts with: its prefix with one code more than the base
 -- is a key too.
-use Rattle.std.proofs.Common.{◌≡◌, ◌≢◌, ◌∙◌, ◌≤◌, ◌<◌, ◌+◌, ℕ, Bool, true, false, List, [], ◌∷◌}
-use Rattle.std.proofs.Common.{◌++◌, ap, ap₂, arith, append_assoc, append-nil, drop, eqb, eqb-true}
+use Rattle.std.proofs.Common.{◌==◌, if◌then◌else◌, ◌&&◌, ne_eqb}
+use Rattle.std.proofs.Common.{◌≡◌, ◌∙◌, ◌≤◌, ◌<◌, ◌+◌, ℕ, Bool, true, false, List, [], ◌∷◌}
+use Rattle.std.proofs.Common.{◌++◌, ap, ap₂, arith, append_assoc, append-nil, drop}
 use Rattle.std.proofs.Common.{length}
 use Rattle.std.proofs.Common.{length-append, length-drop, map, refl, subst, sym, take, take_at}
 use Rattle.std.proofs.Math.Seq.{take-add}
-use Rattle.std.proofs.lemmas.Bool.{eqb-false}
-use Rattle.std.proofs.lemmas.List.{drop_at, length-map}
-use Rattle.unix_bytes.proofs.lemmas.lists.ListLemmas.{by_test}
+use Rattle.std.proofs.lemmas.Bool.{cond-false}
+use Rattle.std.proofs.lemmas.List.{drop_at}
 use Rattle.std.specs.List.{position_or_len}
 use Rattle.unix_path.specs.Parts.{Value, RootDir, CurDir, ParentDir, Normal, values}
 use Rattle.unix_path.specs.Prefixes.{IsPrefixOf}
@@ -15,8 +15,9 @@ use Rattle.path_runs.specs.Spelling.{spelling_of}
 use Rattle.path_keys.specs.Codes.{AllFit, Fits}
 use Rattle.path_keys.specs.Keys.{code, key_of, raised, IsKey}
 use Rattle.path_keys.proofs.lemmas.values.CodeLemmas.{code-length}
-use Rattle.path_keys.proofs.lemmas.reading.FitLemmas.{values-fit, values-spelled}
-use Rattle.path_keys.proofs.lemmas.values.KeyLemmas.{key_of-append, key_of-cons, key_of-nil}
+use Rattle.path_keys.proofs.lemmas.reading.FitLemmas.{AllFit-after, starts, values-fit}
+use Rattle.path_keys.proofs.lemmas.reading.FitLemmas.{values-spelled}
+use Rattle.path_keys.proofs.lemmas.values.KeyLemmas.{key_of-append, key_of-one}
 use Rattle.path_keys.proofs.lemmas.values.LoweredLemmas.{first_zero, is_zero, raised-NoZero}
 use Rattle.path_tree.specs.Children.{child_of, first_code_len}
 use Rattle.path_tree.specs.Read.{is_own, key_values}
@@ -24,41 +25,6 @@ use Rattle.path_tree.proofs.lemmas.keys.ReadLemmas.{key_values-values, own-is, o
 use Rattle.path_tree.proofs.lemmas.keys.ReadLemmas.{own-values}
 use Rattle.path_tree.proofs.lemmas.keys.UnderLemmas.{values_begin}
 use Rattle.path_keys.proofs.lemmas.values.OrderLemmas.{begins-key_of}
-
--- if `place` is the index of the first 0 in the code of the name `b ∷ n` and the bytes `rest` after
--- it, `place` is the length of the name, and the code is one byte longer than the name
-first_zero-name : (b : ℕ) (n rest : List ℕ) → Fits false (Normal (b ∷ n)) → (place : ℕ)
-    → place ≡ position_or_len is_zero (code (Normal (b ∷ n)) ++ rest)
-    → (length (code (Normal (b ∷ n))) ≡ length (b ∷ n) + 1) × (place ≡ length (b ∷ n))
-first_zero-name b n rest h place is =
-    let name = map raised (b ∷ n) in
-    let long : length name ≡ length (b ∷ n) = length-map (b ∷ n) raised in (
-      omega (arith, length-append name (0 ∷ []), long),
-      is ∙ ap (position_or_len is_zero) (append_assoc name (0 ∷ []) rest)
-          ∙ first_zero name rest (raised-NoZero (b ∷ n) h.no_slash) ∙ long,
-    )
-
--- if the code of v begins with 0, it has two bytes
-pub mark_long : (first : Bool) (v : Value) (rest : List ℕ) → Fits first v → (place : ℕ)
-    → place ≡ position_or_len is_zero (code v ++ rest) → place ≡ 0 → 2 ≡ length (code v)
-mark_long first RootDir rest h place is none = refl
-mark_long first CurDir rest h place is none = refl
-mark_long first ParentDir rest h place is none = refl
-mark_long first (Normal []) rest h place is none = absurd (let e = h.some in cc)
-mark_long first (Normal (b ∷ n)) rest h place is none =
-    absurd (omega (arith, (first_zero-name b n rest h place is).1))
-
--- if the first 0 in the code of v and the bytes `rest` after it is at index `place`, which isn't 0,
--- the code has `place + 1` bytes
-pub name_long : (first : Bool) (v : Value) (rest : List ℕ) → Fits first v → (place : ℕ)
-    → place ≡ position_or_len is_zero (code v ++ rest) → place ≢ 0
-    → place + 1 ≡ length (code v)
-name_long first RootDir rest h place is some = absurd (some is)
-name_long first CurDir rest h place is some = absurd (some is)
-name_long first ParentDir rest h place is some = absurd (some is)
-name_long first (Normal []) rest h place is some = absurd (let e = h.some in cc)
-name_long first (Normal (b ∷ n)) rest h place is some =
-    let both = first_zero-name b n rest h place is in omega (arith, both.0, both.1)
 
 -- if `key` is the key of a path, it is the key of the components that it represents
 pub key_of-own : (key : List ℕ) → is_own key ≡ true → key ≡ key_of (key_values key)
@@ -78,13 +44,6 @@ pub own-fit : (vs : List Value) → AllFit true vs → is_own (key_of vs) ≡ tr
 own-fit vs h =
     subst (λ us. is_own (key_of us) ≡ true) (values-spelled vs h) (own-key_of (spelling_of vs))
 
--- if us, v and ws, one after the other, may be components of a path, so may v by itself, as a first
--- component or as a later one
-fits-at : (first : Bool) (us : List Value) (v : Value) (ws : List Value)
-    → AllFit first (us ++ v ∷ ws) → (at : Bool) × Fits at v
-fits-at first [] v ws h = (first, h.0)
-fits-at first (u ∷ us) v ws h = fits-at false us v ws h.1
-
 -- if us, v and ws, one after the other, may be components of a path, so may us and v
 fit-front : (first : Bool) (us : List Value) (v : Value) (ws : List Value)
     → AllFit first (us ++ v ∷ ws) → AllFit first (us ++ v ∷ [])
@@ -94,11 +53,17 @@ fit-front first (u ∷ us) v ws h = (h.0, fit-front false us v ws h.1)
 -- if bytes begin with the code of v, their first code is as long as the code of v
 first_code_len-code : (first : Bool) (v : Value) (rest : List ℕ) → Fits first v
     → first_code_len (code v ++ rest) ≡ length (code v)
-first_code_len-code first v rest h =
-    let n = position_or_len is_zero (code v ++ rest) in
-    by_test (eqb n 0)
-    (λ e. rw e (mark_long first v rest h n refl (eqb-true n 0 e)))
-    (λ e. rw e (name_long first v rest h n refl (eqb-false n 0 e)))
+first_code_len-code first RootDir rest h = refl
+first_code_len-code first CurDir rest h = refl
+first_code_len-code first ParentDir rest h = refl
+first_code_len-code first (Normal []) rest h = absurd (let e = h.some in cc)
+first_code_len-code first (Normal (b ∷ n)) rest h =
+    let name = map raised (b ∷ n) in
+    ap (λ n. if n == 0 then 2 else n + 1) (ap (position_or_len is_zero)
+    (append_assoc name (0 ∷ []) rest)
+    ∙ first_zero name rest (raised-NoZero (b ∷ n) h.no_slash))
+    ∙ cond-false _ 2 _ (ne_eqb (length name) 0 (λ e. omega arith))
+    ∙ sym (length-append name (0 ∷ []))
 
 -- if the bytes of `key` after its first `length base` bytes begin with the code of v, the child of
 -- `base` for `key` is `base` and then the code of v
@@ -141,21 +106,19 @@ module _ (base key : List ℕ) (own : is_own key ≡ true) (base_own : is_own ba
       let bs = key_values base in
       let front : key_of (bs ++ v ∷ []) ≡ base ++ code v =
       key_of-append bs (v ∷ [])
-      ∙ ap (λ k. key_of bs ++ k) (key_of-cons v [] ∙ ap (λ k. code v ++ k) key_of-nil
-      ∙ append-nil (code v))
+      ∙ ap (λ k. key_of bs ++ k) (key_of-one v)
       ∙ ap (λ k. k ++ code v) (sym (key_of-own base base_own)) in
       let split : key_values key ≡ (bs ++ v ∷ []) ++ ws =
       sym is ∙ sym (append_assoc bs (v ∷ []) ws) in
       let whole : key ≡ key_of (bs ++ v ∷ []) ++ key_of ws =
       key_of-own key own ∙ ap key_of split ∙ key_of-append (bs ++ v ∷ []) ws in
       let fit : AllFit true (bs ++ v ∷ ws) = subst (AllFit true) (sym is) (fit-own key own) in
-      let at = fits-at true bs v ws fit in
       record {
         v = v;
         more = ws;
         is = split;
-        at = at.0;
-        fits = at.1;
+        at = starts bs && true;
+        fits = (AllFit-after true bs (v ∷ ws) fit).0;
         fit = fit-front true bs v ws fit;
         codes = ap (drop (length base)) (whole ∙ ap (λ k. k ++ key_of ws) front
             ∙ append_assoc base (code v) (key_of ws))
@@ -175,9 +138,7 @@ module _ (base key : List ℕ) (own : is_own key ≡ true) (base_own : is_own ba
 
   -- `key` starts with the child of `base` for `key`
   pub child_begins : IsPrefixOf (child_of base key) key
-  child_begins =
-      let h = goes_on in
-      (key_of h.more, ap (λ c. c ++ key_of h.more) (child_code ∙ sym h.front) ∙ sym h.key_is)
+  child_begins = grind (arith, goes_on, child_code)
 
   -- the child of `base` for `key` is itself the key of a path, and is the child of `base` for each
   -- key that starts with it
@@ -219,23 +180,13 @@ module _ (base key : List ℕ) (own : is_own key ≡ true) (base_own : is_own ba
   -- the length of the first code after it in `key`
   pub child_of-take : take (length base + first_code_len (drop (length base) key)) key
       ≡ child_of base key
-  child_of-take =
-      let n = first_code_len (drop (length base) key) in
-      take-add (length base) n key
-      ∙ ap (λ b. b ++ take n (drop (length base) key))
-      (ap (take (length base)) (sym begins.1) ∙ take_at base begins.0 (length base) refl)
+  child_of-take = grind (arith, take-add, take_at)
 
   -- the child of `base` for `key` is the key of the first components that `key` represents: as many
   -- as `base` represents, and one more
   pub child_of-own : child_of base key
       ≡ key_of (take (length (key_values base) + 1) (key_values key))
-  child_of-own =
-      let h = goes_on in
-      let n = length (key_values base) + 1 in
-      child_code ∙ sym h.front
-      ∙ ap key_of (sym (take_at (key_values base ++ h.v ∷ []) h.more n
-      (length-append (key_values base) (h.v ∷ []))))
-      ∙ ap (λ us. key_of (take n us)) (sym h.is)
+  child_of-own = grind (arith, goes_on, child_code, take_at, length-append)
 
 -- if the path s starts with the path `base` and has more components, the child of the key of `base`
 -- for the key of s is the key of the first components of s: as many as `base` has, and one more

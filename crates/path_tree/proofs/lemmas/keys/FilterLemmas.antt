@@ -1,19 +1,19 @@
 -- The bits of a Bloom filter: the bit that an insertion sets, the bits that stay set, and a key
 -- whose bit isn't set.
+use Rattle.std.proofs.lemmas.Grind.{common_steps}
 use Rattle.std.proofs.Common.{◌≡◌, ◌∙◌, ℕ, ◌*◌, ◌/◌, ◌%◌, ◌^◌, ◌<◌, ◌≤◌, Bool, true, false, cond}
-use Rattle.std.proofs.Common.{List, [], ◌∷◌, None, Less, Equal, Greater, Some, ap, arith}
+use Rattle.std.proofs.Common.{List, [], ◌∷◌, None, ap, arith}
 use Rattle.std.proofs.Common.{bit_and, bit_or, eq-eqb, eqb, eqb-true, get_or, le-ltb, length, ltb}
-use Rattle.std.proofs.Common.{refl, set, subst, sym, ⊎_elim}
+use Rattle.std.proofs.Common.{refl, set, subst, sym}
 use Rattle.std.proofs.lemmas.Bool.{cases_eq}
 use Rattle.std.proofs.lemmas.List.{get_or-set_other, get_or-set_same, length-set}
-use Rattle.std.proofs.lemmas.List.Elements.{All-cons, recursion_from_All}
+use Rattle.std.proofs.lemmas.List.Elements.{All-cons, All-head, All-tail}
 use Rattle.std.proofs.lemmas.Map.Lookups.{exact_bytes}
+use Rattle.std.proofs.lemmas.Map.Views.{tells_apart}
 use Rattle.std.proofs.lemmas.Nat.{le_or_l, one_shl, or_comm, or_lt, or_mod, or_shr, shl-shr}
 use Rattle.std.proofs.Math.Nat.{one-mul}
-use Rattle.std.specs.List.{AllByRecursion}
+use Rattle.unix_bytes.proofs.lemmas.lists.ListLemmas.{by_test}
 use Rattle.std.specs.Map.{keys_of, lookup}
-use Rattle.std.specs.Ordering.{is_eq}
-use Rattle.path_keys.specs.Ranges.{bytes_cmp}
 use Rattle.path_tree.specs.Hashed.{has_bit}
 use Rattle.path_tree.proofs.lemmas.keys.PassLemmas.{AllKeys}
 use Rattle.path_tree.proofs.lemmas.keys.RowLemmas.{is_it}
@@ -32,11 +32,7 @@ digit-below a k = let n = a / 2 ^ k in omega arith
 
 -- if x is 1, and y is less than 2, the bitwise or of x and y is 1
 or-one : (x y : ℕ) → x ≡ 1 → y < 2 → bit_or x y ≡ 1
-or-one x y is below =
-    let low = le_or_l x y in
-    let fits : x < 2 ^ 1 = omega arith in
-    let high = or_lt 1 x y fits below in
-    omega (arith, low, high)
+or-one x y is below = grind (arith, common_steps, le_or_l, or_lt)
 
 -- if bit k of a is set, bit k of the bitwise or of a and b is set
 digit-or_left : (a b k : ℕ) → digit a k ≡ 1 → digit (bit_or a b) k ≡ 1
@@ -82,17 +78,7 @@ module _ (mask : ℕ) (words : List ℕ) (hash : ℕ) (there : bit_and hash mask
   -- each bit of the words that was set is still set after the bit of `hash` is set
   stays : (place k : ℕ) → digit (get_or words place 0) k ≡ 1
       → digit (get_or (words_with mask words hash) place 0) k ≡ 1
-  stays place k is =
-      let slot = bit_and hash mask in
-      let word = get_or words slot 0 in
-      let new_word = word_with word hash in
-      ⊎_elim
-      (λ (same : place ≡ slot).
-      ap (λ p. digit (get_or (set words slot new_word) p 0) k) same
-      ∙ ap (λ w. digit w k) (get_or-set_same words slot new_word 0 there)
-      ∙ digit-or_left word _ k (ap (λ p. digit (get_or words p 0) k) (sym same) ∙ is))
-      (λ other. ap (λ w. digit w k) (get_or-set_other words slot place new_word 0 other) ∙ is)
-      (cases_eq place slot)
+  stays place k is = grind (arith, get_or-set_same, digit-or_left, get_or-set_other, cases_eq)
 
   -- if the words have the bit of `other`, they still have it after the bit of `hash` is set
   pub has_bit-kept : (other : ℕ) → has_bit mask words other ≡ true
@@ -123,34 +109,23 @@ has_bit-outside mask hash words out =
 
 -- if there are no words, the bit of each hash counts as set
 pub has_bit-none : (mask hash : ℕ) (words : List ℕ) → words ≡ [] → has_bit mask words hash ≡ true
-has_bit-none mask hash words none =
-    has_bit-outside mask hash words
-    (subst (λ l. length l ≤ bit_and hash mask) (sym none) (omega arith))
+has_bit-none mask hash words none = grind (arith, has_bit-outside)
 
 -- a key that fails a test
 module _ {K V : Type 0} (bytes_of : K → List ℕ) (test : List ℕ → Bool) (key : List ℕ)
     (fails : test key ≡ false) where
-  -- the same as `lookup-filtered`, with the test stated by recursion on the entries
-  lookup-fails : (entries : List (K × V))
-      → AllByRecursion (λ k. test (bytes_of k) ≡ true) (keys_of entries)
-      → lookup (is_it bytes_of key) entries ≡ None
-  lookup-fails [] all = refl
-  lookup-fails (e ∷ entries) all =
-      let found = lookup (is_it bytes_of key) entries in
-      let rest = lookup-fails entries all.1 in
-      elim (bytes_cmp key (bytes_of e.0)) as (λ o. bytes_cmp key (bytes_of e.0) ≡ o
-      → cond (is_eq o) (Some e.1) found ≡ None) [
-        | Less ↦ λ _. rest
-        | Equal ↦ λ same. absurd (let clash : false ≡ true =
-            sym fails ∙ ap test (exact_bytes key (bytes_of e.0) same) ∙ all.0 in cc)
-        | Greater ↦ λ _. rest
-      ] refl
-
   -- if `key` fails a test that all keys of the entries pass, looking up `key` finds nothing
   pub lookup-filtered : (entries : List (K × V)) → AllKeys bytes_of test entries
       → lookup (is_it bytes_of key) entries ≡ None
-  lookup-filtered entries all =
-      lookup-fails entries (recursion_from_All (λ k. test (bytes_of k) ≡ true) _ all)
+  lookup-filtered [] all = refl
+  lookup-filtered (e ∷ entries) all =
+      let P : K → Type 0 = λ k. test (bytes_of k) ≡ true in
+      by_test (is_it bytes_of key e.0)
+      (λ same.
+      let exact = tells_apart exact_bytes key (bytes_of e.0) same in
+      let clash : false ≡ true = sym fails ∙ ap test exact ∙ All-head P e.0 _ all in
+      absurd (cc))
+      (λ other. rw other (lookup-filtered entries (All-tail P e.0 (keys_of entries) all)))
 
 -- the filter `has` has the keys of all entries before the rest `remaining`: each filter that has
 -- all keys of `has` and the keys of `remaining` has the keys of all entries

@@ -9,11 +9,10 @@ use Rattle.unix_path.specs.Parts.{Value, values}
 use Rattle.unix_path.specs.Prefixes.{IsPrefixOf, stripped_of}
 use Rattle.unix_path.specs.Rest.{rest}
 use Rattle.unix_path.proofs.lemmas.rests.RestLemmas.{rest-rest}
-use Rattle.path_runs.specs.Spelling.{spelling_of}
 use Rattle.path_runs.proofs.lemmas.spelling.ReadBackLemmas.{values-spelling_of}
 use Rattle.path_runs.specs.Rows.{value_at}
 use Rattle.path_keys.specs.Keys.{code, key_of}
-use Rattle.path_keys.proofs.lemmas.values.KeyLemmas.{key_of-append, key_of-cons, key_of-nil}
+use Rattle.path_keys.proofs.lemmas.values.KeyLemmas.{key_of-append, key_of-one}
 use Rattle.path_tree.specs.Nearest.{IsNearest}
 use Rattle.path_tree.specs.Read.{is_own, key_values}
 use Rattle.path_tree.proofs.lemmas.keys.ReadLemmas.{own-is}
@@ -21,9 +20,7 @@ use Rattle.path_tree.proofs.lemmas.keys.ReadLemmas.{own-is}
 -- if `key` is the key of a path and represents the components of s, it is the key of s
 pub key-is : (key s : List ℕ) → is_own key ≡ true → key_values key ≡ values s
     → key ≡ key_of (values s)
-key-is key s own is =
-    sym (own-is key own) ∙ ap (λ v. key_of (values (spelling_of v))) is
-    ∙ ap key_of (values-spelling_of s)
+key-is key s own is = grind (arith, own-is, values-spelling_of)
 
 -- if u and v are prefixes of the list w and have the same length, they are the same
 same_prefix : {A : Type 0} (u v w : List A) → IsPrefixOf u w → IsPrefixOf v w → length u ≡ length v
@@ -75,10 +72,7 @@ module _ {V : Type 0} (s key : List ℕ) (rows : List (List Value × V)) where
   -- bytes of `key` are the key of `new` and then the code of v
   key_cut : (end : ℕ) (prefix new : List ℕ) (v : Value) → GoesUp end prefix
       → values prefix ≡ values new ++ v ∷ [] → take end key ≡ key_of (values new) ++ code v
-  key_cut end prefix new v h is =
-      h.key_is ∙ ap key_of is ∙ key_of-append (values new) (v ∷ [])
-      ∙ ap (λ k. key_of (values new) ++ k)
-      (key_of-cons v [] ∙ ap (λ k. code v ++ k) key_of-nil ∙ append-nil (code v))
+  key_cut end prefix new v h is = grind (arith, key_of-append, key_of-one)
 
   -- if v is the last component of `prefix`, and `new` has the components before v, `end` is the
   -- length of the key of `new` plus the length of the code of v
@@ -146,8 +140,4 @@ module _ {V : Type 0} (s key : List ℕ) (rows : List (List Value × V)) where
   pub none_nearer : (end : ℕ) (prefix : List ℕ) → GoesUp end prefix
       → value_at (values prefix) rows ≡ None → values prefix ≡ []
       → (v : List Value) → IsPrefixOf v (values s) → value_at v rows ≡ None
-  none_nearer end prefix h none empty v begins =
-      is_none (value_at v rows) (λ some.
-      let long : length v ≡ 0 = omega (arith, h.longest v some begins, ap length empty) in
-      none_some (value_at v rows)
-      (ap (λ w. value_at w rows) (nil_from_length v long ∙ sym empty) ∙ none) some)
+  none_nearer end prefix h none empty v begins = grind (arith, is_none, none_some, nil_from_length)

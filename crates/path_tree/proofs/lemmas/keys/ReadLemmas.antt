@@ -1,6 +1,7 @@
 -- A key represents the components of each path that has it.
+use Rattle.std.proofs.Common.{arith}
 use Rattle.std.proofs.Common.{◌≡◌, ℕ, Bool, true, false, List, [], ◌∷◌, ◌++◌, map, Some}
-use Rattle.std.proofs.Common.{refl, sym, ap, ap₂, ◌∙◌, subst, append_assoc, append-nil}
+use Rattle.std.proofs.Common.{refl, sym, ap, ◌∙◌, subst, append_assoc, append-nil}
 use Rattle.std.proofs.lemmas.Slice.Eq.{bytes_eq-Decides}
 use Rattle.std.proofs.Math.Logic.{∥∥₁_elim}
 use Rattle.std.proofs.Props.{props}
@@ -60,11 +61,7 @@ key_values-values s = key_values-key_of true (values s) (values-fit s)
 
 -- the key of a path passes the test `is_own`
 pub own-key_of : (s : List ℕ) → is_own (key_of (values s)) ≡ true
-own-key_of s =
-    let key = key_of (values s) in
-    (bytes_eq-Decides (key_of (values (spelling_of (key_values key)))) key).1
-    (ap (λ vs. key_of (values (spelling_of vs))) (key_values-values s)
-    ∙ ap key_of (values-spelling_of s))
+own-key_of s = grind (arith, bytes_eq-Decides, key_values-values, values-spelling_of)
 
 -- if `key` passes the test `is_own`, it is the key of the canonical form of the components that it
 -- represents
@@ -82,12 +79,7 @@ own-values key own =
 -- if k and l are keys of paths, they are in the order of the components that they represent
 pub bytes_cmp-own : (k l : List ℕ) → is_own k ≡ true → is_own l ≡ true
     → bytes_cmp k l ≡ values_cmp (key_values k) (key_values l)
-bytes_cmp-own k l own other =
-    let s = spelling_of (key_values k) in
-    let t = spelling_of (key_values l) in
-    ap₂ bytes_cmp (sym (own-is k own)) (sym (own-is l other))
-    ∙ bytes_cmp-keys (values s) (values t) (values-coded s) (values-coded t)
-    ∙ ap₂ values_cmp (own-values k own) (own-values l other)
+bytes_cmp-own k l own other = grind (arith, own-is, bytes_cmp-keys, values-coded, own-values)
 
 -- `key` is the key of a path and represents the components v
 pub record Represents (key : List ℕ) (v : List Value) : Type 0 where

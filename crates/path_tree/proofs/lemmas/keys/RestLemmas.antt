@@ -20,7 +20,7 @@ use Rattle.unix_path.proofs.lemmas.rests.SourceLemmas.{IsTail-from, IsTail-trans
 use Rattle.unix_path.specs.Parts.{values}
 use Rattle.unix_path.specs.Prefixes.{IsPrefixOf, stripped_of}
 use Rattle.unix_path.specs.Rest.{rest}
-use Rattle.unix_path.specs.Scan.{is_trailing, EndsInPart}
+use Rattle.unix_path.specs.Scan.{EndsInPart}
 use Rattle.unix_path.specs.Slices.{IsTail}
 use Rattle.unix_path.specs.Steps.{is_piece_start, piece_rank, AfterFiller, IsCommonPrefixLen}
 
@@ -40,12 +40,7 @@ begins-rest s m =
 -- last byte of b is a dot, then no piece of s begins at this dot
 dot_inside : (s b : List ℕ) → IsCommonPrefixLen s b (length b) → EndsInPart b → 1 < length b
     → get_or s (length b - 1) 0 ≡ 46 → is_piece_start s (length b - 1) ≡ false
-dot_inside s b alike ends some dot =
-    let i = length b - 1 in
-    let here = common_prefix_len-same s b i (omega (arith, alike, some)) in
-    let before = common_prefix_len-same s b (i - 1) (omega (arith, alike, some)) in
-    let inside : is_trailing b i ≡ false = ends (omega arith) in
-    grind (arith, here, before, inside)
+dot_inside s b alike ends some dot = grind (arith, common_prefix_len-same)
 
 -- if b is a prefix of s, byte by byte and component by component, is not empty, and ends where its
 -- last component ends, a piece of s ends or begins after b
@@ -115,12 +110,8 @@ tail_of_rest part from whole n short tail bytes block place =
 
 -- the rest after b is the same for s and for s without its trailing filler
 pub stripped-trimmed : (s b : List ℕ) → stripped_of (rest s 0 0) b ≡ stripped_of s b
-stripped-trimmed s b =
-    let k = length (values b) in
-    rest-rest s 0 0 k 0 ∙ ap (λ i. rest s i (0 + 0)) {x = 0 + k} {y = k} (omega arith)
+stripped-trimmed s b = grind (arith, rest-rest)
 
 -- s without its last m components is the same bytes if the trailing filler of s is removed first
 pub prefix-trimmed : (s : List ℕ) (m : ℕ) → rest (rest s 0 0) 0 m ≡ rest s 0 m
-prefix-trimmed s m =
-    rest-rest s 0 0 0 m ∙ ap (λ i. rest s i (0 + m)) {x = 0 + 0} {y = 0} (omega arith)
-    ∙ ap (rest s 0) {x = 0 + m} {y = m} (omega arith)
+prefix-trimmed s m = grind (arith, rest-rest)

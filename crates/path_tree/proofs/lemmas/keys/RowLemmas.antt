@@ -1,17 +1,23 @@
 -- The rows of a tree: the components that its keys represent, with the values. What a key finds,
 -- removes, inserts or writes in the tree, its components find, remove, insert or write in the rows.
-use Rattle.std.proofs.Common.{◌≡◌, ℕ, Bool, true, false, cond, List, [], ◌∷◌, map, Some, refl, ap}
-use Rattle.std.proofs.Common.{Ordering, Less, Equal, Greater, ◌∙◌}
-use Rattle.std.proofs.lemmas.List.Elements.{recursion_from_All}
+use Rattle.std.proofs.Common.{◌≡◌, ℕ, Bool, true, cond, List, [], ◌∷◌, map, Some, refl, ap}
+use Rattle.std.proofs.Common.{Ordering, Less, Equal, Greater, ◌∙◌, ap₂, sym}
+use Rattle.std.proofs.lemmas.List.Elements.{All-head, All-tail, recursion_from_All}
 use Rattle.std.specs.BTreeMap.{insert_entry, is_at}
 use Rattle.std.specs.List.{AllByRecursion, AllPass}
 use Rattle.std.specs.Map.{keys_of, lookup, remove_entry, set_value}
 use Rattle.std.specs.Ordering.{is_eq, match_ordering}
+use Rattle.unix_bytes.proofs.lemmas.lists.ListLemmas.{by_test}
 use Rattle.unix_path.specs.Order.{values_cmp}
 use Rattle.unix_path.specs.Parts.{Value}
 use Rattle.path_keys.specs.Ranges.{bytes_cmp}
 use Rattle.path_tree.specs.Read.{is_own, key_values}
+use Rattle.path_tree.specs.Rows.{Key}
 use Rattle.path_tree.proofs.lemmas.keys.ReadLemmas.{Represents, bytes_cmp-represents}
+
+-- the bytes of a key
+abbrev pub items_of : Key → List ℕ
+items_of k = k.items
 
 module _ {K : Type 0} (bytes_of : K → List ℕ) where
   -- true if the tree's key k has the bytes `key`
@@ -40,6 +46,16 @@ module _ {K V : Type 0} (bytes_of : K → List ℕ) where
   all_own entries own =
       recursion_from_All (λ k. is_own (bytes_of k) ≡ true) (keys_of entries) own
 
+module _ {K V : Type 0} (bytes_of : K → List ℕ) (e : K × V) (entries : List (K × V))
+    (own : Own bytes_of (e ∷ entries)) where
+  -- the first key is the key of a path
+  pub own_first : is_own (bytes_of e.0) ≡ true
+  own_first = All-head (λ k. is_own (bytes_of k) ≡ true) e.0 (keys_of entries) own
+
+  -- all keys after the first one are keys of paths
+  pub own_others : Own bytes_of entries
+  own_others = All-tail (λ k. is_own (bytes_of k) ≡ true) e.0 (keys_of entries) own
+
 module _ {K : Type 0} (bytes_of : K → List ℕ) (key : List ℕ) (v : List Value)
     (represents : Represents key v) where
   -- if `key` represents v, and k is the key of a path, k has the bytes `key` if and only if k
@@ -50,100 +66,67 @@ module _ {K : Type 0} (bytes_of : K → List ℕ) (key : List ℕ) (v : List Val
 
 module _ {K V : Type 0} (bytes_of : K → List ℕ) (key : List ℕ) (v : List Value)
     (represents : Represents key v) where
-  -- the same as `lookup-rows_by`, with `AllOwn` instead of `Own`, by recursion on the entries
-  lookup-all_own : (entries : List (K × V)) → AllOwn bytes_of entries
-      → lookup (is_it bytes_of key) entries
-      ≡ lookup (is_at (values_cmp v)) (rows_by bytes_of entries)
-  lookup-all_own [] all = refl
-  lookup-all_own (e ∷ entries) all =
-      ap (λ b. cond b (Some e.1) (lookup (is_it bytes_of key) entries))
-      (is_it-is_at bytes_of key v represents e.0 all.0)
-      ∙ ap (λ r. cond (is_at (values_cmp v) (key_values (bytes_of e.0))) (Some e.1) r)
-      (lookup-all_own entries all.1)
-
   -- if `key` represents v, and all keys of the entries are keys of paths, looking up `key` in the
   -- entries finds the same as looking up v in their rows
   pub lookup-rows_by : (entries : List (K × V)) → Own bytes_of entries
       → lookup (is_it bytes_of key) entries
       ≡ lookup (is_at (values_cmp v)) (rows_by bytes_of entries)
-  lookup-rows_by entries all = lookup-all_own entries (all_own bytes_of entries all)
-
-  -- the same as `remove-rows_by`, with `AllOwn` instead of `Own`, by recursion on the entries
-  remove-all_own : (entries : List (K × V)) → AllOwn bytes_of entries
-      → rows_by bytes_of (remove_entry (is_it bytes_of key) entries)
-      ≡ remove_entry (is_at (values_cmp v)) (rows_by bytes_of entries)
-  remove-all_own [] all = refl
-  remove-all_own (e ∷ entries) all =
-      let row : List Value × V = (key_values (bytes_of e.0), e.1) in
-      let removed = remove_entry (is_it bytes_of key) entries in
-      let rows = rows_by bytes_of entries in
-      ap (λ b. rows_by bytes_of (cond b entries (e ∷ removed)))
-      (is_it-is_at bytes_of key v represents e.0 all.0)
-      ∙ elim (is_at (values_cmp v) row.0) as (λ b.
-      rows_by bytes_of (cond b entries (e ∷ removed))
-      ≡ cond b rows (row ∷ remove_entry (is_at (values_cmp v)) rows)) [
-        | true ↦ refl
-        | false ↦ ap (λ rows. row ∷ rows) (remove-all_own entries all.1)
-      ]
+  lookup-rows_by [] all = refl
+  lookup-rows_by (e ∷ entries) all =
+      ap₂ (λ b r. cond b (Some e.1) r)
+      (is_it-is_at bytes_of key v represents e.0 (own_first bytes_of e entries all))
+      (lookup-rows_by entries (own_others bytes_of e entries all))
 
   -- if `key` represents v, and all keys of the entries are keys of paths, removing `key` from the
   -- entries removes v from their rows
   pub remove-rows_by : (entries : List (K × V)) → Own bytes_of entries
       → rows_by bytes_of (remove_entry (is_it bytes_of key) entries)
       ≡ remove_entry (is_at (values_cmp v)) (rows_by bytes_of entries)
-  remove-rows_by entries all = remove-all_own entries (all_own bytes_of entries all)
-
-  -- the same as `set_value-rows_by`, with `AllOwn` instead of `Own`, by recursion on the entries
-  set_value-all_own : (entries : List (K × V)) (x : V) → AllOwn bytes_of entries
-      → rows_by bytes_of (set_value (is_it bytes_of key) entries x)
-      ≡ set_value (is_at (values_cmp v)) (rows_by bytes_of entries) x
-  set_value-all_own [] x all = refl
-  set_value-all_own (e ∷ entries) x all =
-      let row : List Value × V = (key_values (bytes_of e.0), e.1) in
-      let put = set_value (is_it bytes_of key) entries x in
-      let rows = rows_by bytes_of entries in
-      ap (λ b. rows_by bytes_of (cond b ((e.0, x) ∷ entries) (e ∷ put)))
-      (is_it-is_at bytes_of key v represents e.0 all.0)
-      ∙ elim (is_at (values_cmp v) row.0) as (λ b.
-      rows_by bytes_of (cond b ((e.0, x) ∷ entries) (e ∷ put))
-      ≡ cond b ((row.0, x) ∷ rows) (row ∷ set_value (is_at (values_cmp v)) rows x)) [
-        | true ↦ refl
-        | false ↦ ap (λ rows. row ∷ rows) (set_value-all_own entries x all.1)
-      ]
+  remove-rows_by [] all = refl
+  remove-rows_by (e ∷ entries) all =
+      let same = is_it-is_at bytes_of key v represents e.0 (own_first bytes_of e entries all) in
+      let rest = remove-rows_by entries (own_others bytes_of e entries all) in
+      by_test (is_it bytes_of key e.0)
+      (λ is. rw (is, sym same ∙ is) refl)
+      (λ other. rw (other, sym same ∙ other)
+      (ap (λ rows. (key_values (bytes_of e.0), e.1) ∷ rows) rest))
 
   -- if `key` represents v, and all keys of the entries are keys of paths, writing the value x at
   -- `key` in the entries writes it at v in their rows
   pub set_value-rows_by : (entries : List (K × V)) (x : V) → Own bytes_of entries
       → rows_by bytes_of (set_value (is_it bytes_of key) entries x)
       ≡ set_value (is_at (values_cmp v)) (rows_by bytes_of entries) x
-  set_value-rows_by entries x all = set_value-all_own entries x (all_own bytes_of entries all)
+  set_value-rows_by [] x all = refl
+  set_value-rows_by (e ∷ entries) x all =
+      let same = is_it-is_at bytes_of key v represents e.0 (own_first bytes_of e entries all) in
+      let rest = set_value-rows_by entries x (own_others bytes_of e entries all) in
+      by_test (is_it bytes_of key e.0)
+      (λ is. rw (is, sym same ∙ is) refl)
+      (λ other. rw (other, sym same ∙ other)
+      (ap (λ rows. (key_values (bytes_of e.0), e.1) ∷ rows) rest))
 
 module _ {K V : Type 0} (bytes_of : K → List ℕ) (key : K) (v : List Value)
     (represents : Represents (bytes_of key) v) where
-  -- the same as `insert-rows_by`, with `AllOwn` instead of `Own`, by recursion on the entries
-  insert-all_own : (entries : List (K × V)) (x : V) → AllOwn bytes_of entries
+  -- if `key` represents v, and all keys of the entries are keys of paths, inserting x at `key` into
+  -- the entries inserts it at v into their rows
+  pub insert-rows_by : (entries : List (K × V)) (x : V) → Own bytes_of entries
       → rows_by bytes_of (insert_entry (keys_cmp bytes_of) entries key x)
       ≡ insert_entry values_cmp (rows_by bytes_of entries) v x
-  insert-all_own [] x all = ap (λ w. (w, x) ∷ []) represents.is
-  insert-all_own (e ∷ entries) x all =
+  insert-rows_by [] x all = ap (λ w. (w, x) ∷ []) represents.is
+  insert-rows_by (e ∷ entries) x all =
       let row : List Value × V = (key_values (bytes_of e.0), e.1) in
       let put = insert_entry (keys_cmp bytes_of) entries key x in
       let rows = rows_by bytes_of entries in
       ap (λ o. rows_by bytes_of
       (match_ordering o ((key, x) ∷ e ∷ entries) ((e.0, x) ∷ entries) (e ∷ put)))
-      (bytes_cmp-represents (bytes_of key) v represents (bytes_of e.0) all.0)
+      (bytes_cmp-represents (bytes_of key) v represents (bytes_of e.0)
+      (own_first bytes_of e entries all))
       ∙ elim (values_cmp v row.0) as (λ o.
       rows_by bytes_of (match_ordering o ((key, x) ∷ e ∷ entries) ((e.0, x) ∷ entries) (e ∷ put))
       ≡ match_ordering o ((v, x) ∷ row ∷ rows) ((row.0, x) ∷ rows)
       (row ∷ insert_entry values_cmp rows v x)) [
         | Less ↦ ap (λ w. (w, x) ∷ row ∷ rows) represents.is
         | Equal ↦ refl
-        | Greater ↦ ap (λ rows. row ∷ rows) (insert-all_own entries x all.1)
+        | Greater ↦ ap (λ rows. row ∷ rows)
+            (insert-rows_by entries x (own_others bytes_of e entries all))
       ]
-
-  -- if `key` represents v, and all keys of the entries are keys of paths, inserting x at `key` into
-  -- the entries inserts it at v into their rows
-  pub insert-rows_by : (entries : List (K × V)) (x : V) → Own bytes_of entries
-      → rows_by bytes_of (insert_entry (keys_cmp bytes_of) entries key x)
-      ≡ insert_entry values_cmp (rows_by bytes_of entries) v x
-  insert-rows_by entries x all = insert-all_own entries x (all_own bytes_of entries all)

@@ -1,16 +1,18 @@
 -- The entries that two trees have with different values: their keys are sorted, and one more entry
 -- is one of them only if its two values differ.
-use Rattle.std.proofs.Common.{◌≡◌, ◌∙◌, ℕ, Bool, true, false, cond, List, [], ◌∷◌, None}
-use Rattle.std.proofs.Common.{Some, Less, ap, map, not, refl}
+use Rattle.std.proofs.Common.{arith}
+use Rattle.std.proofs.Common.{◌≡◌, ℕ, Bool, true, false, cond, List, [], ◌∷◌, None}
+use Rattle.std.proofs.Common.{Some, Less, ap, map, not, sym}
 use Rattle.std.specs.Borrow.{Bor}
 use Rattle.std.specs.List.{AllByRecursion, cons_option, filter}
 use Rattle.std.specs.List.Sorted.{IsStrictlySortedBy}
 use Rattle.std.specs.Map.{keys_of}
 use Rattle.std.specs.Option.{option_map}
-use Rattle.unix_bytes.proofs.lemmas.lists.ListLemmas.{by_test}
+use Rattle.std.proofs.lemmas.Simd.{map-map}
 use Rattle.path_keys.specs.Ranges.{bytes_cmp}
 use Rattle.path_tree.specs.Changed.{borrowed_both, entries_changed, entries_in_both}
 use Rattle.path_tree.specs.Rows.{entry_at}
+use Rattle.path_tree.proofs.lemmas.rows.WalkLemmas.{sorted-filter}
 
 -- the keys of entries with two values
 abbrev pub both_keys : {V W : Type 0} → List (List ℕ × V × W) → List (List ℕ)
@@ -19,8 +21,7 @@ both_keys both = map (λ b. b.0) both
 -- the keys of borrowed entries with two values are the keys of the entries
 pub both_keys-lent : {V W : Type 0} (both : List (Bor (List ℕ) × Bor V × Bor W))
     → map (λ b. b.0.now) both ≡ both_keys (map borrowed_both both)
-both_keys-lent [] = refl
-both_keys-lent (b ∷ both) = ap (λ l. b.0.now ∷ l) (both_keys-lent both)
+both_keys-lent both = sym (map-map _ _ both)
 
 module _ {V W : Type 0} (other : List (List ℕ × W)) where
   -- if P holds of all keys of es, it holds of the keys of es that `other` has too
@@ -47,32 +48,11 @@ module _ {V W : Type 0} (other : List (List ℕ × W)) where
             (all_in_both (λ l. bytes_cmp e.0 l ≡ Less) es sorted.0, sorted_in_both es sorted.1)
       ]
 
-module _ {V W : Type 0} (keep : (List ℕ × V × W) → Bool) where
-  -- if P holds of all keys, it holds of the keys of the entries that a filter keeps
-  all_both : (P : List ℕ → Type 0) → (both : List (List ℕ × V × W))
-      → AllByRecursion P (both_keys both) → AllByRecursion P (both_keys (filter keep both))
-  all_both P [] all = tt
-  all_both P (b ∷ both) all = by_test (keep b)
-      (λ is. rw is (all.0, all_both P both all.1))
-      (λ fails. rw fails (all_both P both all.1))
-
-  -- if the keys are strictly increasing, so are the keys of the entries that a filter keeps
-  sorted_both : (both : List (List ℕ × V × W)) → IsStrictlySortedBy bytes_cmp (both_keys both)
-      → IsStrictlySortedBy bytes_cmp (both_keys (filter keep both))
-  unfolding IsStrictlySortedBy
-  sorted_both [] sorted = tt
-  sorted_both (b ∷ both) sorted = by_test (keep b)
-      (λ is. rw is
-      (all_both (λ l. bytes_cmp b.0 l ≡ Less) both sorted.0, sorted_both both sorted.1))
-      (λ fails. rw fails (sorted_both both sorted.1))
-
 -- if the keys of es are strictly increasing, so are the keys of the changed entries
 pub sorted-changed : {V : Type 0} (eq : V → V → Bool) (other es : List (List ℕ × V))
     → IsStrictlySortedBy bytes_cmp (keys_of es)
     → IsStrictlySortedBy bytes_cmp (both_keys (entries_changed eq other es))
-sorted-changed eq other es sorted =
-    sorted_both (λ both. not (eq both.1 both.2)) (entries_in_both other es)
-    (sorted_in_both other es sorted)
+sorted-changed eq other es sorted = grind (arith, sorted-filter, sorted_in_both)
 
 module _ {V : Type 0} (eq : V → V → Bool) (other : List (List ℕ × V)) (e : List ℕ × V)
     (es : List (List ℕ × V)) where
@@ -89,22 +69,16 @@ module _ {V : Type 0} (eq : V → V → Bool) (other : List (List ℕ × V)) (e 
   -- if `other` lacks the key of e, the changed entries of e and es are those of es
   pub absent_entry : entry_at e.0 other ≡ None
       → entries_changed eq other (e ∷ es) ≡ entries_changed eq other es
-  absent_entry is =
-      ap (λ o. filter (λ (both : List ℕ × V × V). not (eq both.1 both.2))
-      (cons_option (option_map (λ y. (e.0, e.1, y)) o) (entries_in_both other es))) is
+  absent_entry is = grind arith
 
   -- if `other` has the value y at the key of e, and y is equal to the value of e, the changed
   -- entries of e and es are those of es
   pub equal_entry : (y : V) → entry_at e.0 other ≡ Some y → eq e.1 y ≡ true
       → entries_changed eq other (e ∷ es) ≡ entries_changed eq other es
-  equal_entry y is same = with_found y is
-      ∙ ap (λ b. cond (not b) ((e.0, e.1, y) ∷ entries_changed eq other es)
-      (entries_changed eq other es)) same
+  equal_entry y is same = grind (arith, with_found)
 
   -- if `other` has the value y at the key of e, and y is not equal to the value of e, the changed
   -- entries of e and es are e with both values, and then those of es
   pub changed_entry : (y : V) → entry_at e.0 other ≡ Some y → eq e.1 y ≡ false
       → entries_changed eq other (e ∷ es) ≡ (e.0, e.1, y) ∷ entries_changed eq other es
-  changed_entry y is differ = with_found y is
-      ∙ ap (λ b. cond (not b) ((e.0, e.1, y) ∷ entries_changed eq other es)
-      (entries_changed eq other es)) differ
+  changed_entry y is differ = grind (arith, with_found)

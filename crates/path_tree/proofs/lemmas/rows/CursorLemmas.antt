@@ -1,7 +1,11 @@
 -- A walk over sorted entries that finds increasing keys: an entry that it passes has no later key.
+use Rattle.std.proofs.Common.{arith}
 use Rattle.std.proofs.Common.{◌≡◌, ◌∙◌, ℕ, cond, List, [], ◌∷◌, Option, Some, None, true, false, ap}
-use Rattle.std.proofs.Common.{refl, subst, sym, is_gt, Ordering, Less, Equal, Greater}
+use Rattle.std.proofs.Common.{refl, sym, is_gt, Ordering, Less, Equal, Greater}
 use Rattle.std.proofs.lemmas.Cmp.{alike_right, nat_list_cmp_total, tied_back, tied_itself}
+use Rattle.std.proofs.lemmas.Map.{lookup-none}
+use Rattle.std.proofs.lemmas.Map.Entries.{none_below_head}
+use Rattle.std.proofs.lemmas.Map.Keys.{sorted_tail}
 use Rattle.std.specs.Borrow.{Bor}
 use Rattle.std.specs.List.Sorted.{IsStrictlySortedBy}
 use Rattle.std.specs.Map.{keys_of, lookup}
@@ -9,13 +13,7 @@ use Rattle.std.specs.Map.Iter.{TakesFirst, deref_pair}
 use Rattle.std.specs.Ordering.{is_eq, ordering_reverse}
 use Rattle.path_keys.specs.Ranges.{bytes_cmp}
 use Rattle.path_tree.specs.Rows.{Key, entries_from, entry_at, key_entries}
-use Rattle.path_tree.proofs.lemmas.keys.RowLemmas.{is_it, keys_cmp}
-use Rattle.path_tree.proofs.lemmas.rows.SortedLemmas.{less_all, none_greater}
-use Rattle.path_tree.proofs.lemmas.rows.WalkLemmas.{sorted_first, sorted_others}
-
--- the bytes of a key
-abbrev items_of : Key → List ℕ
-items_of k = k.items
+use Rattle.path_tree.proofs.lemmas.keys.RowLemmas.{is_it, items_of, keys_cmp}
 
 -- looking up the bytes `key` in the entries finds the value that the entries have at these bytes
 pub entry_at-lookup : {V : Type 0} (key : List ℕ) (es : List (Key × V))
@@ -42,9 +40,7 @@ pub entries_from-step : {V : Type 0} (first : Option (Bor Key × Bor V)) (rest :
     (is : Bor Key × Bor V) (next : Option (Bor Key × Bor V)) (new : List (Key × V))
     → first ≡ Some is → TakesFirst deref_pair rest next new
     → entries_from first rest ≡ (is.0.now, is.1.now) ∷ entries_from next new
-entries_from-step first rest is next new first_is takes =
-    ap (λ f. entries_from f rest) first_is
-    ∙ ap (λ es. (is.0.now, is.1.now) ∷ es) (sym (entries_from-next next rest new takes))
+entries_from-step first rest is next new first_is takes = grind (arith, entries_from-next)
 
 -- if e is less than `key`, and q is not less than `key`, then e is less than q
 less_later : (e key q : List ℕ) → bytes_cmp e key ≡ Less → is_gt (bytes_cmp key q) ≡ false
@@ -73,8 +69,7 @@ module _ {V : Type 0} (e : List ℕ × V) (es : List (List ℕ × V)) (key : Lis
       → entry_at key (e ∷ es) ≡ None
   none_found sorted greater =
       let less = nat_list_cmp_total.antisymm key e.0 ∙ ap ordering_reverse greater in
-      none_greater (λ k. k) key (e ∷ es)
-      (less, less_all (λ k. k) key e.0 less (keys_of es) (sorted_first bytes_cmp e es sorted))
+      lookup-none _ (e ∷ es) (none_below_head nat_list_cmp_total key e es sorted less)
 
 module _ {V : Type 0} (key : List ℕ) (old : List (List ℕ × V)) (e : List ℕ × V)
     (es : List (List ℕ × V)) (h : FindsSame key old (e ∷ es)) where
@@ -116,32 +111,25 @@ module _ {V : Type 0} (key : List ℕ) (old now : List (List ℕ × V)) (h : Fin
   pub greater_rest : (e : List ℕ × V) (es : List (List ℕ × V)) → now ≡ e ∷ es
       → bytes_cmp e.0 key ≡ Equal → (q : List ℕ) → bytes_cmp key q ≡ Less
       → entry_at q es ≡ entry_at q old
-  greater_rest e es is tied q less =
-      sym (ap (entry_at q) is ∙ passed e es q (nat_list_cmp_total.congr e.0 key q tied ∙ less))
-      ∙ h q (ap is_gt less)
+  greater_rest e es is tied q less = grind (arith, passed, nat_list_cmp_total)
 
 -- if the sorted entries `now` are e and then es, es is sorted
 pub sorted_rest_from : {V : Type 0} (now : List (Key × V)) (e : Key × V) (es : List (Key × V))
     → now ≡ e ∷ es → IsStrictlySortedBy (keys_cmp items_of) (keys_of now)
     → IsStrictlySortedBy (keys_cmp items_of) (keys_of es)
-sorted_rest_from now e es is sorted =
-    sorted_others (keys_cmp items_of) e es
-    (subst (λ l. IsStrictlySortedBy (keys_cmp items_of) (keys_of l)) is sorted)
+sorted_rest_from now e es is sorted = grind (arith, sorted_tail)
 
 -- if the test `is_gt` is true of an order, the order is `Greater`
 pub greater_is : (o : Ordering) → is_gt o ≡ true → o ≡ Greater
 greater_is Greater is = refl
-greater_is Less is = absurd (let e = is in cc)
-greater_is Equal is = absurd (let e = is in cc)
+greater_is o is = absurd (cc)
 
 -- if the test `is_eq` is true of an order, the order is `Equal`
 pub equal_is : (o : Ordering) → is_eq o ≡ true → o ≡ Equal
 equal_is Equal is = refl
-equal_is Less is = absurd (let e = is in cc)
-equal_is Greater is = absurd (let e = is in cc)
+equal_is o is = absurd (cc)
 
 -- if the tests `is_gt` and `is_eq` are both false of an order, the order is `Less`
 pub less_is : (o : Ordering) → is_gt o ≡ false → is_eq o ≡ false → o ≡ Less
 less_is Less up other = refl
-less_is Equal up other = absurd (let e = other in cc)
-less_is Greater up other = absurd (let e = up in cc)
+less_is o up other = absurd (cc)

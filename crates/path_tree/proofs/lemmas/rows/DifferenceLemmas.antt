@@ -1,6 +1,8 @@
 -- The entries that another tree lacks: one more entry is one of them only if that tree lacks its
 -- key.
-use Rattle.std.proofs.Common.{◌≡◌, ℕ, true, false, cond, List, [], ◌∷◌, ◌++◌, ap, map, not, refl}
+use Rattle.std.proofs.Common.{◌≡◌, ℕ, true, false, cond, List, [], ◌∷◌, ◌++◌, ◌∙◌, ap, map, not}
+use Rattle.std.proofs.Common.{append_assoc}
+use Rattle.std.proofs.lemmas.List.{map_push}
 use Rattle.std.specs.Option.{is_some}
 use Rattle.path_tree.specs.Difference.{entries_lacking}
 use Rattle.path_tree.specs.Rows.{entry_at}
@@ -22,8 +24,7 @@ module _ {V W : Type 0} (other : List (List ℕ × W)) (e : List ℕ × V)
 -- mapping xs with x appended, followed by ys, is mapping xs, followed by the image of x and ys
 pub map_push-append : {A B : Type 0} (f : A → B) (xs : List A) (x : A) (ys : List B)
     → map f (xs ++ x ∷ []) ++ ys ≡ map f xs ++ f x ∷ ys
-map_push-append f [] x ys = refl
-map_push-append f (a ∷ xs) x ys = ap (λ l. f a ∷ l) (map_push-append f xs x ys)
+map_push-append f xs x ys = ap (λ l. l ++ ys) (map_push f xs x) ∙ append_assoc _ (f x ∷ []) ys
 
 -- a list with an element x is not empty
 pub some_append : {A : Type 0} (xs : List A) (x : A) (ys : List A) → xs ++ x ∷ ys ≡ [] → ⊥

@@ -1,9 +1,11 @@
 -- The entries of a tree by the bytes of their keys: all keys are keys of paths, and the keys in the
 -- range of a base are those that start with the base.
-use Rattle.std.proofs.Common.{◌≡◌, ◌∙◌, ◌&&◌, ℕ, Bool, true, false, cond, List, [], ◌∷◌, Some, None}
+use Rattle.std.proofs.Common.{◌≡◌, ◌∙◌, ◌&&◌, ℕ, Bool, true, List, [], ◌∷◌, Some, None}
 use Rattle.std.proofs.Common.{zero, suc, arith, length, IfSome, Less, ap, eqb, is_le, map, not}
 use Rattle.std.proofs.Common.{refl, subst, sym}
-use Rattle.std.proofs.lemmas.List.Elements.{All-from_recursion}
+use Rattle.std.proofs.lemmas.Bool.{and_from, and_parts}
+use Rattle.std.proofs.lemmas.List.Elements.{All-cons, All-nil}
+use Rattle.std.proofs.lemmas.Simd.{map-map}
 use Rattle.std.proofs.lemmas.Option.{slice_get_past}
 use Rattle.std.proofs.lemmas.List.{length-map, nil_from_length}
 use Rattle.std.specs.Cmp.{both_ways}
@@ -11,8 +13,7 @@ use Rattle.std.specs.Cmp.Lexicographic.{nat_list_cmp_total}
 use Rattle.std.specs.List.{All, AllByRecursion, filter, slice_get, starts_with}
 use Rattle.std.specs.List.Sorted.{IsStrictlySortedBy}
 use Rattle.std.specs.Map.{keys_of}
-use Rattle.unix_path.specs.Parts.{Value}
-use Rattle.path_runs.specs.Rows.{is_under}
+use Rattle.unix_bytes.proofs.lemmas.lists.ListLemmas.{by_test}
 use Rattle.path_runs.specs.Spelling.{spelling_of}
 use Rattle.path_keys.specs.Keys.{IsKey}
 use Rattle.path_keys.specs.Ranges.{bytes_cmp, end_of, LiesUnder}
@@ -21,14 +22,9 @@ use Rattle.path_keys.proofs.lemmas.values.RangeLemmas.{begins-lies_under}
 use Rattle.path_tree.specs.Read.{is_own, key_values}
 use Rattle.path_tree.specs.Rows.{Key, entries_under, key_entries, key_rows, rows_under}
 use Rattle.path_tree.proofs.lemmas.keys.ReadLemmas.{own-is}
-use Rattle.path_tree.proofs.lemmas.keys.RowLemmas.{AllOwn, Own, all_own, keys_cmp}
+use Rattle.path_tree.proofs.lemmas.keys.RowLemmas.{Own, items_of, keys_cmp, own_first, own_others}
 use Rattle.path_tree.proofs.lemmas.keys.UnderLemmas.{endless, less_from_not_le, less_not_le}
-use Rattle.path_tree.proofs.lemmas.keys.UnderLemmas.{both_true, first_true, second_true}
 use Rattle.path_tree.proofs.lemmas.rows.ManyLemmas.{starts_with-under}
-
--- the bytes of a key
-abbrev pub items_of : Key → List ℕ
-items_of k = k.items
 
 -- if k is less than all keys of es, its bytes are less than the bytes of these keys
 greater_entries : {V : Type 0} (k : Key) (es : List (Key × V))
@@ -46,40 +42,29 @@ sorted-key_entries [] sorted = tt
 sorted-key_entries (e ∷ es) sorted =
     (greater_entries e.0 es sorted.0, sorted-key_entries es sorted.1)
 
--- the same as `keys-own`, with both statements by recursion on the entries
-all_keys : {V : Type 0} (es : List (Key × V)) → AllOwn items_of es
-    → AllByRecursion IsKey (keys_of (key_entries es))
-all_keys [] own = tt
-all_keys (e ∷ es) own =
-    ((spelling_of (key_values e.0.items), own-is e.0.items own.0), all_keys es own.1)
-
 -- if all keys of the entries are `Own`, the bytes of each key are the key of a path
 pub keys-own : {V : Type 0} (es : List (Key × V)) → Own items_of es
     → All IsKey (keys_of (key_entries es))
-keys-own es own =
-    All-from_recursion IsKey (keys_of (key_entries es)) (all_keys es (all_own items_of es own))
-
--- the same as `is_key-entry`, with `AllOwn` instead of `Own`, by recursion on the entries
-is_key-all_own : {V : Type 0} (es : List (Key × V)) → AllOwn items_of es → (i : ℕ) (e : Key × V)
-    → slice_get es i ≡ Some e → IsKey e.0.items
-is_key-all_own {V} [] all i e is =
-    absurd (let d = sym (slice_get_past {X = Key × V} [] i (omega arith)) ∙ is in cc)
-is_key-all_own {V} (x ∷ es) all zero e is =
-    let same : x ≡ e = cc in
-    subst (λ (p : Key × V). IsKey p.0.items) same
-    (spelling_of (key_values x.0.items), own-is x.0.items all.0)
-is_key-all_own (x ∷ es) all (suc i) e is = is_key-all_own es all.1 i e is
+keys-own [] own = All-nil IsKey
+keys-own (e ∷ es) own = All-cons IsKey e.0.items (keys_of (key_entries es))
+    (spelling_of (key_values e.0.items), own-is e.0.items (own_first items_of e es own))
+    (keys-own es (own_others items_of e es own))
 
 -- if all keys of the entries are `Own`, the bytes of the key at index i are the key of a path
 pub is_key-entry : {V : Type 0} (es : List (Key × V)) → Own items_of es → (i : ℕ) (e : Key × V)
     → slice_get es i ≡ Some e → IsKey e.0.items
-is_key-entry es own = is_key-all_own es (all_own items_of es own)
+is_key-entry {V} [] own i e is =
+    absurd (let d = sym (slice_get_past {X = Key × V} [] i (omega arith)) ∙ is in cc)
+is_key-entry {V} (x ∷ es) own zero e is =
+    let same : x ≡ e = cc in
+    subst (λ (p : Key × V). IsKey p.0.items) same
+    (spelling_of (key_values x.0.items), own-is x.0.items (own_first items_of x es own))
+is_key-entry (x ∷ es) own (suc i) e is = is_key-entry es (own_others items_of x es own) i e is
 
 -- the components that the bytes of the keys represent, with the values, are the rows of the entries
 pub rows-key_entries : {V : Type 0} (es : List (Key × V))
     → map (λ e. (key_values e.0, e.1)) (key_entries es) ≡ key_rows es
-rows-key_entries [] = refl
-rows-key_entries (e ∷ es) = ap (λ rows. (key_values e.0.items, e.1) ∷ rows) (rows-key_entries es)
+rows-key_entries es = map-map _ _ es
 
 module _ {V : Type 0} (test : Key → Bool) (keep : List ℕ → Bool)
     (same : (k : Key) → test k ≡ keep k.items) where
@@ -88,15 +73,9 @@ module _ {V : Type 0} (test : Key → Bool) (keep : List ℕ → Bool)
   pub filter-key_entries : (es : List (Key × V))
       → key_entries (filter (λ e. test e.0) es) ≡ filter (λ e. keep e.0) (key_entries es)
   filter-key_entries [] = refl
-  filter-key_entries (e ∷ es) =
-      let kept = filter (λ (e : Key × V). test e.0) es in
-      let rest = filter (λ (e : List ℕ × V). keep e.0) (key_entries es) in
-      ap (λ b. key_entries (cond b (e ∷ kept) kept)) (same e.0)
-      ∙ elim (keep e.0.items) as (λ b.
-      key_entries (cond b (e ∷ kept) kept) ≡ cond b ((e.0.items, e.1) ∷ rest) rest) [
-        | true ↦ ap (λ l. (e.0.items, e.1) ∷ l) (filter-key_entries es)
-        | false ↦ filter-key_entries es
-      ]
+  filter-key_entries (e ∷ es) = by_test (test e.0)
+      (λ is. rw (is, sym (same e.0) ∙ is) (ap (λ l. (e.0.items, e.1) ∷ l) (filter-key_entries es)))
+      (λ fails. rw (fails, sym (same e.0) ∙ fails) (filter-key_entries es))
 
 -- if `end` is the end of the range of `base`, `key` is in this range if and only if it starts with
 -- `base`
@@ -110,51 +89,37 @@ between-starts base end key ends =
     (λ both.
     let less = less_from_not_le (bytes_cmp key end)
     (ap (λ o. not (is_le o)) (sym (nat_list_cmp_total.antisymm end key))
-    ∙ second_true from before both) in
+    ∙ (and_parts from before both).1) in
     let lies : LiesUnder base key = (
-      first_true from before both,
+      (and_parts from before both).0,
       subst (λ o. IfSome o (λ end. bytes_cmp key end ≡ Less)) (sym ends) less,
     ) in
     told.1 ((begins-lies_under base key).1 lies))
     (λ starts.
     let lies = (begins-lies_under base key).0 (told.0 starts) in
-    both_true from before lies.0
+    and_from from before lies.0
     (less_not_le (bytes_cmp end key) (bytes_cmp key end) (nat_list_cmp_total.antisymm end key)
     (subst (λ o. IfSome o (λ end. bytes_cmp key end ≡ Less)) ends lies.1)))
 
 -- if the range of `base` has no end, all bytes start with `base`
 pub endless-starts : (base : List ℕ) → end_of base ≡ None → (key : List ℕ)
     → true ≡ starts_with eqb key base
-endless-starts base none key =
-    let empty = endless base none in
-    sym (ap (starts_with eqb key) empty
-    ∙ (begins_told key [] (starts_with eqb key []) refl).1 (key, refl))
+endless-starts base none key = grind (arith, endless, begins_told)
 
 module _ {V : Type 0} (base : List ℕ) (own : is_own base ≡ true) where
-  -- the same as `rows-entries_under`, with `AllOwn` instead of `Own`, by recursion on the entries
-  under-all_own : (es : List (Key × V)) → AllOwn items_of es
-      → map (λ e. (key_values e.0, e.1)) (entries_under base (key_entries es))
-      ≡ rows_under (key_values base) (key_rows es)
-  under-all_own [] all = refl
-  under-all_own (e ∷ es) all =
-      let row : List Value × V = (key_values e.0.items, e.1) in
-      let kept = entries_under base (key_entries es) in
-      let rows = rows_under (key_values base) (key_rows es) in
-      ap (λ b. map (λ e. (key_values e.0, e.1)) (cond b ((e.0.items, e.1) ∷ kept) kept))
-      (starts_with-under base e.0.items own all.0)
-      ∙ elim (is_under (key_values base) (key_values e.0.items)) as (λ b.
-      map (λ e. (key_values e.0, e.1)) (cond b ((e.0.items, e.1) ∷ kept) kept)
-      ≡ cond b (row ∷ rows) rows) [
-        | true ↦ ap (λ rows. row ∷ rows) (under-all_own es all.1)
-        | false ↦ under-all_own es all.1
-      ]
-
   -- the rows of the entries whose keys start with `base` are the rows under the components of
   -- `base`
   pub rows-entries_under : (es : List (Key × V)) → Own items_of es
       → map (λ e. (key_values e.0, e.1)) (entries_under base (key_entries es))
       ≡ rows_under (key_values base) (key_rows es)
-  rows-entries_under es all = under-all_own es (all_own items_of es all)
+  rows-entries_under [] all = refl
+  rows-entries_under (e ∷ es) all =
+      let same = starts_with-under base e.0.items own (own_first items_of e es all) in
+      let rest = rows-entries_under es (own_others items_of e es all) in
+      by_test (starts_with eqb e.0.items base)
+      (λ starts. rw (starts, sym same ∙ starts)
+      (ap (λ rows. (key_values e.0.items, e.1) ∷ rows) rest))
+      (λ other. rw (other, sym same ∙ other) rest)
 
   -- if no key of the entries starts with `base`, no row is under the components of `base`
   pub rows_under-none : (es : List (Key × V)) → Own items_of es

@@ -1,6 +1,10 @@
 -- The first entry that is not less than a base: if it isn't under the base, no entry is.
+use Rattle.std.proofs.Common.{arith}
 use Rattle.std.proofs.Common.{◌≡◌, ◌∙◌, ◌&&◌, ℕ, Bool, true, false, cond, eqb, List, [], ◌∷◌, ◌++◌}
 use Rattle.std.proofs.Common.{Less, ap, is_le, refl, subst, sym}
+use Rattle.std.proofs.Math.Bool.{and-true}
+use Rattle.std.proofs.lemmas.List.Elements.{filter_agree}
+use Rattle.std.proofs.lemmas.Map.Keys.{sorted_head}
 use Rattle.std.specs.List.{AllByRecursion, filter, starts_with}
 use Rattle.std.specs.List.Sorted.{IsStrictlySortedBy}
 use Rattle.std.specs.Map.{keys_of}
@@ -10,9 +14,8 @@ use Rattle.path_keys.proofs.lemmas.values.BeginLemmas.{begins_told}
 use Rattle.path_keys.proofs.lemmas.values.RangeLemmas.{begins-lies_under}
 use Rattle.path_tree.specs.Rows.{Key, entries_under, key_entries}
 use Rattle.path_tree.proofs.lemmas.keys.IntervalLemmas.{interval, le_less}
-use Rattle.path_tree.proofs.lemmas.keys.RowLemmas.{keys_cmp}
-use Rattle.path_tree.proofs.lemmas.rows.EntryLemmas.{items_of}
-use Rattle.path_tree.proofs.lemmas.rows.WalkLemmas.{and-true, filter_alike, kept_pass, sorted_first}
+use Rattle.path_tree.proofs.lemmas.keys.RowLemmas.{items_of, keys_cmp}
+use Rattle.path_tree.proofs.lemmas.rows.WalkLemmas.{kept_pass}
 use Rattle.path_tree.proofs.lemmas.rows.WalkLemmas.{sorted_rest, suffix-filter}
 
 -- the key is not less than base
@@ -22,11 +25,7 @@ is_from base k = is_le (bytes_cmp base k.items)
 -- bytes that are less than base don't start with it
 less_apart : (base key : List ℕ) → is_le (bytes_cmp base key) ≡ false
     → starts_with eqb key base ≡ false
-less_apart base key less = by_test (starts_with eqb key base)
-    (λ starts.
-    let lies = (begins-lies_under base key).0 ((begins_told key base _ refl).0 starts) in
-    absurd (let d = sym lies.0 ∙ less in cc))
-    (λ other. other)
+less_apart base key less = grind (arith, begins-lies_under, begins_told)
 
 module _ {V : Type 0} (base : List ℕ) where
   -- the entries under base are the same if the entries that are less than base are left out
@@ -55,8 +54,7 @@ module _ {V : Type 0} (base : List ℕ) where
     -- `rest` is the entries whose keys are not less than base
     rest_is : rest ≡ filter (λ e. is_from base e.0) entries
     rest_is =
-        is ∙ filter_alike (λ k. is_from base k && true) (is_from base) (λ k. and-true
-        (is_from base k)) entries
+        is ∙ filter_agree _ (λ e. is_from base e.0) (λ e. and-true (is_from base e.0)) entries
 
     -- `rest` has all entries under base
     pub under-rest : entries_under base (key_entries rest)
@@ -67,10 +65,7 @@ module _ {V : Type 0} (base : List ℕ) where
       -- if e, the first entry of `rest`, is under base, there are entries under base
       pub some_under : starts_with eqb e.0.items base ≡ true
           → entries_under base (key_entries entries) ≡ [] → ⊥
-      some_under starts none =
-          let front : entries_under base (key_entries (e ∷ es)) ≡ [] =
-          ap (λ l. entries_under base (key_entries l)) (sym first) ∙ under-rest ∙ none in
-          let d = rw starts at front in cc
+      some_under starts none = grind (arith, under-rest)
 
       -- if e, the first entry of `rest`, is not under base, no entry is under base
       pub none_under_first : starts_with eqb e.0.items base ≡ false
@@ -86,4 +81,4 @@ module _ {V : Type 0} (base : List ℕ) where
           subst (λ l. AllByRecursion (λ k. is_from base k ≡ true) (keys_of l)) (sym rest_is ∙ first)
           (kept_pass (is_from base) (λ k. is_from base k ≡ true) (λ k h. h) entries) in
           sym under-rest ∙ ap (λ l. entries_under base (key_entries l)) first
-          ∙ rw other (none_after e.0 all.0 other es (sorted_first (keys_cmp items_of) e es up))
+          ∙ rw other (none_after e.0 all.0 other es (sorted_head (keys_cmp items_of) e.0 _ up))

@@ -1,12 +1,12 @@
 -- A walk over the entries of one tree, with a cursor in another tree: at the keys that remain, the
 -- cursor finds what the other tree has.
 use Rattle.std.proofs.Common.{◌≡◌, ◌∙◌, ℕ, List, [], ◌∷◌, ap, Less}
+use Rattle.std.proofs.lemmas.Map.Keys.{sorted_head, sorted_tail}
 use Rattle.std.specs.List.{AllByRecursion}
 use Rattle.std.specs.List.Sorted.{IsStrictlySortedBy}
 use Rattle.std.specs.Map.{keys_of}
 use Rattle.path_keys.specs.Ranges.{bytes_cmp}
 use Rattle.path_tree.specs.Rows.{entry_at}
-use Rattle.path_tree.proofs.lemmas.rows.WalkLemmas.{sorted_first, sorted_others}
 
 -- at each of the keys, `now` and `other` have the same value, or none
 abbrev FindsAt : {W : Type 0} → List (List ℕ × W) → List (List ℕ × W) → List (List ℕ) → Type 0
@@ -47,6 +47,6 @@ module _ {W : Type 0} (other now new : List (List ℕ × W)) (key : List ℕ)
   pub merges_more : {V : Type 0} (x : V) (rest : List (List ℕ × V))
       → Merges other now ((key, x) ∷ rest) → Merges other new rest
   merges_more x rest h = record {
-    sorted = sorted_others bytes_cmp (key, x) rest h.sorted;
-    same = finds_still (keys_of rest) (sorted_first bytes_cmp (key, x) rest h.sorted) h.same.1;
+    sorted = sorted_tail bytes_cmp key _ h.sorted;
+    same = finds_still (keys_of rest) (sorted_head bytes_cmp key _ h.sorted) h.same.1;
   }

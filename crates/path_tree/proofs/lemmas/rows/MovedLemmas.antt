@@ -1,9 +1,14 @@
 -- Rows that are moved under another base, and taken away again if the move fails.
-use Rattle.std.proofs.Common.{◌≡◌, ◌∙◌, ◌⊎◌, inl, inr, Bool, true, false, cond, List, [], ◌∷◌, ◌++◌}
-use Rattle.std.proofs.Common.{ap, ap₂, append_assoc, drop, length, map, not, refl, sym}
-use Rattle.std.proofs.Common.{Ordering, Less, Equal, Greater}
+use Rattle.std.proofs.Common.{arith}
+use Rattle.std.proofs.lemmas.Grind.{common_steps}
+use Rattle.std.proofs.Common.{◌≡◌, ◌∙◌, Bool, true, false, cond, List, [], ◌∷◌, ◌++◌}
+use Rattle.std.proofs.Common.{ap, ap₂, append_assoc, drop, length, not, refl, sym}
+use Rattle.std.proofs.Common.{Less, Equal, Greater}
 use Rattle.std.proofs.lemmas.List.{length-map}
 use Rattle.std.specs.BTreeMap.{insert_entry}
+use Rattle.std.proofs.lemmas.List.Elements.{All-from_recursion, recursion_from_All}
+use Rattle.std.proofs.lemmas.Map.Keys.{sorted_head, sorted_tail}
+use Rattle.std.proofs.lemmas.Map.Views.{All-keys-insert_entry}
 use Rattle.std.specs.List.{AllByRecursion, filter}
 use Rattle.std.specs.List.Sorted.{IsStrictlySortedBy}
 use Rattle.std.specs.Map.{keys_of}
@@ -17,7 +22,7 @@ use Rattle.path_runs.specs.Rows.{is_under}
 use Rattle.path_runs.proofs.lemmas.rows.UnderLemmas.{begins_from_under, under_from_begins}
 use Rattle.path_tree.specs.Moved.{moved_row, moved_rows, rows_with}
 use Rattle.path_tree.specs.Rows.{rows_outside, rows_under}
-use Rattle.path_tree.proofs.lemmas.rows.WalkLemmas.{all_kept}
+use Rattle.path_tree.proofs.lemmas.rows.WalkLemmas.{all_kept, all_more}
 
 module _ {V : Type 0} (v : List Value) (x : V) where
   -- if v is less than the components of all rows, inserting at v puts a row before them
@@ -29,46 +34,21 @@ module _ {V : Type 0} (v : List Value) (x : V) where
       ap (λ o. match_ordering o ((v, x) ∷ row ∷ rows) ((row.0, x) ∷ rows)
       (row ∷ insert_entry values_cmp rows v x)) all.0
 
-  -- if v is less than w, and w is less than all of vs, v is less than all of vs
-  less_all : (w : List Value) → values_cmp v w ≡ Less → (vs : List (List Value))
-      → AllByRecursion (λ u. values_cmp w u ≡ Less) vs
-      → AllByRecursion (λ u. values_cmp v u ≡ Less) vs
-  less_all w less [] all = tt
-  less_all w less (u ∷ vs) all =
-      (values_cmp-total.trans v w u less all.0, less_all w less vs all.1)
+  -- if v is less than w, and w is less than the components of all rows, so is v
+  less_all : (w : List Value) → values_cmp v w ≡ Less → (rows : List (List Value × V))
+      → AllByRecursion (λ u. values_cmp w u ≡ Less) (keys_of rows)
+      → AllByRecursion (λ u. values_cmp v u ≡ Less) (keys_of rows)
+  less_all w less rows = all_more _ _ (λ u. values_cmp-total.trans v w u less) (keys_of rows)
 
   -- if w is less than v and than the components of all rows, it is less than those of all rows
   -- after an insertion at v
   all_insert : (w : List Value) → values_cmp w v ≡ Less → (rows : List (List Value × V))
       → AllByRecursion (λ u. values_cmp w u ≡ Less) (keys_of rows)
       → AllByRecursion (λ u. values_cmp w u ≡ Less) (keys_of (insert_entry values_cmp rows v x))
-  all_insert w less [] all = (less, tt)
-  all_insert w less (row ∷ rows) all =
-      elim (values_cmp v row.0) as (λ o. AllByRecursion (λ u. values_cmp w u ≡ Less)
-      (keys_of (match_ordering o ((v, x) ∷ row ∷ rows) ((row.0, x) ∷ rows)
-      (row ∷ insert_entry values_cmp rows v x)))) [
-        | Less ↦ (less, all)
-        | Equal ↦ all
-        | Greater ↦ (all.0, all_insert w less rows all.1)
-      ]
-
-  -- if the rows are sorted, and stay sorted after an insertion at v, then the same is true with one
-  -- row before them, where o is the order of v and this row
-  sorted-by : (row : List Value × V) (rows : List (List Value × V)) (o : Ordering)
-      → values_cmp v row.0 ≡ o
-      → AllByRecursion (λ u. values_cmp row.0 u ≡ Less) (keys_of rows)
-      → IsStrictlySortedBy values_cmp (keys_of rows)
-      → IsStrictlySortedBy values_cmp (keys_of (insert_entry values_cmp rows v x))
-      → IsStrictlySortedBy values_cmp (keys_of (match_ordering o ((v, x) ∷ row ∷ rows)
-      ((row.0, x) ∷ rows) (row ∷ insert_entry values_cmp rows v x)))
-  unfolding IsStrictlySortedBy
-  sorted-by row rows Less is all sorted rest =
-      ((is, less_all row.0 is (keys_of rows) all), (all, sorted))
-  sorted-by row rows Equal is all sorted rest = (all, sorted)
-  sorted-by row rows Greater is all sorted rest = (
-    all_insert row.0 (values_cmp-total.antisymm row.0 v ∙ ap ordering_reverse is) rows all,
-    rest,
-  )
+  all_insert w less rows all =
+      let P : List Value → Type 0 = λ u. values_cmp w u ≡ Less in
+      recursion_from_All P _
+      (All-keys-insert_entry values_cmp v x P rows (All-from_recursion P _ all) less)
 
   -- if the rows are sorted, they are sorted after an insertion
   pub sorted-insert : (rows : List (List Value × V)) → IsStrictlySortedBy values_cmp (keys_of rows)
@@ -76,35 +56,32 @@ module _ {V : Type 0} (v : List Value) (x : V) where
   unfolding IsStrictlySortedBy
   sorted-insert [] sorted = (tt, tt)
   sorted-insert (row ∷ rows) sorted =
-      sorted-by row rows (values_cmp v row.0) refl sorted.0 sorted.1
-      (sorted-insert rows sorted.1)
+      elim (values_cmp v row.0) as (λ o. values_cmp v row.0 ≡ o → IsStrictlySortedBy values_cmp
+      (keys_of (match_ordering o ((v, x) ∷ row ∷ rows) ((row.0, x) ∷ rows)
+      (row ∷ insert_entry values_cmp rows v x)))) [
+        | Less ↦ λ is. ((is, less_all row.0 is rows sorted.0), sorted)
+        | Equal ↦ λ is. sorted
+        | Greater ↦ λ is. (
+          all_insert row.0 (values_cmp-total.antisymm row.0 v ∙ ap ordering_reverse is) rows
+              sorted.0,
+          sorted-insert rows sorted.1,
+        )
+      ] refl
 
   module _ (q : List Value → Bool) where
-    -- the rows that pass a test of their components
-    abbrev keep : List (List Value × V) → List (List Value × V)
-    keep rows = filter (λ row. q row.0) rows
-
     -- if v fails the test q, the rows that pass q are the same before and after an insertion at v
     pub filter-other : q v ≡ false → (rows : List (List Value × V))
         → filter (λ row. q row.0) (insert_entry values_cmp rows v x)
         ≡ filter (λ row. q row.0) rows
-    filter-other other [] = ap (λ b. cond b ((v, x) ∷ []) []) other
-    filter-other other (row ∷ rows) = by (values_cmp v row.0) refl (filter-other other rows)
-      where
-        by : (o : Ordering) → values_cmp v row.0 ≡ o
-            → filter (λ row. q row.0) (insert_entry values_cmp rows v x)
-            ≡ filter (λ row. q row.0) rows
-            → filter (λ row. q row.0) (match_ordering o ((v, x) ∷ row ∷ rows)
-            ((row.0, x) ∷ rows) (row ∷ insert_entry values_cmp rows v x))
-            ≡ filter (λ row. q row.0) (row ∷ rows)
-        by Less is rest = ap (λ b. cond b ((v, x) ∷ filter (λ row. q row.0) (row ∷ rows))
-            (filter (λ row. q row.0) (row ∷ rows))) other
-        by Equal is rest =
-            let fails : q row.0 ≡ false = ap q (sym (values_cmp-equal v row.0 is)) ∙ other in
-            let kept = filter (λ row. q row.0) rows in
-            ap (λ b. cond b ((row.0, x) ∷ kept) kept) fails
-            ∙ sym (ap (λ b. cond b (row ∷ kept) kept) fails)
-        by Greater is rest = ap (λ kept. cond (q row.0) (row ∷ kept) kept) rest
+    filter-other other [] = rw other refl
+    filter-other other (row ∷ rows) =
+        elim (values_cmp v row.0) as (λ o. values_cmp v row.0 ≡ o → filter (λ row. q row.0)
+        (match_ordering o ((v, x) ∷ row ∷ rows) ((row.0, x) ∷ rows)
+        (row ∷ insert_entry values_cmp rows v x)) ≡ filter (λ row. q row.0) (row ∷ rows)) [
+          | Less ↦ λ is. rw other refl
+          | Equal ↦ λ is. rw (ap q (sym (values_cmp-equal v row.0 is)) ∙ other) refl
+          | Greater ↦ λ is. ap (λ kept. cond (q row.0) (row ∷ kept) kept) (filter-other other rows)
+        ] refl
 
     -- if v passes the test q, inserting at v and then filtering by q leads to the same rows as
     -- filtering by q and then inserting at v
@@ -112,30 +89,23 @@ module _ {V : Type 0} (v : List Value) (x : V) where
         → IsStrictlySortedBy values_cmp (keys_of rows)
         → filter (λ row. q row.0) (insert_entry values_cmp rows v x)
         ≡ insert_entry values_cmp (filter (λ row. q row.0) rows) v x
-    unfolding IsStrictlySortedBy
-    filter-insert kept [] sorted = ap (λ b. cond b ((v, x) ∷ []) []) kept
+    filter-insert kept [] sorted = rw kept refl
     filter-insert kept (row ∷ rows) sorted =
-        by (values_cmp v row.0) refl sorted.0 (filter-insert kept rows sorted.1)
-      where
-        by : (o : Ordering) → values_cmp v row.0 ≡ o
-            → AllByRecursion (λ u. values_cmp row.0 u ≡ Less) (keys_of rows)
-            → filter (λ row. q row.0) (insert_entry values_cmp rows v x)
-            ≡ insert_entry values_cmp (filter (λ row. q row.0) rows) v x
-            → filter (λ row. q row.0) (match_ordering o ((v, x) ∷ row ∷ rows)
-            ((row.0, x) ∷ rows) (row ∷ insert_entry values_cmp rows v x))
-            ≡ insert_entry values_cmp (filter (λ row. q row.0) (row ∷ rows)) v x
-        by Less is all rest =
-            ap (λ b. cond b ((v, x) ∷ filter (λ row. q row.0) (row ∷ rows))
-            (filter (λ row. q row.0) (row ∷ rows))) kept
-            ∙ sym (insert_first (filter (λ row. q row.0) (row ∷ rows))
-            (all_kept q (λ u. values_cmp v u ≡ Less) (row ∷ rows)
-            (is, less_all row.0 is (keys_of rows) all)))
-        by Equal is all rest =
-            let same : q row.0 ≡ true = ap q (sym (values_cmp-equal v row.0 is)) ∙ kept in
-            rw (same, is) refl
-        by Greater is all rest = by_test (q row.0)
-            (λ same. rw (same, is) (ap (λ l. row ∷ l) rest))
-            (λ fails. rw fails rest)
+        elim (values_cmp v row.0) as (λ o. values_cmp v row.0 ≡ o → filter (λ row. q row.0)
+        (match_ordering o ((v, x) ∷ row ∷ rows) ((row.0, x) ∷ rows)
+        (row ∷ insert_entry values_cmp rows v x))
+        ≡ insert_entry values_cmp (filter (λ row. q row.0) (row ∷ rows)) v x) [
+          | Less ↦ λ is. rw kept (sym (insert_first _ (all_kept (λ row. row.0) (λ row. q row.0)
+              (λ u. values_cmp v u ≡ Less) (row ∷ rows)
+              (is, less_all row.0 is rows (sorted_head values_cmp row.0 _ sorted)))))
+          | Equal ↦ λ is. let same = ap q (sym (values_cmp-equal v row.0 is)) ∙ kept in
+              rw (same, is) refl
+          | Greater ↦ λ is.
+              let rest = filter-insert kept rows (sorted_tail values_cmp row.0 _ sorted) in
+              by_test (q row.0)
+              (λ same. rw (same, is) (ap (λ l. row ∷ l) rest))
+              (λ fails. rw fails rest)
+        ] refl
 
 module _ {V : Type 0} (rows : List (List Value × V))
     (sorted : IsStrictlySortedBy values_cmp (keys_of rows)) where
@@ -195,53 +165,25 @@ module _ {V : Type 0} (to : List Value) (rows : List (List Value × V))
       ))
       (λ other. rw other (moved_under from some))
 
--- if P holds of all rows, it holds of the last ones
-pub all_last : {V : Type 0} (P : List Value × V → Type 0) (front last : List (List Value × V))
-    → AllByRecursion P (front ++ last) → AllByRecursion P last
-all_last P [] last all = all
-all_last P (row ∷ front) last all = all_last P front last all.1
-
--- if u is v, and one of us and vs is a prefix of the other, then one of the lists is a prefix of
--- the other after u is put before us, and v before vs
-with_first : (u v : Value) → u ≡ v → (us vs : List Value) → IsPrefixOf us vs ⊎ IsPrefixOf vs us
-    → IsPrefixOf (u ∷ us) (v ∷ vs) ⊎ IsPrefixOf (v ∷ vs) (u ∷ us)
-with_first u v first us vs (inl h) = inl (h.0, ap₂ (λ w ws. w ∷ ws) first h.1)
-with_first u v first us vs (inr h) = inr (h.0, ap₂ (λ w ws. w ∷ ws) (sym first) h.1)
-
--- if us and vs are prefixes of the same list, one of them is a prefix of the other
-either_begins : (us vs x y : List Value) → us ++ x ≡ vs ++ y → IsPrefixOf us vs ⊎ IsPrefixOf vs us
-either_begins [] vs x y same = inl (vs, refl)
-either_begins (u ∷ us) [] x y same = inr (u ∷ us, refl)
-either_begins (u ∷ us) (v ∷ vs) x y same =
+-- if `from` is a prefix of `to` followed by w, but not of `to`, then `to` is a prefix of `from`
+source_longer : (from to w : List Value) → (IsPrefixOf from to → ⊥) → IsPrefixOf from (to ++ w)
+    → IsPrefixOf to from
+source_longer from [] w apart begins = (from, refl)
+source_longer [] (v ∷ to) w apart begins = absurd (apart (v ∷ to, refl))
+source_longer (u ∷ from) (v ∷ to) w apart begins =
+    let e = begins.1 in
     let first : u ≡ v = cc in
-    let others : us ++ x ≡ vs ++ y = cc in
-    with_first u v first us vs (either_begins us vs x y others)
-
--- if us is a prefix of vs, and vs is a prefix of ws, then us is a prefix of ws
-begins_through : (us vs ws : List Value) → IsPrefixOf us vs → IsPrefixOf vs ws → IsPrefixOf us ws
-begins_through us vs ws h k =
-    (h.0 ++ k.0, sym (append_assoc us h.0 k.0) ∙ ap (λ l. l ++ k.0) h.1 ∙ k.1)
-
--- if `from` is not a prefix of `to`, and v starts with `from`, but not with `to`, then `to`
--- followed by w doesn't start with `from`
-not_either : (from to v w : List Value) → (IsPrefixOf from to → ⊥) → is_under to v ≡ false
-    → IsPrefixOf from v → IsPrefixOf from (to ++ w) → ⊥
-not_either from to v w apart free there begins =
-    by (either_begins from to begins.0 w begins.1)
-  where
-    by : IsPrefixOf from to ⊎ IsPrefixOf to from → ⊥
-    by (inl h) = apart h
-    by (inr h) =
-        let e = sym free ∙ under_from_begins to v (begins_through to from v h there) in cc
+    let rest : from ++ begins.0 ≡ to ++ w = cc in
+    let more = source_longer from to w (λ h. apart (h.0, ap₂ (λ x xs. x ∷ xs) first h.1))
+    (begins.0, rest) in
+    (more.0, ap₂ (λ x xs. x ∷ xs) (sym first) more.1)
 
 -- if `from` is not a prefix of `to`, and v is under `from`, but not under `to`, then `to` followed
 -- by w is not under `from`
 not_under_source : (from to v w : List Value) → (IsPrefixOf from to → ⊥) → is_under to v ≡ false
     → is_under from v ≡ true → is_under from (to ++ w) ≡ false
-not_under_source from to v w apart free under = by_test (is_under from (to ++ w))
-    (λ inside. absurd (not_either from to v w apart free (begins_from_under from v under)
-    (begins_from_under from (to ++ w) inside)))
-    (λ other. other)
+not_under_source from to v w apart free under =
+    grind (arith, common_steps, source_longer, begins_from_under, under_from_begins, append_assoc)
 
 module _ {V : Type 0} (from to : List Value) (apart : IsPrefixOf from to → ⊥) where
   -- if `from` is not a prefix of `to`, and no row is under `to`, no moved row is under `from`
@@ -261,17 +203,13 @@ module _ {V : Type 0} (from to : List Value) (apart : IsPrefixOf from to → ⊥
 pub moves_row : {V : Type 0} (from to : List Value) (row : List Value × V)
     (rows : List (List Value × V)) → is_under from row.0 ≡ true
     → moved_rows from to (row ∷ rows) ≡ moved_row from to row ∷ moved_rows from to rows
-moves_row from to row rows under =
-    ap (λ b. map (moved_row from to) (cond b (row ∷ rows_under from rows) (rows_under from rows)))
-    under
+moves_row from to row rows under = grind arith
 
 -- if `row` is not under `from`, the moved rows of `row` and `rows` are those of `rows`
 pub leaves_row : {V : Type 0} (from to : List Value) (row : List Value × V)
     (rows : List (List Value × V)) → is_under from row.0 ≡ false
     → moved_rows from to (row ∷ rows) ≡ moved_rows from to rows
-leaves_row from to row rows other =
-    ap (λ b. map (moved_row from to) (cond b (row ∷ rows_under from rows) (rows_under from rows)))
-    other
+leaves_row from to row rows other = grind arith
 
 -- the number of moved rows is the number of rows under `from`
 pub length-moved : {V : Type 0} (from to : List Value) (rows : List (List Value × V))

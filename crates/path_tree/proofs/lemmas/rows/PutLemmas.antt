@@ -1,20 +1,15 @@
 -- Entries that are inserted into rows, the last one first.
 use Rattle.std.proofs.Common.{◌≡◌, ◌∙◌, true, List, [], ◌∷◌, ◌++◌, ap, append_assoc}
-use Rattle.std.proofs.Common.{refl, subst}
+use Rattle.std.proofs.Common.{subst}
+use Rattle.std.proofs.lemmas.List.{map-append}
 use Rattle.std.specs.List.{AllByRecursion}
 use Rattle.std.specs.Map.{keys_of}
 use Rattle.unix_path.specs.Parts.{Value}
 use Rattle.path_tree.specs.Moved.{rows_with}
-use Rattle.path_tree.specs.Read.{is_own, key_values}
+use Rattle.path_tree.specs.Read.{is_own}
 use Rattle.path_tree.specs.Rows.{Key, key_rows}
 use Rattle.path_tree.proofs.lemmas.keys.RowLemmas.{Own, all_own}
 use Rattle.path_tree.proofs.lemmas.rows.WalkLemmas.{all_rest}
-
--- the rows of es and fs together are the rows of es, and then the rows of fs
-pub key_rows-append : {V : Type 0} (es fs : List (Key × V))
-    → key_rows (es ++ fs) ≡ key_rows es ++ key_rows fs
-key_rows-append [] fs = refl
-key_rows-append (e ∷ es) fs = ap (λ l. (key_values e.0.items, e.1) ∷ l) (key_rows-append es fs)
 
 -- `all` is `remaining`, the entries that are yet to be inserted, and then the entries that were
 -- inserted into the rows `old`; `new` is the rows after that
@@ -42,5 +37,5 @@ module _ {V : Type 0} (all : List (Key × V)) (old : List (List Value × V)) whe
       × (key_rows all ≡ front ++ last) × (new ≡ rows_with old last))
   puts_end remaining new h = (
     key_rows remaining,
-    (key_rows h.done, ap key_rows h.split ∙ key_rows-append remaining h.done, h.rows),
+    (key_rows h.done, ap key_rows h.split ∙ map-append _ remaining h.done, h.rows),
   )

@@ -1,7 +1,5 @@
-use Rattle.std.proofs.Common.{suc, refl, subst, ◌≡◌, arith}
-use Rattle.std.proofs.Math.ListN.{replicate}
+use Rattle.std.proofs.Common.{suc, refl, arith}
 use Rattle.unix_path.specs.Parts.{ParentDir}
-use Rattle.path_within.specs.Backward.{Puts}
 use Rattle.path_within.proofs.lemmas.backward.PutLemmas.{puts_none, puts_then, puts_value}
 use Rattle.path_within.proofs.backward.put_parent_dirs_before.Goals as goal
 
@@ -22,10 +20,4 @@ loop-end-preserved c =
     }
 
 pub returns : goal.returns
-returns c = λ n e.
-    let made = c.loop-end.invariant.made in
-    let same : made.0 ≡ n = omega (arith, made.1, e) in
-    let all : c.loop-end.end ≡ 0 = omega (arith, made.1, e) in
-    subst (λ k. Puts (replicate k ParentDir) c.args.end c.args.out.now 0 c.loop-end.out) same
-    (subst (λ k. Puts (replicate made.0 ParentDir) c.args.end c.args.out.now k c.loop-end.out) all
-    made.2)
+returns c = grind arith

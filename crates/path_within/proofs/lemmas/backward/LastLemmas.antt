@@ -1,6 +1,6 @@
 -- The last name that remains of components after resolving, found from the end.
 use Rattle.std.proofs.Common.{◌≡◌, ℕ, suc, zero, ◌+◌, ◌≤◌, List, [], ◌∷◌, ◌++◌, length, refl, sym}
-use Rattle.std.proofs.Common.{ap, ap₂, ◌∙◌, arith, length-append}
+use Rattle.std.proofs.Common.{ap, ◌∙◌, arith, length-append}
 use Rattle.std.proofs.lemmas.Grind.{reverse_onto}
 use Rattle.unix_path.specs.Parts.{Value, RootDir, CurDir, ParentDir, Normal}
 use Rattle.path_within.specs.Backward.{parent_dir_count, remaining_parent_dirs, HasParentDirs}
@@ -50,11 +50,7 @@ parent_dir_count-push_parent_dirs (suc n) us h =
 pub taken : {n : ℕ} {vs all : List Value} {v w : Value} (m : ℕ) (ws : List Value) → Leaves n vs all
     → n ≡ m → vs ≡ ws ++ v ∷ [] → v ≡ w → Taken m w ws all
 unfolding remaining_parent_dirs
-taken {n} {vs} {all} {v} {w} m ws h e f g = by m w
-    (λ ks. ap (λ v. push_parent_dirs m (push_component (resolve_onto ks ws) v)) (sym g)
-    ∙ ap (push_parent_dirs m) (sym (resolve_onto-append ks ws (v ∷ [])))
-    ∙ ap₂ (λ m vs. push_parent_dirs m (resolve_onto ks vs)) (sym e) (sym f) ∙ h.stack ks)
-    (omega (arith, h.space, ap length f, length-append ws (v ∷ [])))
+taken {n} {vs} {all} {v} {w} m ws h e f g = grind (arith, by, resolve_onto-append, length-append)
   where
     by : (m : ℕ) (w : Value)
         → ((ks : List Value) → push_parent_dirs m (push_component (resolve_onto ks ws) w)
@@ -87,6 +83,5 @@ none_remain {n} {vs} {all} h e =
     ∙ h.stack ks in
     record {
       names = names_below-stack all [] (sym (stack (RootDir ∷ [])) ∙ push_parent_dirs-root n);
-      parent_dirs = ap parent_dir_count (sym (stack []))
-          ∙ (let all = parent_dir_count-push_parent_dirs n [] tt in omega arith);
+      parent_dirs = grind (arith, parent_dir_count-push_parent_dirs);
     }

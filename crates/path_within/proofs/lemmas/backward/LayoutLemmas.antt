@@ -6,14 +6,13 @@ use Rattle.std.proofs.Math.ListN.{replicate, set}
 use borrow.Rule.Slice.PartMut.{put_mid}
 use Rattle.std.proofs.lemmas.List.{drop-append-le, drop_all, length-replicate, nil_from_length}
 use Rattle.std.proofs.lemmas.List.Folds.{sum_by-replicate}
-use Rattle.unix_bytes.proofs.lemmas.lists.ListLemmas.{by_test}
-use Rattle.unix_path.specs.Parts.{Value, RootDir, ParentDir, Normal, is_rooted, slash, value_bytes}
+use Rattle.unix_path.specs.Parts.{Value, ParentDir, Normal, is_rooted, slash}
 use Rattle.unix_path.specs.Parts.{values}
 use Rattle.path_runs.specs.Spelling.{slashed_bytes, spelling_of}
 use Rattle.path_runs.proofs.lemmas.spelling.SpellLemmas.{spelling_of-root}
 use Rattle.path_within.specs.Backward.{last_names, remaining_parent_dirs, Puts}
 use Rattle.path_within.specs.Below.{names_below}
-use Rattle.path_within.specs.Layouts.{layout_names, layout_values, names_in}
+use Rattle.path_within.specs.Layouts.{layout_names, layout_values}
 use Rattle.path_within.specs.declared.write.Layout.{Layout}
 use Rattle.path_within.specs.NamePieces.{is_names_only}
 use Rattle.path_within.specs.Resolved.{AllNames, resolved_of}
@@ -33,51 +32,29 @@ use Rattle.path_within.proofs.lemmas.stack.RelativePathLemmas.{list_all-names, n
 use Rattle.path_within.proofs.lemmas.stack.RelativePathLemmas.{spelling_of-straight}
 use Rattle.path_within.proofs.lemmas.names_only.NamesOnlyLemmas.{names_only_has_names}
 use Rattle.path_within.proofs.lemmas.names_only.NamesOnlyLemmas.{resolved-names_only}
+use Rattle.path_within.proofs.lemmas.backward.PutLemmas.{puts_verbatim, puts_none, no_names}
+use Rattle.std.proofs.lemmas.Grind.{common_steps}
 
 -- n times `..` and then vs, with a slash for each, are 3 * n bytes longer than vs with a slash for
 -- each
 pub slashed_len-parent_dir_run : (n : ℕ) (vs : List Value)
     → slashed_len (replicate n ParentDir ++ vs) ≡ 3 * n + slashed_len vs
-slashed_len-parent_dir_run n vs = omega (
-  arith,
-  slashed_len-append (replicate n ParentDir) vs,
-  sum_by-replicate (λ v. 1 + length (value_bytes v)) n ParentDir,
-)
+slashed_len-parent_dir_run n vs = grind (arith, slashed_len-append, sum_by-replicate)
 
 -- the number of components is at most their length with a slash for each
 pub length-le-slashed_len : (vs : List Value) → length vs ≤ slashed_len vs
 length-le-slashed_len [] = omega arith
-length-le-slashed_len (v ∷ vs) =
-    omega (arith, slashed_len-cons v vs, length-le-slashed_len vs)
+length-le-slashed_len (v ∷ vs) = grind (arith, slashed_len-cons v vs, length-le-slashed_len vs)
 
 -- a suffix of a list of names has only names
 pub names_rest : (n : ℕ) (vs : List Value) → AllNames vs → AllNames (drop n vs)
 names_rest n vs h = names_all (drop n vs) (names_drop n vs (list_all-names vs h))
-
-pub are_last_names : (n : ℕ) (vs : List Value) → AllNames (last_names n vs)
-are_last_names n vs =
-    names_rest (length (names_below vs) - n) (names_below vs) (AllNames-names_below vs)
 
 -- two lists of names, one after the other, have only names
 pub names_append : (vs ws : List Value) → AllNames vs → AllNames ws → AllNames (vs ++ ws)
 names_append [] ws h k = k
 names_append (Normal name ∷ vs) ws h k = names_append vs ws h k
 names_append (v ∷ vs) ws h k = absurd h
-
--- if n is not 0, and the names that remain of vs after resolving are those of ws followed by
--- `name`, then `last_names n vs` is `last_names (n - 1) ws` followed by `name`
-pub last_names-push : (n : ℕ) (vs ws : List Value) (name : List ℕ) → 0 < n
-    → names_below vs ≡ names_below ws ++ Normal name ∷ []
-    → last_names n vs ≡ last_names (n - 1) ws ++ Normal name ∷ []
-last_names-push n vs ws name some e =
-    let names = names_below ws in
-    ap₂ drop {y = length names - (n - 1)} (omega (
-      arith,
-      ap length e,
-      length-append names (Normal name ∷ []),
-      some,
-    )) e
-    ∙ drop-append-le (length names - (n - 1)) names (Normal name ∷ []) (omega arith)
 
 -- bytes that are names verbatim are one byte shorter than the names with a slash for each
 pub length-verbatim : {s : List ℕ} {vs : List Value} → AreVerbatim s vs
@@ -89,43 +66,16 @@ length-verbatim {s} {vs} h = by vs h.some h.is
     by (v ∷ vs) some is =
         omega (arith, ap length is, length-slashed_bytes (v ∷ vs), slashed_len-cons v vs)
 
--- if n is greater than the length of the path, its last n resolved names are all of them
-pub all_names : (s : List ℕ) (n : ℕ) → 1 + length s ≤ n
-    → last_names n (values s) ≡ names_below (values s)
-all_names s n l =
-    let none : length (names_below (values s)) - n ≡ 0 = omega (
-      arith,
-      slashed_len-names s,
-      length-le-slashed_len (names_below (values s)),
-    ) in
-    ap (λ k. drop k (names_below (values s))) none
-
--- the canonical form of n times `..` and then the names vs consists of the bytes of these
--- components, with slashes between them
-pub spelling_of-parent_dir_run : (n : ℕ) (vs : List Value) → AllNames vs
-    → spelling_of (replicate n ParentDir ++ vs) ≡ slashed_bytes (replicate n ParentDir ++ vs)
-spelling_of-parent_dir_run n vs h =
-    spelling_of-straight (replicate n ParentDir ++ vs) (straight n vs h)
-
--- the length of n times `..` and then vs, with slashes between them, is 3 * n plus the length of vs
--- with a slash for each component, minus 1; without components it is 0
-pub length-parent_dir_run : (n : ℕ) (vs : List Value)
-    → length (slashed_bytes (replicate n ParentDir ++ vs)) ≡ (3 * n + slashed_len vs) - 1
-length-parent_dir_run n vs = omega (
-  arith,
-  length-slashed_bytes (replicate n ParentDir ++ vs),
-  slashed_len-parent_dir_run n vs,
-)
-
 -- the names and the `..` that remain of a path without a root, with a slash for each, are no longer
 -- than the path and a slash
 pub length-rootless : (s : List ℕ) → is_rooted s ≡ false
     → slashed_len (names_below (values s)) + 3 * remaining_parent_dirs (values s) ≤ 1 + length s
-length-rootless s r = omega (
+length-rootless s r = grind (
   arith,
   ap length (resolved_bytes_of-rootless s r),
-  length-parent_dir_run (remaining_parent_dirs (values s)) (names_below (values s)),
   length-resolved s,
+  length-slashed_bytes,
+  slashed_len-parent_dir_run,
 )
 
 -- if ws are written to the end of `out`, vs before them, and `..` before vs from index 0 on, and
@@ -138,9 +88,7 @@ pub puts_layout : {ws vs : List Value} {mid end : ℕ} {out made more new : List
     → length out ≡ length (slashed_bytes (replicate n ParentDir ++ (vs ++ ws)))
     → new ≡ slashed_bytes (replicate n ParentDir ++ (vs ++ ws))
 puts_layout {ws} {vs} {mid} {end} {out} {made} {more} {new} g h parent_dirs same n e =
-    let size : length out ≡ (3 * n + (slashed_len vs + slashed_len ws)) - 1 =
-    omega (arith, e, length-parent_dir_run n (vs ++ ws), slashed_len-append vs ws) in
-    by (replicate n ParentDir ++ (vs ++ ws)) refl size
+    grind (arith, slashed_len-append, by, length-slashed_bytes, slashed_len-parent_dir_run)
   where
     by : (all : List Value) → replicate n ParentDir ++ (vs ++ ws) ≡ all
         → length out ≡ (3 * n + (slashed_len vs + slashed_len ws)) - 1
@@ -148,16 +96,7 @@ puts_layout {ws} {vs} {mid} {end} {out} {made} {more} {new} g h parent_dirs same
     by [] f size = nil_from_length new (same ∙ e ∙ ap (λ vs. length (slashed_bytes vs)) f)
         ∙ ap slashed_bytes (sym f)
     by (x ∷ xs) f size =
-        let at : end ≡ 3 * n = omega (
-          arith,
-          size,
-          g.size,
-          h.size,
-          ap slashed_len f,
-          slashed_len-cons x xs,
-          slashed_len-parent_dir_run n (vs ++ ws),
-          slashed_len-append vs ws,
-        ) in
+        let at : end ≡ 3 * n = grind (arith, common_steps) in
         puts_all (puts_then (puts_then g h) (parent_dirs n at))
 
 -- the last n resolved names of a path, with a slash for each, are no longer than the path and a
@@ -176,103 +115,72 @@ last_names_fit n s =
 -- ---- layouts
 
 pub are_layout_names : (l : Layout) → AllNames (layout_names l)
-are_layout_names l = names_append (names_in l.names) (names_in l.more)
-    (are_last_names l.names.count (values l.names.path.bytes.now))
-    (are_last_names l.more.count (values l.more.path.bytes.now))
+are_layout_names l = grind (arith, names_append, names_rest, AllNames-names_below)
 
 -- if a layout has a root, its canonical form is a slash and then its names, with slashes between
 -- them
 pub layout-rooted : (l : Layout) → l.has_root ≡ true
     → spelling_of (layout_values l) ≡ slash ∷ slashed_bytes (layout_names l)
-layout-rooted l r =
-    ap (λ b. spelling_of (cond b (RootDir ∷ layout_names l)
-    (replicate l.parent_dirs ParentDir ++ layout_names l))) r ∙ spelling_of-root (layout_names l)
+layout-rooted l r = grind (arith, spelling_of-root)
 
 -- if a layout has no root, its canonical form consists of its `..` and then its names, with slashes
 -- between all of them
 pub layout-rootless : (l : Layout) → l.has_root ≡ false
     → spelling_of (layout_values l)
     ≡ slashed_bytes (replicate l.parent_dirs ParentDir ++ layout_names l)
-layout-rootless l r =
-    ap (λ b. spelling_of (cond b (RootDir ∷ layout_names l)
-    (replicate l.parent_dirs ParentDir ++ layout_names l))) r
-    ∙ spelling_of-parent_dir_run l.parent_dirs (layout_names l) (are_layout_names l)
+layout-rootless l r = grind (arith, are_layout_names, spelling_of-straight, straight)
 
 pub layout_names-len : (l : Layout) → slashed_len (layout_names l) ≡ l.names.len + l.more.len
-layout_names-len l = omega (
-  arith,
-  slashed_len-append (names_in l.names) (names_in l.more),
-  l.names.len_is,
-  l.more.len_is,
-)
+layout_names-len l = grind (arith, slashed_len-append)
 
 -- if a layout has a root, its canonical form is one byte longer than its names with slashes between
 -- them
 pub length-rooted_layout : (l : Layout) → l.has_root ≡ true
     → length (spelling_of (layout_values l)) ≡ 1 + ((l.names.len + l.more.len) - 1)
-length-rooted_layout l r = omega (
-  arith,
-  ap length (layout-rooted l r),
-  length-slashed_bytes (layout_names l),
-  layout_names-len l,
-)
+length-rooted_layout l r =
+    grind (arith, layout-rooted l r, length-slashed_bytes (layout_names l), layout_names-len l)
 
 pub length-rootless_layout : (l : Layout) → l.has_root ≡ false
     → length (spelling_of (layout_values l)) ≡ (3 * l.parent_dirs + (l.names.len + l.more.len)) - 1
-length-rootless_layout l r = omega (
-  arith,
-  ap length (layout-rootless l r),
-  length-parent_dir_run l.parent_dirs (layout_names l),
-  layout_names-len l,
-)
-
--- the components of a layout: the root if the first argument is true, and otherwise n times `..`;
--- and then vs
-abbrev pub laid_out : Bool → ℕ → List Value → List Value
-laid_out r n vs = cond r (RootDir ∷ vs) (replicate n ParentDir ++ vs)
+length-rootless_layout l r =
+    simp (layout-rootless, layout_names-len, length-slashed_bytes, slashed_len-parent_dir_run)
 
 -- if t is a path of names only that represents the names of s, and s has a root or t and s resolve
 -- to the same components, then no `..` remains of s
 pub no_parent_dirs : {t s : List ℕ} → RepresentsNames t s
     → (is_rooted s ≡ false → resolved_of (values t) ≡ resolved_of (values s))
     → is_names_only t ≡ true → 0 ≡ remaining_parent_dirs (values s)
-no_parent_dirs {t} {s} represents_names same h = by_test (is_rooted s)
-    (λ r. sym (remaining_parent_dirs-rooted s r))
-    (λ r. let n = remaining_parent_dirs (values s) in omega (
-      arith,
-      ap length (resolved_of-rootless s r),
-      ap length (same r),
-      ap length (resolved_values t (resolved-names_only t h)),
-      ap length (names_below-names (values t)
-          (names_only_has_names t h represents_names.rootless).names),
-      ap length represents_names.names,
-      length-append (replicate n ParentDir) (names_below (values s)),
-      length-replicate n ParentDir,
-    ))
-
--- if r says whether s has a root, n is the number of `..` that remain of s, and vs are the resolved
--- names of s, `laid_out r n vs` are the resolved components of s
-pub laid_out-resolved : {r : Bool} {n : ℕ} {vs : List Value} (s : List ℕ) → r ≡ is_rooted s
-    → n ≡ remaining_parent_dirs (values s) → vs ≡ names_below (values s)
-    → laid_out r n vs ≡ resolved_of (values s)
-laid_out-resolved {r} {n} {vs} s root parent_dirs names =
-    ap (λ r. laid_out r n vs) root ∙ ap (laid_out (is_rooted s) n) names
-    ∙ by_test (is_rooted s)
-    (λ r. ap (λ b. laid_out b n (names_below (values s))) r ∙ sym (resolved_of-rooted s r))
-    (λ r. ap (λ b. laid_out b n (names_below (values s))) r
-    ∙ ap (λ n. replicate n ParentDir ++ names_below (values s)) parent_dirs
-    ∙ sym (resolved_of-rootless s r))
+no_parent_dirs {t} {s} represents_names same h = grind (
+  arith,
+  remaining_parent_dirs-rooted,
+  resolved_of-rootless,
+  resolved_values,
+  resolved-names_only,
+  names_below-names,
+  names_only_has_names,
+  length-append,
+  length-replicate,
+)
 
 -- writing `new` over all bytes of a buffer after the first, and a slash over the first, makes the
 -- buffer a slash and then `new`
 pub slash_first : (out new : List ℕ) → 0 < length out → length new ≡ length out - 1
     → set (put_mid 1 (length out - 1) out new) 0 slash ≡ slash ∷ new
 slash_first [] new some e = absurd (omega (arith, some))
-slash_first (x ∷ s) new some e =
-    ap (λ u. slash ∷ new ++ u) (drop_all (length (x ∷ s) - 1) s (omega arith))
-    ∙ append-nil (slash ∷ new)
+slash_first (x ∷ s) new some e = grind (arith, drop_all, append-nil)
 
 pub first_fits : (out new : List ℕ) → 0 < length out
     → 0 < length (put_mid 1 (length out - 1) out new)
 first_fits [] new some = absurd (omega (arith, some))
 first_fits (x ∷ s) new some = omega arith
+
+pub ruleset count_resolved_cases = (
+  slashed_len-names,
+  length-le-slashed_len,
+  length-append,
+  remaining_parent_dirs-rooted,
+)
+
+pub ruleset layout_len_cases = (length-rooted_layout, length-rootless_layout)
+
+pub ruleset names_put_before_cases = (length-verbatim, puts_verbatim, puts_none, no_names)

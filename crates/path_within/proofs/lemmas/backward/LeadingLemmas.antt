@@ -1,12 +1,12 @@
 -- The components before the names of a resolved path: a root, or zero or more `..`.
 use Rattle.std.proofs.Common.{◌≡◌, ℕ, suc, zero, true, false, List, [], ◌∷◌, ◌++◌, reverse, refl}
-use Rattle.std.proofs.Common.{sym, ap, ap₂, ◌∙◌, add-one, Bool}
+use Rattle.std.proofs.Common.{sym, ap, ◌∙◌, add-one, Bool, arith}
 use Rattle.std.proofs.Math.ListN.{replicate}
 use Rattle.std.proofs.lemmas.Grind.{reverse_onto}
 use Rattle.std.proofs.lemmas.List.{replicate_more, reverse-append}
 use Rattle.unix_path.specs.Parts.{Value, RootDir, CurDir, ParentDir, Normal, is_rooted, values}
 use Rattle.unix_path.proofs.lemmas.rests.RootLemmas.{NoRoot}
-use Rattle.path_runs.specs.Spelling.{slashed_bytes, spelling_of}
+use Rattle.path_runs.specs.Spelling.{slashed_bytes}
 use Rattle.path_runs.proofs.lemmas.spelling.PieceValueLemmas.{is_rooted-slash}
 use Rattle.path_within.specs.Backward.{parent_dir_count, remaining_parent_dirs}
 use Rattle.path_within.specs.Below.{names_below}
@@ -39,8 +39,7 @@ record LeavesParentDirs (stack below : List Value) : Type 0 where
 leaves_parent_dirs : (n : ℕ) (ks vs : List Value) → AllNames ks → NoRoot vs
     → LeavesParentDirs (resolve_onto (ks ++ replicate n ParentDir) vs)
     (resolve_onto (on_root ks) vs)
-leaves_parent_dirs n ks [] h r =
-    record { parent_dirs = n; names = ks; are = h; stack_is = refl; below_is = refl }
+leaves_parent_dirs n ks [] h r = grind arith
 leaves_parent_dirs n ks (RootDir ∷ vs) h r = absurd r
 leaves_parent_dirs n ks (CurDir ∷ vs) h r = leaves_parent_dirs n ks vs h r
 leaves_parent_dirs n ks (Normal name ∷ vs) h r = leaves_parent_dirs n (Normal name ∷ ks) vs h r
@@ -70,11 +69,7 @@ pub resolved_of-rootless : (s : List ℕ) → is_rooted s ≡ false
 unfolding resolved_of remaining_parent_dirs
 resolved_of-rootless s r =
     let h = leaves_parent_dirs 0 [] (values s) tt (rootless-no_roots s r) in
-    ap reverse h.stack_is ∙ reverse-append h.names (replicate h.parent_dirs ParentDir)
-    ∙ ap₂ (λ us ns. us ++ ns) (reverse-parent_dir_run h.parent_dirs
-    ∙ ap (λ n. replicate n ParentDir)
-    (sym (ap parent_dir_count h.stack_is ∙ parent_dir_count-stack h.names h.parent_dirs h.are)))
-    (sym (names_below-stack (values s) h.names h.below_is))
+    grind (arith, reverse-append, reverse-parent_dir_run, parent_dir_count-stack, names_below-stack)
 
 pub straight : (n : ℕ) (vs : List Value) → AllNames vs
     → ParentDirsThenNames (replicate n ParentDir ++ vs)
@@ -89,17 +84,12 @@ pub resolved_bytes_of-rootless : (s : List ℕ) → is_rooted s ≡ false
     ++ names_below (values s))
 resolved_bytes_of-rootless s r =
     let n = remaining_parent_dirs (values s) in
-    ap spelling_of (resolved_of-rootless s r)
-    ∙ spelling_of-straight (replicate n ParentDir ++ names_below (values s))
-    (straight n (names_below (values s)) (AllNames-names_below (values s)))
+    simp (resolved_of-rootless, spelling_of-straight, straight, AllNames-names_below)
 
 -- a path with a root resolves to the root and its names
 pub resolved_of-rooted : (s : List ℕ) → is_rooted s ≡ true
     → resolved_of (values s) ≡ RootDir ∷ names_below (values s)
-resolved_of-rooted s r =
-    let t = is_rooted-slash s r in
-    ap (λ s. resolved_of (values s)) t.1 ∙ resolved_of-slash t.0
-    ∙ ap (λ vs. RootDir ∷ vs) (sym (ap (λ s. names_below (values s)) t.1 ∙ names_below-slash t.0))
+resolved_of-rooted s r = grind (arith, is_rooted-slash, resolved_of-slash, names_below-slash)
 
 -- a list of only the root if the argument is true, and otherwise the empty list
 abbrev pub root_if : Bool → List Value
@@ -122,9 +112,7 @@ unfolding remaining_parent_dirs
 remaining_parent_dirs-rooted s r =
     let t = is_rooted-slash s r in
     let found = names_on_stack (inner_values t.0) in
-    ap (λ s. parent_dir_count (resolve_onto [] (values s))) t.1
-    ∙ ap (λ vs. parent_dir_count (resolve_onto [] vs)) (values-slash t.0)
-    ∙ ap parent_dir_count found.2 ∙ none found.0 found.1
+    grind (arith, values-slash, none)
   where
     none : (ns : List Value) → AllNames ns → parent_dir_count (ns ++ RootDir ∷ []) ≡ 0
     none [] h = refl

@@ -4,7 +4,7 @@ use Rattle.std.proofs.Common.{◌∷◌, ◌++◌, length, map, take, drop, get_
 use Rattle.std.proofs.Common.{drop-cons, reverse, take-append-drop}
 use Rattle.std.specs.List.{onto_first, position_or_len, slice_split}
 use Rattle.std.proofs.lemmas.Bool.{eqb-false}
-use Rattle.std.proofs.lemmas.List.{length-map, map-append}
+use Rattle.std.proofs.lemmas.List.{length-map, map-append, take_rest}
 use Rattle.std.proofs.lemmas.List.Splits.{length-slice_split, slice_split-cons_no}
 use Rattle.std.proofs.lemmas.List.Sums.{count_by-le-length}
 use Rattle.unix_bytes.proofs.lemmas.lists.ListLemmas.{by_test}
@@ -14,7 +14,7 @@ use Rattle.unix_path.specs.Parts.{value_of_piece, values}
 use Rattle.unix_path.proofs.lemmas.parts.CutLemmas.{slice_split-append}
 use Rattle.path_runs.proofs.lemmas.joins.LeadLemmas.{drop_dot-values, roots_same}
 use Rattle.path_runs.proofs.lemmas.spelling.PieceValueLemmas.{inner_values-pieces, names_of}
-use Rattle.path_within.specs.Backward.{piece_value, piece_values, parent_dir_count}
+use Rattle.path_within.specs.Backward.{piece_value, piece_values}
 use Rattle.path_within.specs.Backward.{remaining_parent_dirs}
 use Rattle.path_within.specs.Below.{names_below}
 use Rattle.path_within.specs.Resolved.{push_component, resolve_onto, resolved_of}
@@ -36,9 +36,7 @@ resolve_onto-pieces ks (p ∷ ps) = by_test (counts p)
 
 resolve_onto-inner : (ks : List Value) (s : List ℕ)
     → resolve_onto ks (piece_values s) ≡ resolve_onto ks (inner_values s)
-resolve_onto-inner ks s =
-    resolve_onto-pieces ks (slice_split is_slash s)
-    ∙ ap (resolve_onto ks) (sym (inner_values-pieces s))
+resolve_onto-inner ks s = simp (resolve_onto-pieces, inner_values-pieces)
 
 -- resolving the pieces of a path leaves the same names as resolving the path
 pub names_below-pieces : (s : List ℕ) → names_below (piece_values s) ≡ names_below (values s)
@@ -52,17 +50,11 @@ pub remaining_parent_dirs-pieces : (s : List ℕ) → is_rooted s ≡ false
     → remaining_parent_dirs (piece_values s) ≡ remaining_parent_dirs (values s)
 unfolding remaining_parent_dirs
 remaining_parent_dirs-pieces s r =
-    ap parent_dir_count (resolve_onto-inner [] s ∙ ap (resolve_onto []) (sym (drop_dot-values s r))
-    ∙ resolve_onto-drop_dot [] (values s))
+    cc (resolve_onto-inner [] s, drop_dot-values s r, resolve_onto-drop_dot [] (values s))
 
 -- a string has at most one more piece than bytes
 pub few_pieces : (s : List ℕ) → length (piece_values s) ≤ length s + 1
-few_pieces s = omega (
-  arith,
-  length-map (slice_split is_slash s) piece_value,
-  length-slice_split is_slash s,
-  count_by-le-length is_slash s,
-)
+few_pieces s = grind (arith, length-map, length-slice_split, count_by-le-length)
 
 -- splitting bytes without a slash at slashes results in one piece
 one_piece : (p : List ℕ) → position_or_len is_slash p ≡ length p → slice_split is_slash p ≡ p ∷ []
@@ -89,17 +81,12 @@ last_piece {u} {p} s n some in_range here e f none =
     let cut : s ≡ u ++ slash ∷ p =
     sym (take-append-drop (n - 1) s) ∙ ap (λ t. take (n - 1) s ++ t) cons
     ∙ ap (λ t. t ++ slash ∷ p) (sym e) in
-    ap (λ s. map piece_value (slice_split is_slash s)) cut
-    ∙ ap (map piece_value) (slice_split-append u p)
-    ∙ map-append piece_value (slice_split is_slash u) (slice_split is_slash p)
-    ∙ ap (λ ps. piece_values u ++ map piece_value ps) (one_piece p none)
+    grind (arith, slice_split-append, map-append, one_piece)
 
 -- if p is s and has no slash, p is the only piece of s
 pub only_piece : {s p : List ℕ} → p ≡ s → position_or_len is_slash p ≡ length p
     → piece_values s ≡ piece_value p ∷ []
-only_piece {s} {p} e none =
-    ap (λ s. map piece_value (slice_split is_slash s)) (sym e)
-    ∙ ap (map piece_value) (one_piece p none)
+only_piece {s} {p} e none = cc (one_piece p none)
 
 -- the pieces of s are the pieces before its last slash, if it has a slash, and then the last piece,
 -- v, which begins at index n
@@ -125,11 +112,8 @@ not_filler-rootless (x ∷ s) not_filler = grind (arith, not_filler)
 -- represents the names of s
 pub after_filler-represents_names : (u t s : List ℕ) → values u ≡ values s
     → inner_values u ≡ inner_values t → is_filler t 0 ≡ false → RepresentsNames t s
-after_filler-represents_names u t s same inner not_filler = record {
-  rootless = not_filler-rootless t not_filler;
-  names = ap names_below (values-not_filler t not_filler ∙ sym inner) ∙ names_below-inner u
-      ∙ ap names_below same;
-}
+after_filler-represents_names u t s same inner not_filler =
+    grind (arith, not_filler-rootless, values-not_filler, names_below-inner)
 
 -- if u has the components of s and the inner components of t, t does not begin with filler, and s
 -- has no root, then t resolves to the same components as s
@@ -141,3 +125,12 @@ after_filler-resolved u t s same inner not_filler r =
     ap resolved_of (values-not_filler t not_filler ∙ sym inner)
     ∙ ap reverse (ap (resolve_onto []) (sym (drop_dot-values u (roots_same u s same ∙ r)))
     ∙ resolve_onto-drop_dot [] (values u)) ∙ ap resolved_of same
+
+pub ruleset pieces_new_cases = (
+  names_below-pieces,
+  remaining_parent_dirs-pieces,
+  roots_same,
+  few_pieces,
+)
+
+pub ruleset pieces_next_back_cases = (taken_piece, take_rest)

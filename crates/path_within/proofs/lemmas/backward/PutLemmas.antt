@@ -31,19 +31,12 @@ no_names (v ∷ vs) e = absurd (omega (arith, e, slashed_len-cons v vs))
 
 -- writing no components changes nothing
 pub puts_none : {vs : List Value} {end : ℕ} {out : List ℕ} → vs ≡ [] → Puts vs end out end out
-puts_none {vs} {end} {out} e = record {
-  size = omega (arith, ap slashed_len e);
-  bytes = λ ws h. h ∙ ap (λ vs. slash_each (vs ++ ws)) (sym e);
-}
+puts_none {vs} {end} {out} e = grind arith
 
 -- if ws are written before `end`, and then vs before ws, this writes vs and then ws before `end`
 pub puts_then : {vs ws : List Value} {end mid start : ℕ} {out made new : List ℕ}
     → Puts ws end out mid made → Puts vs mid made start new → Puts (vs ++ ws) end out start new
-puts_then {vs} {ws} g h = record {
-  size = omega (arith, g.size, h.size, slashed_len-append vs ws);
-  bytes = λ us e. h.bytes (ws ++ us) (g.bytes us e)
-      ∙ ap slash_each (sym (append_assoc vs ws us));
-}
+puts_then {vs} {ws} g h = grind (arith, slashed_len-append, append_assoc)
 
 -- if the bytes of `new` from `start` on are a slash, `bytes`, which are the names vs verbatim, and
 -- then the bytes of `out` from `end` on, `Puts` is true of vs
@@ -59,13 +52,7 @@ puts_verbatim {end} {start} {out} {new} {bytes} {vs} h e f = by vs h.some h.is
         let each : slash ∷ bytes ≡ slash_each (v ∷ vs) =
         ap (λ s. slash ∷ s) (is ∙ slashed_bytes-cons v vs) in
         record {
-          size = omega (
-            arith,
-            e,
-            ap length is,
-            length-slashed_bytes (v ∷ vs),
-            slashed_len-cons v vs,
-          );
+          size = grind (arith, length-slashed_bytes (v ∷ vs), slashed_len-cons v vs);
           bytes = λ ws g. f ∙ ap (λ s. (slash ∷ bytes) ++ s) g
               ∙ ap (λ s. s ++ slash_each ws) each ∙ sym (slash_each-append (v ∷ vs) ws);
         }

@@ -16,14 +16,13 @@ use Rattle.unix_path.proofs.lemmas.filler.FillerLemmas.{is_filler-drop, values-n
 use Rattle.unix_path.proofs.lemmas.parts.PlaceLemmas.{values-inner_parts}
 use Rattle.path_within.specs.Backward.{SharePrefix, TakesLast}
 use Rattle.path_within.specs.NamePieces.{name_starts_at}
-use Rattle.path_within.specs.Steps.{ReadsAsItself}
 use Rattle.path_within.proofs.lemmas.stack.PathOfLemmas.{ReadsAsItself-values}
-use Rattle.std.proofs.lemmas.List.Sums.{common_prefix_len-le}
 use Rattle.unix_path.specs.Order.{same_value}
 use Rattle.path_within.specs.WrittenBytes.{slashed_len}
 use Rattle.path_within.proofs.lemmas.below.BoundLemmas.{slashed_len-cons}
 use Rattle.path_within.proofs.lemmas.stack.BetweenLemmas.{shared_count, shared_count-behind}
 use Rattle.std.proofs.Math.Seq.{drop-append-add}
+use Rattle.path_within.proofs.lemmas.backward.PutLemmas.{slashed_len-push}
 
 -- the state while `all_first` and `all_second` are compared from their ends. Of both lists as many
 -- components remain, `remaining_count`: `first` and `second`. If these are equal, both lists begin
@@ -48,37 +47,7 @@ pub record Shares (all_first all_second first second : List Value)
 pub takes_last : {all remaining vs : List Value} {count len : ℕ} (v : Value)
     → TakesLast all remaining count len → remaining ≡ vs ++ v ∷ []
     → TakesLast all vs (count + 1) (len + (1 + length (value_bytes v)))
-takes_last {vs = vs} v h e = record {
-  taken = v ∷ h.taken;
-  all_is = h.all_is ∙ ap (λ s. s ++ h.taken) e ∙ append_assoc vs (v ∷ []) h.taken;
-  count_is = omega (arith, h.count_is);
-  len_is = omega (arith, h.len_is, slashed_len-cons v h.taken);
-}
-
--- `Shares` is true before any components are compared, after the extra last components of the
--- longer list have been taken
-pub shares_first : {first second : List Value} {m n j k rest behind : ℕ} (v w : List Value)
-    → m ≡ length v → n ≡ length w → TakesLast v first j rest → TakesLast w second k behind
-    → j ≡ m - n → k ≡ n - m → Shares v w first second (min m n) (min m n) behind behind
-shares_first {first} {second} v w e f g h a b =
-    let none : shared_count g.taken h.taken ≡ 0 = omega (
-      arith,
-      (common_prefix_len-le same_value g.taken h.taken).0,
-      (common_prefix_len-le same_value g.taken h.taken).1,
-      g.count_is,
-      h.count_is,
-    ) in
-    record {
-      first_taken = g.taken;
-      second_taken = h.taken;
-      first_is = g.all_is;
-      second_is = h.all_is;
-      first_size = omega (arith, ap length g.all_is, length-append first g.taken, g.count_is);
-      second_size = omega (arith, ap length h.all_is, length-append second h.taken, h.count_is);
-      shared_is = omega (arith, none);
-      behind_is = h.len_is;
-      len_is = h.len_is ∙ ap (λ k. slashed_len (drop k h.taken)) (sym none);
-    }
+takes_last {vs = vs} v h e = grind (arith, append_assoc, slashed_len-cons)
 
 -- after v and w, the last remaining components of the two lists, are taken, `Shares` is still true:
 -- if v and w are equal, `shared` and `len` stay, and otherwise only components before v and w can
@@ -90,62 +59,12 @@ pub shares_taken : {all_first all_second first second vs ws : List Value}
     → (let now = behind + (1 + length (value_bytes w)) in Shares all_first all_second vs ws
     (remaining_count - 1) (cond b shared (remaining_count - 1)) now (cond b len now))
 shares_taken {vs = vs} {ws = ws} {remaining_count} {shared} {behind} {len} b v w h e f same =
-    record {
-      first_taken = v ∷ h.first_taken;
-      second_taken = w ∷ h.second_taken;
-      first_is = h.first_is ∙ ap (λ s. s ++ h.first_taken) e
-          ∙ append_assoc vs (v ∷ []) h.first_taken;
-      second_is = h.second_is ∙ ap (λ s. s ++ h.second_taken) f
-          ∙ append_assoc ws (w ∷ []) h.second_taken;
-      first_size = omega (arith, h.first_size, ap length e, length-append vs (v ∷ []));
-      second_size = omega (arith, h.second_size, ap length f, length-append ws (w ∷ []));
-      shared_is = shared_now b same;
-      behind_is = omega (arith, h.behind_is, slashed_len-cons w h.second_taken);
-      len_is = len_now b same;
-    }
-  where
-    shared_now : (b : Bool) → same_value v w ≡ b → cond b shared (remaining_count - 1)
-        ≡ remaining_count - 1 + shared_count (v ∷ h.first_taken) (w ∷ h.second_taken)
-    shared_now true same =
-        rw same (omega (arith, h.shared_is, h.first_size, ap length e, length-append vs (v ∷ [])))
-    shared_now false same = rw same (omega arith)
-
-    len_now : (b : Bool) → same_value v w ≡ b → cond b len (behind + (1 + length (value_bytes w)))
-        ≡ slashed_len (drop (shared_count (v ∷ h.first_taken) (w ∷ h.second_taken))
-        (w ∷ h.second_taken))
-    len_now true same = h.len_is ∙ rw same (ap slashed_len (sym (drop-suc_cons
-        (shared_count h.first_taken h.second_taken) w h.second_taken)))
-    len_now false same = rw same (omega (arith, h.behind_is, slashed_len-cons w h.second_taken))
-
--- when no component remains, `shared` is the number of components that both lists begin with, and
--- `len` is the length of the second list's components after them
-pub shares_last : {v w first second : List Value} {remaining_count shared behind len : ℕ}
-    → Shares v w first second remaining_count shared behind len → first ≡ []
-    → (shared ≡ shared_count v w) × (len ≡ slashed_len (drop (shared_count v w) w))
-shares_last {v = v} {w = w} {second = second} {shared = shared} {len = len} h e =
-    by second h.second_is
-    (omega (arith, h.first_size, h.second_size, ap length e))
-  where
-    by : (ws : List Value) → w ≡ ws ++ h.second_taken → length ws ≡ 0
-        → (shared ≡ shared_count v w) × (len ≡ slashed_len (drop (shared_count v w) w))
-    by [] f g =
-        let first_is = h.first_is ∙ ap (λ s. s ++ h.first_taken) e in
-        let both = ap₂ shared_count first_is f in (
-          omega (arith, h.shared_is, h.first_size, ap length e, both),
-          h.len_is ∙ sym (ap₂ (λ n s. slashed_len (drop n s)) both f),
-        )
-    by (x ∷ ws) f g = absurd (omega (arith, g))
+    grind (arith, append_assoc, length-append, slashed_len-cons, drop-suc_cons)
 
 -- two components that are equal if their bytes are equal can be compared by their bytes
 by_bytes : (x y : Value) → (value_bytes x ≡ value_bytes y → x ≡ y)
     → same_value x y ≡ bytes_eq (value_bytes x) (value_bytes y)
-by_bytes x y h = by_test (bytes_eq (value_bytes x) (value_bytes y))
-    (λ e. (same_value-Decides x y).1 (h ((bytes_eq-Decides (value_bytes x) (value_bytes y)).0 e))
-    ∙ sym e)
-    (λ e. false_from_ne_true _ (λ f.
-    let yes = (bytes_eq-Decides (value_bytes x) (value_bytes y)).1
-    (ap value_bytes ((same_value-Decides x y).0 f)) in
-    let no : true ≡ false = sym yes ∙ e in absurd (cc)) ∙ sym e)
+by_bytes x y h = grind (arith, same_value-Decides, bytes_eq-Decides, false_from_ne_true)
 
 -- names can be compared by their bytes
 pub same_bytes : (a b : List ℕ) → same_value (Normal a) (Normal b) ≡ bytes_eq a b
@@ -155,10 +74,7 @@ same_bytes a b = by_bytes (Normal a) (Normal b) (ap Normal)
 pub same_first : (s t : List ℕ) {x y : Value} {remaining other_remaining : List Value} → values s
     ≡ x ∷ remaining
     → values t ≡ y ∷ other_remaining → same_value x y ≡ bytes_eq (value_bytes x) (value_bytes y)
-same_first s t {x} {y} e f =
-    let own = (subst ReadsAsItself e (ReadsAsItself-values s)).0 in
-    let other = (subst ReadsAsItself f (ReadsAsItself-values t)).0 in
-    by_bytes x y (λ same. let one : x ∷ [] ≡ y ∷ [] = sym own ∙ ap values same ∙ other in cc)
+same_first s t {x} {y} e f = grind (arith, ReadsAsItself-values, by_bytes)
 
 -- if two lists begin with the same component, the rests of the lists after their common prefix are
 -- the rests of their tails after the common prefix of the tails
@@ -169,12 +85,8 @@ pub drop_shared : {v w remaining other_remaining : List Value} {x y : Value} →
     × (drop (shared_count remaining other_remaining) other_remaining ≡ drop (shared_count v w) w)
 drop_shared {remaining = remaining} {other_remaining = other_remaining} {x = x} {y = y} e f same =
     let n = shared_count remaining other_remaining in
-    let more : shared_count (x ∷ remaining) (y ∷ other_remaining) ≡ suc n = rw same (omega arith)
-    in (
-      sym (ap₂ (λ v w. drop (shared_count v w) v) e f ∙ ap (λ k. drop k (x ∷ remaining)) more),
-      sym (ap₂ (λ v w. drop (shared_count v w) w) e f
-          ∙ ap (λ k. drop k (y ∷ other_remaining)) more),
-    )
+    let more : shared_count (x ∷ remaining) (y ∷ other_remaining) ≡ suc n = rw same (omega arith) in
+    grind arith
 
 -- two lists that begin with different components share none
 pub none_shared : {v w remaining other_remaining : List Value} {x y : Value} → v ≡ x ∷ remaining → w
@@ -198,9 +110,8 @@ none_shared_if_second_empty v e = ap (shared_count v) e ∙ by v
 -- if a name starts at index n of s, no filler starts there
 not_filler_at_name : (s : List ℕ) (n : ℕ) → name_starts_at s n ≡ true → is_filler (drop n s) 0
     ≡ false
-not_filler_at_name s n h = is_filler-drop s n ∙ by_test (ltb n (length s))
-    (λ t. let here = get_or_default s n 0 47 (ltb-true n (length s) t) in grind (arith, here))
-    (λ t. let past = get_or_past s n 47 (ltb-false n (length s) t) in grind (arith, past))
+not_filler_at_name s n h =
+    grind (arith, is_filler-drop, get_or_default, ltb-true, get_or_past, ltb-false)
 
 -- if n is the end of the common directory of s and t, and a name starts at index n in both, then s
 -- and t have the same components up to n
@@ -234,13 +145,6 @@ pub after_shared_end : {u v : List ℕ} (s t : List ℕ) {n : ℕ} → SharePref
     × (drop (shared_count (values u) (values v)) (values v)
     ≡ drop (shared_count (values s) (values t)) (values t))
 after_shared_end {u} {v} s t h e f =
-    let first : values s ≡ h.shared ++ values u =
-    h.first ∙ ap (λ s. h.shared ++ values s) (sym e) in
-    let second : values t ≡ h.shared ++ values v =
-    h.second ∙ ap (λ s. h.shared ++ values s) (sym f) in
-    let n = shared_count (values u) (values v) in
-    let all : shared_count (values s) (values t) ≡ length h.shared + n =
-    ap₂ shared_count first second ∙ shared_count-behind h.shared (values u) (values v) in (
-      sym (ap₂ drop all first ∙ drop-append-add h.shared (values u) n),
-      sym (ap₂ drop all second ∙ drop-append-add h.shared (values v) n),
-    )
+    grind (arith, shared_count-behind, drop-append-add)
+
+pub ruleset skip_last_names_cases = (length-append, takes_last, slashed_len-push)

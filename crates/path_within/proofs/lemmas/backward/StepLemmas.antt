@@ -1,7 +1,7 @@
 -- The relative path between two paths: `..` and names, or none.
-use Rattle.std.proofs.Common.{◌≡◌, ℕ, suc, ◌+◌, ◌-◌, ◌*◌, ◌<◌, ◌≤◌, true, false, List, [], ◌∷◌}
+use Rattle.std.proofs.Common.{◌≡◌, ℕ, ◌+◌, ◌-◌, ◌<◌, true, List, [], ◌∷◌}
 use Rattle.std.proofs.Common.{◌++◌, length, drop, Some, None, refl, sym, ap, ap₂, ◌∙◌, arith}
-use Rattle.std.proofs.Common.{append_assoc, length-drop, option_map, subst}
+use Rattle.std.proofs.Common.{append_assoc, length-drop, option_map}
 use Rattle.std.proofs.lemmas.List.{drop_all, replicate-append-replicate}
 use Rattle.path_within.specs.Resolved.{resolved_of, AllNames, ParentDirsThenNames}
 use Rattle.path_within.specs.NamePieces.{is_names_only}
@@ -10,8 +10,8 @@ use Rattle.path_within.proofs.lemmas.names_only.NamesOnlyLemmas.{resolved-names_
 use Rattle.unix_bytes.proofs.lemmas.lists.ListLemmas.{by_test}
 use Rattle.unix_path.proofs.lemmas.callers.CallerLemmas.{same_value-Decides}
 use Rattle.path_within.specs.Backward.{last_names, remaining_parent_dirs}
-use Rattle.path_within.proofs.lemmas.backward.LayoutLemmas.{length-rootless, names_rest}
-use Rattle.path_within.proofs.lemmas.backward.LeadingLemmas.{root_if, names_only_values}
+use Rattle.path_within.proofs.lemmas.backward.LayoutLemmas.{names_rest}
+use Rattle.path_within.proofs.lemmas.backward.LeadingLemmas.{names_only_values}
 use Rattle.path_within.proofs.lemmas.backward.LeadingLemmas.{remaining_parent_dirs-rooted}
 use Rattle.path_within.proofs.lemmas.backward.LeadingLemmas.{resolved_of-rooted}
 use Rattle.path_within.proofs.lemmas.backward.LeadingLemmas.{resolved_of-rootless}
@@ -43,9 +43,7 @@ steps_after_prefix f v w h k =
     let n = shared_count v w in
     let names = list_all-names (drop n v) (names_rest n v h) in
     let no_root = straight_rootless (drop n w) (names_straight (drop n w) (names_rest n w k)) in
-    rw (shared_count-behind f v w, drop-append-add f v n, drop-append-add f w n, names, no_root)
-    (ap (λ us. Some (us ++ drop n w)) (parent_dirs_for-count (drop n v)
-    ∙ ap (λ n. replicate n ParentDir) (length-drop n v)))
+    grind (arith, shared_count-behind, drop-append-add, parent_dirs_for-count, length-drop)
 
 -- if v has only names, and w is zero or more `..` and then names, the relative path from f and v to
 -- f, `..` and w has a `..` for each name of v, and then this `..` and w
@@ -56,15 +54,7 @@ steps_parent_dirs f v w h k =
     let none : shared_count v (ParentDir ∷ w) ≡ 0 = by v h in
     let names = list_all-names v h in
     let no_root = straight_rootless (ParentDir ∷ w) k in
-    rw (
-      shared_count-behind f v (ParentDir ∷ w),
-      none,
-      drop-append-add f v 0,
-      drop-append-add f (ParentDir ∷ w) 0,
-      names,
-      no_root,
-    )
-    (ap (λ us. Some (us ++ ParentDir ∷ w)) (parent_dirs_for-count v))
+    grind (arith, shared_count-behind, drop-append-add, parent_dirs_for-count)
   where
     by : (v : List Value) → AllNames v → shared_count v (ParentDir ∷ w) ≡ 0
     by [] h = refl
@@ -75,39 +65,23 @@ steps_parent_dirs f v w h k =
 no_steps_parent_dirs : (f v w : List Value) → AllNames w → steps_from (f ++ ParentDir ∷ v) (f ++ w)
     ≡ None
 no_steps_parent_dirs f v w h =
-    let none : shared_count (ParentDir ∷ v) w ≡ 0 = by w h in
-    rw (shared_count-behind f (ParentDir ∷ v) w, none, drop-append-add f (ParentDir ∷ v) 0) refl
-  where
-    by : (w : List Value) → AllNames w → shared_count (ParentDir ∷ v) w ≡ 0
-    by [] h = refl
-    by (Normal name ∷ w) h = refl
-    by (x ∷ w) h = absurd h
+    grind (arith, shared_count-behind, drop-append-add)
 
 -- ---- two paths
-
--- the `..` that remain of a path without a root, and then its `names_below`, are zero or more `..`
--- and then only names
-rootless : (s : List ℕ) → is_rooted s ≡ false
-    → ParentDirsThenNames
-    (replicate (remaining_parent_dirs (values s)) ParentDir ++ names_below (values s))
-rootless s r = straight (remaining_parent_dirs (values s)) (names_below (values s))
-    (AllNames-names_below (values s))
 
 -- if one path has a root and the other has none, there is no relative path
 pub no_relative_path-roots : (s t : List ℕ) → (is_rooted s ≡ is_rooted t → ⊥)
     → relative_path_of (values s) (values t) ≡ None
 unfolding relative_path_of
-no_relative_path-roots s t differ = by_test (is_rooted s)
-    (λ r. by_test (is_rooted t) (λ q. absurd (differ (r ∙ sym q)))
-    (λ q. ap₂ steps_from (resolved_of-rooted s r) (resolved_of-rootless t q)
-    ∙ from_root (names_below (values s))
-    (replicate (remaining_parent_dirs (values t)) ParentDir ++ names_below (values t))
-    (rootless t q)))
-    (λ r. by_test (is_rooted t)
-    (λ q. ap₂ steps_from (resolved_of-rootless s r) (resolved_of-rooted t q)
-    ∙ to_root (replicate (remaining_parent_dirs (values s)) ParentDir ++ names_below (values s))
-    (names_below (values t)) (rootless s r))
-    (λ q. absurd (differ (r ∙ sym q))))
+no_relative_path-roots s t differ = grind (
+  arith,
+  resolved_of-rooted,
+  resolved_of-rootless,
+  from_root,
+  to_root,
+  straight,
+  AllNames-names_below,
+)
   where
     from_root : (v w : List Value) → ParentDirsThenNames w → steps_from (RootDir ∷ v) w ≡ None
     from_root v [] h = refl
@@ -140,8 +114,7 @@ relative_path-shared s t same e =
 
 split_first_parent_dir : (n : ℕ) (vs : List Value) → 0 < n
     → replicate n ParentDir ++ vs ≡ ParentDir ∷ (replicate (n - 1) ParentDir ++ vs)
-split_first_parent_dir n vs l =
-    ap (λ k. replicate k ParentDir ++ vs) {x = n} {y = suc (n - 1)} (omega arith)
+split_first_parent_dir n vs l = grind arith
 
 -- if m is greater than n, m times `..` and then vs are n times `..`, one more `..`, m - n - 1 times
 -- `..`, and then vs
@@ -197,13 +170,7 @@ no_relative_path-parent_dir_run s t same l =
 -- if a path has m + n resolved names, the last m are the names after the first n
 pub last_others : (m n : ℕ) (s : List ℕ) → m + n ≡ length (names_below (values s))
     → last_names m (values s) ≡ drop n (names_below (values s))
-last_others m n s e = ap (λ k. drop k (names_below (values s)))
-    {x = length (names_below (values s)) - m} {y = n} (omega arith)
-
--- the `..` that remain of a path, with a slash for each, are no longer than the path and a slash
-pub parent_dirs_fit : (s : List ℕ) → 3 * remaining_parent_dirs (values s) ≤ 1 + length s
-parent_dirs_fit s = by_test (is_rooted s) (λ r. omega (arith, remaining_parent_dirs-rooted s r))
-    (λ r. omega (arith, length-rootless s r))
+last_others m n s e = grind arith
 
 -- ---- two paths of names only
 
@@ -218,27 +185,19 @@ pub names_only_relative_path : (s t : List ℕ) → is_names_only s ≡ true →
     → is_rooted s ≡ is_rooted t → NamesOnlyRelativePath s t
 unfolding relative_path_of
 names_only_relative_path s t h k same =
-    let f = root_if (is_rooted t) in
     let v = names_below (values s) in
-    let w = names_below (values t) in
-    let m = shared_count v w in
-    let first : values s ≡ f ++ v = names_only_values s h ∙ ap (λ r. root_if r ++ v) same in
-    let second : values t ≡ f ++ w = names_only_values t k in
-    let n : shared_count (values s) (values t) ≡ length f + m =
-    ap₂ shared_count first second ∙ shared_count-behind f v w in
-    let rest : drop (shared_count (values s) (values t)) (values s) ≡ drop m v =
-    ap₂ drop n first ∙ drop-append-add f v m in
-    let other_rest : drop (shared_count (values s) (values t)) (values t) ≡ drop m w =
-    ap₂ drop n second ∙ drop-append-add f w m in
-    record {
-      is = ap₂ steps_from (resolved_values s (resolved-names_only s h) ∙ first)
-          (resolved_values t (resolved-names_only t k) ∙ second)
-          ∙ steps_after_prefix f v w (AllNames-names_below (values s))
-          (AllNames-names_below (values t))
-          ∙ ap₂ (λ k vs. Some (replicate k ParentDir ++ vs))
-          (sym (ap length rest ∙ length-drop m v)) (sym other_rest);
-      names = subst AllNames (sym other_rest) (names_rest m w (AllNames-names_below (values t)));
-    }
+    let w =
+    names_below (values t) in grind (
+      arith,
+      names_only_values,
+      shared_count-behind,
+      resolved_values,
+      resolved-names_only,
+      steps_after_prefix,
+      AllNames-names_below,
+      length-drop,
+      names_rest,
+    )
 
 -- a list shares all its components with itself
 same_count : (vs : List Value) → shared_count vs vs ≡ length vs
@@ -251,6 +210,4 @@ pub relative_path_to_itself : (s t : List ℕ) → s ≡ t
 unfolding relative_path_of spelling_of
 relative_path_to_itself s t e =
     let vs = resolved_of (values t) in
-    let none : drop (shared_count vs vs) vs ≡ [] =
-    ap (λ n. drop n vs) (same_count vs) ∙ drop_all (length vs) vs (omega arith) in
-    rw (e, none) refl
+    grind (arith, same_count, drop_all)

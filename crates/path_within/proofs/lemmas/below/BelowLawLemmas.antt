@@ -7,7 +7,6 @@ use Rattle.unix_path.specs.Parts.{is_rooted, value_bytes, values}
 use Rattle.unix_path.specs.Prefixes.{stripped_of}
 use Rattle.unix_path.proofs.lemmas.parts.PartLemmas.{values-nil}
 use Rattle.path_runs.specs.JoinLaws.{drop_dot}
-use Rattle.path_runs.specs.Spelling.{spelling_of}
 use Rattle.path_runs.proofs.lemmas.joins.AssociativeLemmas.{join_of-nil, join_of-separator}
 use Rattle.path_runs.proofs.lemmas.joins.ExtendLemmas.{join_all_of-append}
 use Rattle.path_runs.proofs.lemmas.spelling.JoinAllLemmas.{join_all_of-values}
@@ -31,9 +30,7 @@ use Rattle.path_within.proofs.lemmas.below.WithinLemmas.{resolved_of-within}
 -- joining the resolved components of a path, one after the other, results in its resolved bytes
 join_all_of-resolved : (s : List ℕ)
     → join_all_of [] (map value_bytes (resolved_of (values s))) ≡ resolved_bytes_of s
-join_all_of-resolved s =
-    ap (λ vs. join_all_of [] (map value_bytes vs)) (sym (values-resolved s))
-    ∙ join_all_of-values (resolved_bytes_of s) ∙ ap spelling_of (values-resolved s)
+join_all_of-resolved s = cc (values-resolved s, join_all_of-values (resolved_bytes_of s))
 
 -- if the request b does not escape, the join of the resolved root a and the names of b is the
 -- resolved join of a and b

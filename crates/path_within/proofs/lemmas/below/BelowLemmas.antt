@@ -2,8 +2,8 @@
 -- after resolving (`names_below`).
 use Rattle.std.proofs.Common.{◌≡◌, ℕ, ◌+◌, ◌≤◌, ◌<◌, true, false, List, [], ◌∷◌, ◌++◌, length, map}
 use Rattle.std.proofs.Common.{refl, sym, ap, subst, ◌∙◌, arith, append_assoc, append-nil}
-use Rattle.std.proofs.Common.{◌-◌, drop, take, length-append, take-append-drop}
-use Rattle.std.specs.List.{AllByRecursion, list_any}
+use Rattle.std.proofs.Common.{◌-◌, drop, take, length-append, take-append-drop, rules}
+use Rattle.std.specs.List.{AllByRecursion}
 use Rattle.unix_path.specs.Joins.{join_of, join_all_of}
 use Rattle.unix_path.specs.Parts.{Value, RootDir, Normal, is_rooted, slash, value_bytes, values}
 use Rattle.unix_path.specs.Prefixes.{IsPrefixOf, stripped_of}
@@ -25,7 +25,7 @@ use Rattle.path_within.specs.WrittenBytes.{root_prefix, AreVerbatim}
 use Rattle.path_within.proofs.lemmas.below.BoundLemmas.{slashed_bytes-names}
 use Rattle.path_within.proofs.lemmas.below.NamesBelowLemmas.{AllNames-names_below}
 use Rattle.path_within.proofs.lemmas.below.NamesBelowLemmas.{names_below-names, resolved_of-slash}
-use Rattle.path_within.proofs.lemmas.below.NulLemmas.{has_nul-values, no_nul-below, nul_in}
+use Rattle.path_within.proofs.lemmas.below.NulLemmas.{has_nul-values, no_nul-below}
 use Rattle.path_within.proofs.lemmas.stack.StackLemmas.{names_straight}
 use Rattle.path_within.proofs.lemmas.stack.PathOfLemmas.{ReadsAsItself-values}
 use Rattle.path_within.proofs.lemmas.stack.RelativePathLemmas.{spelling_of-straight}
@@ -43,8 +43,7 @@ values-rooted b = values-resolved (slash ∷ b) ∙ resolved_of-slash b
 
 -- parsed as a path, the bytes of each resolved name of b have only that name
 ReadsAsItself-names_below : (b : List ℕ) → ReadsAsItself (names_below (values b))
-ReadsAsItself-names_below b
-    = (subst ReadsAsItself (values-rooted b) (ReadsAsItself-values (rooted b))).1
+ReadsAsItself-names_below b = grind (arith, values-rooted b, ReadsAsItself-values (rooted b))
 
 -- no resolved name of a path begins or ends with a slash
 unslashed_names : (b : List ℕ) → AllByRecursion IsUnslashedValue (names_below (values b))
@@ -77,16 +76,14 @@ pub below_of-some : (root : List ℕ) (vs : List Value) → AllByRecursion IsUns
     → 0 < length vs → below_of root vs ≡ root_prefix root ++ slashed_bytes vs
 unfolding below_of
 below_of-some root [] h some = absurd (omega arith)
-below_of-some root (v ∷ vs) h some =
-    join_all_of-some root (value_bytes v) (map value_bytes vs) (unslashed_bytes (v ∷ vs) h)
+below_of-some root (v ∷ vs) h some = grind (arith, join_all_of-some, unslashed_bytes)
 
 -- if the bytes `names` are the resolved names of b, verbatim, the join of the root and the resolved
 -- names of b is the root prefix and then these bytes
 pub below_of-verbatim : {names : List ℕ} (root b : List ℕ)
     → AreVerbatim names (names_below (values b))
     → root_prefix root ++ names ≡ below_of root (names_below (values b))
-below_of-verbatim root b h = ap (λ s. root_prefix root ++ s) h.is
-    ∙ sym (below_of-some root (names_below (values b)) (unslashed_names b) h.some)
+below_of-verbatim root b h = grind (arith, below_of-some, unslashed_names)
 
 -- ---- components
 
@@ -104,15 +101,13 @@ values-names root (v ∷ vs) h k = absurd h
 -- names
 pub values-below : (root b : List ℕ)
     → values (below_of root (names_below (values b))) ≡ values root ++ names_below (values b)
-values-below root b = values-names root (names_below (values b))
-    (AllNames-names_below (values b)) (ReadsAsItself-names_below b)
+values-below root b = simp (values-names, AllNames-names_below, ReadsAsItself-names_below)
 
 -- without the root, the join of the root and the resolved names of b has only these names as
 -- components
 pub values-stripped_below : (root b : List ℕ)
     → values (stripped_of (below_of root (names_below (values b))) root) ≡ names_below (values b)
-values-stripped_below root b = values-stripped_of (below_of root (names_below (values b))) root
-    (names_below (values b)) (sym (values-below root b))
+values-stripped_below root b = search (rules, values-stripped_of, values-below)
 
 -- if b has no NUL, the join of the root and the resolved names of b is below the root
 pub is_below : {s : List ℕ} (root b : List ℕ) → has_nul b ≡ false
@@ -125,8 +120,7 @@ is_below {s} root b h e =
         begins = (vs, sym (values-below root b));
         names = ap has_root_or_parent_dir rest ∙ names_down vs (AllNames-names_below (values b));
       };
-      no_nul = has_nul-values (stripped_of (below_of root vs) root) ∙ ap (list_any nul_in) rest
-          ∙ no_nul-below (values b) (sym (has_nul-values b) ∙ h);
+      no_nul = grind (arith, has_nul-values, no_nul-below);
     })
 
 -- ---- bytes
@@ -152,13 +146,8 @@ after_root root b = by (names_below (values b)) refl
       is = sym (append_assoc root (separator root) (slashed_bytes (v ∷ vs)))
           ∙ sym (ap (below_of root) e ∙ below_of-some root (v ∷ vs)
           (subst (AllByRecursion IsUnslashedValue) e (unslashed_names b)) (omega arith));
-      fits = omega (
-        arith,
-        length-append (separator root) (slashed_bytes (v ∷ vs)),
-        length-append root (separator root),
-        ap (λ vs. length (slashed_bytes vs)) e,
-        slashed_bytes-names b,
-      );
+      fits = grind
+          (arith, length-append, slashed_bytes-names, ap (λ vs. length (slashed_bytes vs)) e);
     }
 
 -- the join of the root and the resolved names of b begins with the root's bytes
@@ -170,26 +159,15 @@ begins root b e = let h = after_root root b in (h.more, h.is ∙ sym e)
 -- than s
 pub length-below : {s : List ℕ} (root b : List ℕ) → s ≡ root_prefix root ++ b
     → length (below_of root (names_below (values b))) ≤ length s
-length-below root b e = let h = after_root root b in omega (
-  arith,
-  ap length h.is,
-  length-append root h.more,
-  ap length e,
-  length-append (root_prefix root) b,
-)
+length-below root b e =
+    grind (arith, after_root root b, length-append, length-append (root_prefix root) b)
 
 -- ---- a path whose bytes are its names joined by slashes
 
 -- if b has no root and consists of names only, b is its names with single slashes between them
 pub names_only_verbatim : (b : List ℕ) → is_names_only b ≡ true → is_rooted b ≡ false
     → AreVerbatim b (names_below (values b))
-names_only_verbatim b names_only r = record { some = by (names_below (values b)) same; is = same }
-  where
-    same : b ≡ slashed_bytes (names_below (values b))
-    same = let h = names_only_has_names b names_only r in
-        sym h.own ∙ spelling_of-straight (values b) (names_straight (values b) h.names)
-        ∙ ap slashed_bytes (sym (names_below-names (values b) h.names))
+names_only_verbatim b names_only r =
+    grind (arith, names_only_has_names, spelling_of-straight, names_straight, names_below-names)
 
-    by : (vs : List Value) → b ≡ slashed_bytes vs → 0 < length vs
-    by [] e = absurd ((names_only_has_names b names_only r).some e)
-    by (v ∷ vs) e = omega arith
+pub ruleset root_fill_cases = (names_only_verbatim, below_of-verbatim)

@@ -1,13 +1,12 @@
 -- A resolved path is no longer than the path.
 use Rattle.std.proofs.Common.{◌≡◌, ℕ, ◌+◌, ◌-◌, ◌≤◌, false, List, [], ◌∷◌, length, reverse, refl}
-use Rattle.std.proofs.Common.{sym, ap, subst, ◌∙◌, arith, length-append}
+use Rattle.std.proofs.Common.{sym, ap, ◌∙◌, arith, length-append}
 use Rattle.std.specs.List.{sum_by}
 use Rattle.std.proofs.lemmas.List.Sorted.{IsPermutation-reverse, sum_by-IsPermutation}
 use Rattle.std.proofs.lemmas.List.Sums.{sum_by-append, sum_by-cons}
 use Rattle.unix_path.specs.CommonDir.{inner_values}
 use Rattle.unix_path.specs.Joins.{join_of}
 use Rattle.unix_path.specs.Parts.{Value, RootDir, slash, is_rooted, value_bytes, values}
-use Rattle.unix_bytes.proofs.lemmas.lists.ListLemmas.{by_test}
 use Rattle.unix_path.proofs.lemmas.edits.JoinLemmas.{push_cases}
 use Rattle.path_runs.specs.Spelling.{slashed_bytes, spelling_of}
 use Rattle.path_runs.proofs.lemmas.joins.LeadLemmas.{drop_dot-values}
@@ -47,12 +46,10 @@ sum_by-reverse f vs = sum_by-IsPermutation f vs (reverse vs) (IsPermutation-reve
 pub sum_by-names_below : (f : Value → ℕ) (vs : List Value)
     → sum_by f (names_below vs) ≤ sum_by f vs
 sum_by-names_below f vs =
-    let found = names_on_stack vs in
-    omega (
+    let found = names_on_stack vs in grind (
       arith,
-      ap (sum_by f) (names_below-stack vs found.0 found.2),
+      names_below-stack vs found.0 found.2,
       sum_by-reverse f found.0,
-      ap (sum_by f) found.2,
       sum_by-append f found.0 (RootDir ∷ []),
       sum_by-resolve_onto f (RootDir ∷ []) vs,
     )
@@ -79,8 +76,7 @@ length-slashed_bytes (v ∷ w ∷ vs) = omega (
 -- the inner components of a path (all except its root or leading `.`), with a slash for each, are
 -- no longer than the path and a slash
 slashed_len-inner : (s : List ℕ) → slashed_len (inner_values s) ≤ 1 + length s
-slashed_len-inner s =
-    omega (arith, length-slashed_bytes (inner_values s), slashed_bytes-lean s)
+slashed_len-inner s = grind (arith, length-slashed_bytes (inner_values s), slashed_bytes-lean s)
 
 -- the resolved names of a path, with a slash for each, are no longer than the path and a slash
 pub slashed_len-names : (s : List ℕ) → slashed_len (names_below (values s)) ≤ 1 + length s
@@ -93,8 +89,7 @@ slashed_len-names s = omega (
 
 -- the resolved names of a path, with slashes only between them, are no longer than the path
 pub slashed_bytes-names : (s : List ℕ) → length (slashed_bytes (names_below (values s))) ≤ length s
-slashed_bytes-names s =
-    omega (arith, length-slashed_bytes (names_below (values s)), slashed_len-names s)
+slashed_bytes-names s = grind (arith, length-slashed_bytes, slashed_len-names)
 
 -- if components have at most n + 1 bytes with a slash for each, their canonical form has at most n
 -- bytes
@@ -114,39 +109,31 @@ length-spelling vs = spelling_of-fit vs (slashed_len vs - 1) (omega arith)
 pub slashed_len-rootless : (s : List ℕ) → is_rooted s ≡ false
     → slashed_len (resolved_of (values s)) ≤ 1 + length s
 unfolding resolved_of
-slashed_len-rootless s r = omega (
+slashed_len-rootless s r = grind (
   arith,
-  sum_by-reverse (λ v. 1 + length (value_bytes v)) (resolve_onto [] (values s)),
-  ap slashed_len (ap (resolve_onto []) (sym (drop_dot-values s r))
-      ∙ resolve_onto-drop_dot [] (values s)),
-  sum_by-resolve_onto (λ v. 1 + length (value_bytes v)) [] (inner_values s),
-  slashed_len-inner s,
+  sum_by-reverse,
+  sum_by-resolve_onto,
+  slashed_len-inner,
+  ap slashed_len
+      (ap (resolve_onto []) (sym (drop_dot-values s r)) ∙ resolve_onto-drop_dot [] (values s)),
 )
 
 -- a resolved path is no longer than the path
 pub length-resolved : (s : List ℕ) → length (resolved_bytes_of s) ≤ length s
 unfolding resolved_of
-length-resolved s = by_test (is_rooted s)
-    (λ r. let t = is_rooted-slash s r in
-    subst (λ s. length (resolved_bytes_of s) ≤ length s) (sym t.1) (rooted t.0))
-    rootless
-  where
-    rootless : is_rooted s ≡ false → length (resolved_bytes_of s) ≤ length s
-    rootless r = spelling_of-fit (resolved_of (values s)) (length s) (slashed_len-rootless s r)
-
-    rooted : (t : List ℕ) → length (resolved_bytes_of (slash ∷ t)) ≤ length (slash ∷ t)
-    rooted t = omega (
+length-resolved s =
+    grind (
       arith,
-      ap (λ vs. length (spelling_of vs)) (resolved_of-slash t),
-      ap length (spelling_of-root (names_below (values t))),
-      slashed_bytes-names t,
+      is_rooted-slash,
+      spelling_of-fit,
+      slashed_len-rootless,
+      resolved_of-slash,
+      spelling_of-root,
+      slashed_bytes-names,
     )
 
 -- the join of a and b is at most one byte longer than a and b together
 pub length-join_of : (a b : List ℕ) → length (join_of a b) ≤ length a + 1 + length b
 length-join_of a b = grind (arith, push_cases)
 
--- the resolved join of a and b is at most one byte longer than a and b together
-pub length-resolved_join : (a b : List ℕ)
-    → length (resolved_bytes_of (join_of a b)) ≤ length a + 1 + length b
-length-resolved_join a b = omega (arith, length-resolved (join_of a b), length-join_of a b)
+pub ruleset write_resolved_cases = length-resolved

@@ -1,12 +1,12 @@
 -- The names that remain of components that are resolved after a root.
-use Rattle.std.proofs.Common.{◌≡◌, ℕ, Bool, cond, false, not, ltb, List, [], ◌∷◌, ◌++◌, length}
-use Rattle.std.proofs.Common.{drop, reverse, refl, sym, ap, ◌∙◌, arith}
+use Rattle.std.proofs.Common.{◌≡◌, ℕ, Bool, false, ltb, List, [], ◌∷◌, ◌++◌, length}
+use Rattle.std.proofs.Common.{reverse, refl, sym, ap, ◌∙◌, arith}
 use Rattle.std.specs.List.{list_any, position_or_len}
 use Rattle.std.proofs.lemmas.Bool.Decides.{nat_tests}
 use Rattle.std.proofs.lemmas.Grind.{reverse_onto}
-use Rattle.std.proofs.lemmas.List.{reverse-append, reverse-reverse}
+use Rattle.std.proofs.lemmas.List.{reverse-append, reverse-reverse, take_rest}
 use Rattle.unix_path.specs.CommonDir.{inner_values}
-use Rattle.unix_path.specs.Parts.{Value, RootDir, CurDir, ParentDir, Normal, is_slash, slash}
+use Rattle.unix_path.specs.Parts.{Value, RootDir, CurDir, ParentDir, Normal, slash}
 use Rattle.unix_path.specs.Parts.{values}
 use Rattle.unix_bytes.proofs.lemmas.lists.ListLemmas.{drop-suc_cons}
 use Rattle.path_runs.specs.JoinLaws.{drop_dot, drop_leading}
@@ -44,22 +44,16 @@ names_on_stack vs = stack_keeps_root [] vs tt
 pub names_below-stack : (vs ns : List Value) → resolve_onto (RootDir ∷ []) vs ≡ on_root ns
     → names_below vs ≡ reverse ns
 unfolding names_below resolved_of
-names_below-stack vs ns e =
-    ap (λ ks. drop 1 (reverse ks)) e ∙ ap (drop 1) (reverse-append ns (RootDir ∷ []))
+names_below-stack vs ns e = grind (arith, reverse-append)
 
 -- a root and then vs resolve to the root and then `names_below vs`
 resolved_of-below : (vs : List Value) → resolved_of (RootDir ∷ vs) ≡ RootDir ∷ names_below vs
 unfolding resolved_of
-resolved_of-below vs =
-    let found = names_on_stack vs in
-    ap reverse found.2 ∙ reverse-append found.0 (RootDir ∷ [])
-    ∙ ap (λ ns. RootDir ∷ ns) (sym (names_below-stack vs found.0 found.2))
+resolved_of-below vs = grind (arith, names_on_stack vs, reverse-append, names_below-stack)
 
 -- all components of `names_below vs` are names
 pub AllNames-names_below : (vs : List Value) → AllNames (names_below vs)
-AllNames-names_below vs =
-    let found = names_on_stack vs in
-    rw (names_below-stack vs found.0 found.2) (names_reverse found.0 found.1)
+AllNames-names_below vs = grind (arith, names_on_stack vs, names_below-stack, names_reverse)
 
 -- if all components of vs are names, `names_below vs` is vs
 pub names_below-names : (vs : List Value) → AllNames vs → names_below vs ≡ vs
@@ -70,8 +64,7 @@ names_below-names vs h = names_below-stack vs (reverse vs)
 pub names_below-resolved : (b : List ℕ) → (Escapes (values b) → ⊥)
     → names_below (values b) ≡ resolved_of (values b)
 unfolding resolved_of
-names_below-resolved b h =
-    names_below-stack (values b) (resolve_onto [] (values b)) (keeps_stack (RootDir ∷ []) b h).stack
+names_below-resolved b h = grind (arith, names_below-stack, keeps_stack)
 
 -- dropping a leading root or `.` of vs does not change its `names_below`
 names_below-drop_leading : (vs : List Value) → names_below (drop_leading vs) ≡ names_below vs
@@ -88,8 +81,7 @@ names_below-drop_dot vs = refl
 -- the inner components of a path, which are all except its root or leading `.`, have the same
 -- `names_below` as the path
 pub names_below-inner : (s : List ℕ) → names_below (inner_values s) ≡ names_below (values s)
-names_below-inner s =
-    ap names_below (sym (drop_leading-values s)) ∙ names_below-drop_leading (values s)
+names_below-inner s = cc (drop_leading-values s, names_below-drop_leading (values s))
 
 pub values-slash : (t : List ℕ) → values (slash ∷ t) ≡ RootDir ∷ inner_values t
 values-slash t = values-rooted t ∙ ap (λ vs. RootDir ∷ vs) (sym (inner_values-pieces t))
@@ -102,16 +94,7 @@ names_below-slash t = ap names_below (values-slash t) ∙ names_below-inner t
 -- a slash and then the path t resolve to the root and the `names_below` of t
 pub resolved_of-slash : (t : List ℕ)
     → resolved_of (values (slash ∷ t)) ≡ RootDir ∷ names_below (values t)
-resolved_of-slash t =
-    ap resolved_of (values-slash t) ∙ resolved_of-below (inner_values t)
-    ∙ ap (λ vs. RootDir ∷ vs) (names_below-inner t)
-
--- if the byte x is a slash, the bytes of `x ∷ s` after its leading slashes are those of s after its
--- leading slashes; otherwise they are all bytes of `x ∷ s`
-after_leading_slashes-cons : (x : ℕ) (s : List ℕ)
-    → after_leading_slashes (x ∷ s) ≡ cond (is_slash x) (after_leading_slashes s) (x ∷ s)
-after_leading_slashes-cons x s =
-    grind (arith, drop-suc_cons (position_or_len (λ b. not (is_slash b)) s) x s)
+resolved_of-slash t = simp (values-slash, resolved_of-below, names_below-inner)
 
 -- the bytes after the leading slashes represent the path's names, and have no NUL if the path has
 -- none
@@ -120,17 +103,23 @@ pub after_leading_slashes-represents_names : (s : List ℕ)
     × (has_nul s ≡ false → has_nul (after_leading_slashes s) ≡ false)
 after_leading_slashes-represents_names [] = (record { rootless = refl; names = refl }, λ h. h)
 after_leading_slashes-represents_names (x ∷ s) =
-    let more = after_leading_slashes-represents_names s in
-    let is = after_leading_slashes-cons x s in (
-      record {
-        rootless = grind (arith, more.0.rootless);
-        names = grind (arith, more.0.names, names_below-slash s);
-      },
-      λ h. grind (arith, more.1),
-    )
+    grind (arith, after_leading_slashes-represents_names s, names_below-slash, drop-suc_cons)
 
 -- some byte passes p if and only if the index of the first byte that passes is less than the length
 pub list_any-index : (p : ℕ → Bool) (s : List ℕ)
     → ltb (position_or_len p s) (length s) ≡ list_any p s
 list_any-index p [] = refl
 list_any-index p (x ∷ s) = grind (arith, nat_tests, list_any-index p s)
+
+pub ruleset has_nul_cases = list_any-index
+
+pub ruleset requests_are_names_cases = (
+  AllNames-names_below,
+  names_below-resolved,
+  names_below-slash,
+  names_below-names,
+)
+
+pub ruleset request_beneath_cases = names_below-resolved
+
+pub ruleset request_in_root_cases = (take_rest, after_leading_slashes-represents_names)

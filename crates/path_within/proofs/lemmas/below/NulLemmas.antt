@@ -1,12 +1,10 @@
 -- A path has a NUL if and only if one of its components has one.
 use Rattle.std.proofs.Common.{◌≡◌, ℕ, Bool, false, cond, eqb, ltb, ◌||◌, List, [], ◌∷◌, refl, sym}
-use Rattle.std.proofs.Common.{ap, ◌∙◌, arith}
+use Rattle.std.proofs.Common.{ap, ◌∙◌, arith, rules}
 use Rattle.std.specs.List.{count_by, join_with_byte, list_any, slice_split}
-use Rattle.std.proofs.lemmas.Bool.Decides.{nat_tests}
 use Rattle.std.proofs.lemmas.List.Folds.{list_any-append}
 use Rattle.std.proofs.lemmas.List.Sums.{sum_by-cons}
-use Rattle.std.proofs.lemmas.Slice.Eq.{bytes_eq-Decides}
-use Rattle.unix_path.specs.Parts.{Value, RootDir, is_slash, cur_dir, counts, slash, value_bytes}
+use Rattle.unix_path.specs.Parts.{Value, RootDir, is_slash, slash, value_bytes}
 use Rattle.unix_path.specs.Parts.{values}
 use Rattle.unix_path.proofs.lemmas.parts.ValueLemmas.{value_bytes-piece}
 use Rattle.path_runs.specs.JoinLaws.{drop_leading}
@@ -28,14 +26,10 @@ nul_pieces (p ∷ q ∷ ps) =
     list_any-append (λ b. eqb b 0) p (slash ∷ join_with_byte slash (q ∷ ps))
     ∙ ap (λ b. has_nul p || b) (nul_pieces (q ∷ ps))
 
--- a piece that does not count, which is empty or `.`, has no NUL
-no_nul_filler : (p : List ℕ) → counts p ≡ false → has_nul p ≡ false
-no_nul_filler p h = grind (arith, bytes_eq-Decides p [], bytes_eq-Decides p cur_dir)
-
 -- pieces have a NUL if and only if one of their components has one
 nul_names : (ps : List (List ℕ)) → list_any has_nul ps ≡ list_any nul_in (names_of ps)
 nul_names [] = refl
-nul_names (p ∷ ps) = grind (arith, no_nul_filler p, value_bytes-piece p, nul_names ps)
+nul_names (p ∷ ps) = search (rules, value_bytes-piece p, nul_names ps)
 
 -- dropping a leading root or `.` of vs does not change whether some component of vs has a NUL
 nul_lead : (vs : List Value) → list_any nul_in (drop_leading vs) ≡ list_any nul_in vs
@@ -53,17 +47,10 @@ has_nul-values s =
 -- some component passes p if and only if the number of components that pass is not 0
 list_any-count : (p : Value → Bool) (vs : List Value) → list_any p vs ≡ ltb 0 (count_by p vs)
 list_any-count p [] = refl
-list_any-count p (v ∷ vs) = grind (
-  arith,
-  nat_tests,
-  sum_by-cons (λ v. cond (p v) 1 0) v vs,
-  list_any-count p vs,
-)
+list_any-count p (v ∷ vs) =
+    grind (arith, sum_by-cons (λ v. cond (p v) 1 0) v vs, list_any-count p vs)
 
 -- if no component of vs has a NUL, no name that remains of vs after resolving has one
 pub no_nul-below : (vs : List Value) → list_any nul_in vs ≡ false
     → list_any nul_in (names_below vs) ≡ false
-no_nul-below vs h =
-    let fewer = sum_by-names_below (λ v. cond (nul_in v) 1 0) vs in
-    let none : ltb 0 (count_by nul_in vs) ≡ false = sym (list_any-count nul_in vs) ∙ h in
-    list_any-count nul_in (names_below vs) ∙ grind (arith, nat_tests)
+no_nul-below vs h = grind (arith, sum_by-names_below, list_any-count)

@@ -1,5 +1,5 @@
 -- Joins that stay within a root: the components after the root.
-use Rattle.std.proofs.Common.{◌≡◌, ℕ, List, [], ◌++◌, reverse, sym, ap, ap₂, ◌∙◌}
+use Rattle.std.proofs.Common.{◌≡◌, ℕ, List, [], ◌++◌, arith}
 use Rattle.std.proofs.lemmas.List.{reverse-append}
 use Rattle.unix_path.specs.Joins.{join_of}
 use Rattle.unix_path.specs.Parts.{values}
@@ -17,8 +17,7 @@ pub resolved_of-within : (a b : List ℕ) → (Escapes (values b) → ⊥)
 unfolding resolved_of
 resolved_of-within a b h =
     let ks = resolve_onto [] (values a) in
-    ap reverse (resolve_onto-join a b ∙ (keeps_stack ks b h).stack)
-    ∙ reverse-append (resolve_onto [] (values b)) ks
+    grind (arith, resolve_onto-join, keeps_stack, reverse-append)
 
 -- a request that does not escape resolves to names
 pub names-within : (b : List ℕ) → (Escapes (values b) → ⊥) → AllNames (resolved_of (values b))
@@ -30,11 +29,9 @@ names-within b h = names_reverse (resolve_onto [] (values b)) (keeps_stack [] b 
 pub values-within : (a b : List ℕ) → (Escapes (values b) → ⊥)
     → values (resolved_bytes_of (join_of a b))
     ≡ values (resolved_bytes_of a) ++ values (resolved_bytes_of b)
-values-within a b h = values-resolved (join_of a b) ∙ resolved_of-within a b h
-    ∙ sym (ap₂ ◌++◌ (values-resolved a) (values-resolved b))
+values-within a b h = grind (arith, values-resolved, resolved_of-within)
 
 -- the resolved join with a request that does not escape starts with the resolved root
 pub begins-within : (a b t : List ℕ) → (Escapes (values b) → ⊥)
     → t ≡ resolved_bytes_of (join_of a b) → IsPrefixOf (values (resolved_bytes_of a)) (values t)
-begins-within a b t h e =
-    (values (resolved_bytes_of b), sym (values-within a b h) ∙ ap values (sym e))
+begins-within a b t h e = grind (arith, values-within a b h)

@@ -1,36 +1,19 @@
 -- All pieces are names if a name starts at the beginning and after each slash.
-use Rattle.std.proofs.Common.{◌≡◌, ℕ, suc, ◌<◌, true, eqb, ◌&&◌, List, [], ◌∷◌, length, get_or}
-use Rattle.std.proofs.Common.{refl, ap, ◌∙◌, arith, ◌+◌, cond, drop, false, subst, Bool}
+use Rattle.std.proofs.Common.{◌≡◌, ℕ, suc, ◌<◌, true, List, [], ◌∷◌, length}
+use Rattle.std.proofs.Common.{refl, ap, ◌∙◌, arith, drop, false}
 use Rattle.std.specs.Int.{from_bool}
 use Rattle.std.proofs.lemmas.List.{get_or_default, get_or_past}
-use Rattle.unix_path.specs.Parts.{is_rooted, is_slash, parent_dir}
+use Rattle.unix_path.specs.Parts.{is_rooted, is_slash}
 use Rattle.unix_path.specs.NameRunEnds.{ends_name_run_of}
 use native.Mathlib.Numerals.{unary_clauses}
 use Rattle.std.specs.List.{list_all, onto_first, slice_split}
-use Rattle.std.specs.Str.{bytes_eq}
 use Rattle.std.proofs.lemmas.Bool.{and_from}
 use Rattle.std.proofs.lemmas.List.Splits.{slice_split-cons_yes, slice_split-cons_no}
 use Rattle.unix_bytes.proofs.lemmas.lists.ListLemmas.{by_test}
-use Rattle.unix_path.proofs.lemmas.filler.FillerLemmas.{first_piece_empty, first_piece_dot}
-use Rattle.unix_path.proofs.lemmas.parts.PieceLemmas.{first_piece, first_piece-slash}
-use Rattle.unix_path.proofs.lemmas.parts.PieceLemmas.{first_piece-other, slice_split-first}
+use Rattle.unix_path.proofs.lemmas.parts.PieceLemmas.{slice_split-first}
 use Rattle.path_within.specs.NamePieces.{is_name_piece, has_only_name_pieces, name_starts_at}
 use Rattle.path_within.specs.NamePieces.{name_follows_slash_at, is_names_only}
-
--- the first piece of s is `..` if and only if the first two bytes of s are dots, and the third is a
--- slash or missing
-first_piece_parent_dir : (s : List ℕ)
-    → bytes_eq (first_piece s) parent_dir
-    ≡ (eqb (get_or s 0 0) 46 && (eqb (get_or s 1 0) 46 && eqb (get_or s 2 47) 47))
-first_piece_parent_dir [] = refl
-first_piece_parent_dir (b ∷ s) =
-    grind (arith, first_piece-slash b s, first_piece-other b s, first_piece_dot s)
-
--- if a name starts at index 0, the first piece is a name
-first_piece_is_name : (s : List ℕ) → name_starts_at s 0 ≡ true → is_name_piece (first_piece s)
-    ≡ true
-first_piece_is_name s h =
-    grind (arith, first_piece_empty s, first_piece_dot s, first_piece_parent_dir s)
+use Rattle.std.proofs.lemmas.Grind.{common_steps}
 
 -- all pieces except the first
 abbrev after_first : List (List ℕ) → List (List ℕ)
@@ -46,9 +29,7 @@ after_first-onto b (p ∷ ps) = refl
 all_name_pieces : (s : List ℕ) → name_starts_at s 0 ≡ true
     → list_all is_name_piece (after_first (slice_split is_slash s)) ≡ true
     → has_only_name_pieces s ≡ true
-all_name_pieces s first others =
-    rw (slice_split-first s) (and_from _ _ (first_piece_is_name s first)
-    (rw (slice_split-first s) at others))
+all_name_pieces s first others = grind (arith, common_steps, slice_split-first, and_from)
 
 -- if a name starts after each slash, all pieces except the first are names
 later_pieces_are_names : (s : List ℕ) → ((k : ℕ) → k < length s → name_follows_slash_at s k ≡ true)
@@ -73,22 +54,11 @@ only_name_pieces s h k = all_name_pieces s h (later_pieces_are_names s k)
 -- comes after it
 pub name_follows_unless_stop : (s : List ℕ) (k : ℕ) → ends_name_run_of 47 46 s k ≡ false
     → name_follows_slash_at s k ≡ true
-name_follows_unless_stop s k h = grind (
-  arith,
-  get_or_default s (k + 1) 0 47,
-  get_or_past s (k + 1) 0,
-  get_or_default s (k + 1 + 1) 0 47,
-  get_or_past s (k + 1 + 1) 0,
-)
+name_follows_unless_stop s k h = grind (arith, get_or_default, get_or_past)
 
 -- if n is 1 for a path s with a root, and otherwise 0, and all pieces of s after its first n bytes
 -- are names, then s is a path of names only
 pub names_only_without_root : (s : List ℕ) (n : ℕ) → n ≡ from_bool (is_rooted s)
     → has_only_name_pieces (drop n s) ≡ true → is_names_only s ≡ true
 names_only_without_root s n e h =
-    by (is_rooted s) (subst (λ n. has_only_name_pieces (drop n s) ≡ true) e h)
-  where
-    by : (r : Bool) → has_only_name_pieces (drop (from_bool r) s) ≡ true
-        → has_only_name_pieces (cond r (drop 1 s) s) ≡ true
-    by true h = h
-    by false h = h
+    grind arith

@@ -41,3 +41,5 @@ pub straight_iff : (v : Value) (vs : List Value) → is_parent_dir v ≡ false
 straight_iff (Normal name) vs h = names_iff vs
 straight_iff ParentDir vs h = absurd (let no : true ≡ false = h in cc)
 straight_iff v vs h = (λ e. let no : false ≡ true = e in cc, λ k. absurd k)
+
+pub ruleset is_resolved_cases = (resolved_if_normal, normal_if_resolved, canonical_if_resolved)

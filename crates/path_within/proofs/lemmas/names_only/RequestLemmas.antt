@@ -44,24 +44,15 @@ inner_names (v ∷ vs) h e = grind (arith, inner_names vs)
 -- a request without a root or a `..` has only names after its leading `.`, if it has one
 pub request_has_names : (b : List ℕ) → has_root_or_parent_dir (values b) ≡ false
     → AllNames (drop_dot (values b))
-request_has_names b names_only = by (values b) refl names_only
-  where
-    by : (vs : List Value) → values b ≡ vs → has_root_or_parent_dir vs ≡ false
-        → AllNames (drop_dot vs)
-    by [] e h = tt
-    by (v ∷ vs) e h = grind (arith, inner_names vs (inner-behind b v vs e))
+request_has_names b names_only =
+    grind (arith, inner_names, inner-behind)
 
 -- names are neither the root nor `..`
 pub names_down : (vs : List Value) → AllNames vs → has_root_or_parent_dir vs ≡ false
 names_down [] h = refl
 names_down (v ∷ vs) h = grind (arith, names_down vs)
 
--- a rootless path of names only has neither a root nor a `..`
-pub names_only_down : (b : List ℕ) → is_names_only b ≡ true → is_rooted b ≡ false
-    → has_root_or_parent_dir (values b) ≡ false
-names_only_down b names_only r = names_down (values b) (names_only_has_names b names_only r).names
-
 -- a rootless path of names only does not escape
 pub names_only_stays : (b : List ℕ) → is_names_only b ≡ true → is_rooted b ≡ false
     → Escapes (values b) → ⊥
-names_only_stays b names_only r = request_stays b (names_only_down b names_only r)
+names_only_stays b names_only r = grind (arith, request_stays, names_down, names_only_has_names)

@@ -1,6 +1,6 @@
 -- The bytes of a relative path, and where it leads.
 use Rattle.std.proofs.Common.{◌≡◌, ℕ, List, [], ◌∷◌, ◌++◌, take, drop, reverse, Some, sym, ap}
-use Rattle.std.proofs.Common.{subst, ◌∙◌, take-append-drop}
+use Rattle.std.proofs.Common.{subst, ◌∙◌, take-append-drop, arith}
 use Rattle.unix_path.specs.Joins.{join_of}
 use Rattle.unix_path.specs.Parts.{Value, values}
 use Rattle.path_runs.specs.Spelling.{spelling_of}
@@ -15,18 +15,17 @@ use Rattle.path_within.proofs.lemmas.stack.ResolveLemmas.{resolve_onto-join, Rea
 use Rattle.path_within.proofs.lemmas.stack.ResolveLemmas.{values-spelling_of_resolved}
 use Rattle.path_within.proofs.lemmas.stack.BetweenLemmas.{shared_count, steps_between-is}
 use Rattle.path_within.proofs.lemmas.stack.BetweenLemmas.{take-shared, parent_dirs_for}
-use Rattle.path_within.proofs.lemmas.stack.PathOfLemmas.{ValueReadsAsItself-dot_dot}
 use Rattle.path_within.proofs.lemmas.stack.RelativePathLemmas.{resolve_onto-parent_dir_run}
 use Rattle.path_within.proofs.lemmas.stack.RelativePathLemmas.{names_all, normal_drop}
 use Rattle.path_within.proofs.lemmas.stack.RelativePathLemmas.{resolved_of-normal}
 use Rattle.path_within.proofs.lemmas.stack.RelativePathLemmas.{parent_dirs_straight}
+use Rattle.path_runs.proofs.lemmas.spelling.PieceValueLemmas.{values-rootless}
 
 -- if vs is normal, and each of its components reads as itself, the canonical form of vs, parsed as
 -- a path, has the components vs
 pub values-spelling_of_normal : (vs : List Value) → IsNormal vs → ReadsAsItself vs
     → values (spelling_of vs) ≡ vs
-values-spelling_of_normal vs h k = subst (λ ws. values (spelling_of ws) ≡ ws)
-    (resolved_of-normal vs h) (values-spelling_of_resolved vs k)
+values-spelling_of_normal vs h k = cc (resolved_of-normal vs h, values-spelling_of_resolved vs k)
 
 -- resolving a stack's components again, first the lowest n and then the rest, leaves the same stack
 resolve_onto-cut : (n : ℕ) (ks : List Value) → IsStack ks
@@ -48,7 +47,7 @@ ReadsAsItself-parent_dir_run : (xs vs : List Value) → ReadsAsItself vs
     → ReadsAsItself (parent_dirs_for xs ++ vs)
 ReadsAsItself-parent_dir_run [] vs h = h
 ReadsAsItself-parent_dir_run (x ∷ xs) vs h =
-    (ValueReadsAsItself-dot_dot, ReadsAsItself-parent_dir_run xs vs h)
+    grind (arith, ReadsAsItself-parent_dir_run xs vs h, values-rootless)
 
 -- the relative path from one path to another leads from the stack of the first to the stack of the
 -- second
@@ -68,8 +67,7 @@ relative_path_is from to steps e =
     let straight = normal_drop n w (resolved_normal (values to)) are.no_root in
     record {
       straight = subst ParentDirsThenNames are.steps_are (parent_dirs_straight x y straight);
-      one = subst ReadsAsItself are.steps_are
-          (ReadsAsItself-parent_dir_run x y (ReadsAsItself-resolved n to));
+      one = grind (arith, ReadsAsItself-parent_dir_run, ReadsAsItself-resolved);
       leads = ap (resolve_onto ks) (sym are.steps_are)
           ∙ resolve_onto-append ks (parent_dirs_for x) y
           ∙ ap (λ zs. resolve_onto (resolve_onto zs (parent_dirs_for x)) y)

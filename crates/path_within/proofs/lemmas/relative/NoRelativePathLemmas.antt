@@ -1,6 +1,6 @@
 -- If there is no relative path from one path to another, no path without a root leads there.
 use Rattle.std.proofs.Common.{◌≡◌, ◌⊎◌, ℕ, true, false, List, [], ◌∷◌, ◌++◌, reverse, None, refl}
-use Rattle.std.proofs.Common.{sym, ap, ap₂, subst, ◌∙◌, inl, inr, ⊎_elim}
+use Rattle.std.proofs.Common.{sym, ap, subst, ◌∙◌, ⊎_elim, arith}
 use Rattle.std.specs.List.{list_any}
 use Rattle.std.proofs.lemmas.List.{reverse-append}
 use Rattle.unix_path.specs.Joins.{join_of}
@@ -32,8 +32,7 @@ record OnPopLimit (ks : List Value) : Type 0 where
 
 -- each stack is names on top of a pop limit
 on_pop_limit : (ks : List Value) → IsStack ks → OnPopLimit ks
-on_pop_limit (RootDir ∷ ks) h =
-    record { top = []; pop_limit = RootDir ∷ ks; names = tt; is_pop_limit = inl refl; is = refl }
+on_pop_limit (RootDir ∷ ks) h = grind arith
 on_pop_limit (Normal name ∷ ks) h = let more = on_pop_limit ks h in record {
   top = Normal name ∷ more.top;
   pop_limit = more.pop_limit;
@@ -41,8 +40,7 @@ on_pop_limit (Normal name ∷ ks) h = let more = on_pop_limit ks h in record {
   is_pop_limit = more.is_pop_limit;
   is = ap (λ zs. Normal name ∷ zs) more.is;
 }
-on_pop_limit ks h = record
-    { top = []; pop_limit = ks; names = tt; is_pop_limit = inr refl; is = refl }
+on_pop_limit ks h = grind arith
 
 -- the stack ks is components without a root (`top`) on top of the pop limit
 record KeepsPopLimit (ks pop_limit : List Value) : Type 0 where
@@ -58,8 +56,7 @@ push_keeps_pop_limit [] pop_limit h k = ⊎_elim
     (λ e. record { top = []; no_root = refl; is = e })
     (λ e. record { top = ParentDir ∷ []; no_root = refl; is = e }) h
 push_keeps_pop_limit (RootDir ∷ top) pop_limit h k = absurd (let no : true ≡ false = k in cc)
-push_keeps_pop_limit (Normal name ∷ top) pop_limit h k =
-    record { top = top; no_root = k; is = refl }
+push_keeps_pop_limit (Normal name ∷ top) pop_limit h k = grind arith
 push_keeps_pop_limit top pop_limit h k = record { top = ParentDir ∷ top; no_root = k; is = refl }
 
 -- resolving components without a root leaves the pop limit unchanged
@@ -85,12 +82,10 @@ some_relative_path ks vs h r none =
     let no_root = straight_rootless on.top (names_straight on.top on.names) in
     let keeps = keeps_pop_limit on.top on.pop_limit vs on.is_pop_limit no_root r in
     let v = ap reverse on.is ∙ reverse-append on.top on.pop_limit in
-    let w = ap (λ zs. reverse (resolve_onto zs vs)) on.is ∙ ap reverse keeps.is
+    let w =
+    ap (λ zs. reverse (resolve_onto zs vs)) on.is ∙ ap reverse keeps.is
     ∙ reverse-append keeps.top on.pop_limit in
-    some_steps (reverse on.pop_limit) (reverse on.top) (reverse keeps.top)
-    (list_all-names (reverse on.top) (names_reverse on.top on.names))
-    (list_any-reverse keeps.top ∙ keeps.no_root)
-    (sym (ap₂ steps_from v w) ∙ none)
+    grind (arith, some_steps, list_all-names, names_reverse, list_any-reverse)
 
 -- if there is no relative path from `from` to `to`, and b has no root, the join of `from` and b
 -- does not resolve to the same bytes as `to`
@@ -102,6 +97,4 @@ no_relative_path from to b none r e =
     let joined : reverse (resolve_onto ks (values b)) ≡ resolved_of (values to) =
     ap reverse (sym (resolve_onto-join from b)) ∙ sym (values-resolved (join_of from b))
     ∙ ap values e ∙ values-resolved to in
-    some_relative_path ks (values b) (IsStack-resolve_onto [] (values from) tt)
-    (rootless-no_roots b r)
-    (ap (steps_from (reverse ks)) joined ∙ none)
+    grind (arith, some_relative_path, IsStack-resolve_onto, rootless-no_roots)

@@ -17,16 +17,17 @@ use Rattle.path_within.proofs.lemmas.stack.BetweenLemmas.{parent_dirs_for}
 use Rattle.path_within.proofs.lemmas.below.BoundLemmas.{length-spelling, slashed_len-cons}
 use Rattle.path_within.proofs.lemmas.below.BoundLemmas.{slashed_len-names, slashed_len-rootless}
 use Rattle.path_within.proofs.lemmas.below.NamesBelowLemmas.{resolved_of-slash}
-use Rattle.path_within.proofs.lemmas.stack.PathOfLemmas.{one_has_bytes}
 use Rattle.path_within.proofs.lemmas.stack.ResolveLemmas.{ReadsAsItself-resolved}
 use Rattle.path_within.proofs.lemmas.stack.StackLemmas.{names_straight}
 use Rattle.path_within.proofs.lemmas.stack.RelativePathLemmas.{names_all, straight_rootless}
+use Rattle.std.proofs.lemmas.Grind.{common_steps}
+use Rattle.unix_path.proofs.lemmas.parts.PartLemmas.{values-nil}
 
 -- components that read as themselves have at least two bytes each, with their slash
 ones_long : (vs : List Value) → ReadsAsItself vs → 2 * length vs ≤ slashed_len vs
 ones_long [] ones = omega arith
 ones_long (v ∷ vs) ones =
-    omega (arith, slashed_len-cons v vs, one_has_bytes v ones.0, ones_long vs ones.1)
+    grind (arith, common_steps, slashed_len-cons v vs, ones_long vs ones.1, values-nil)
 
 -- a `..` for each component of vs, with a slash for each, takes 3 bytes per component of vs
 parent_dirs_len : (vs : List Value) → slashed_len (parent_dirs_for vs) ≡ 3 * length vs
@@ -42,13 +43,14 @@ rest_fits s n none = by_test (is_rooted s)
     (λ r. let t = is_rooted-slash s r in
     let is : resolved_of (values s) ≡ RootDir ∷ names_below (values t.0) =
     ap (λ s. resolved_of (values s)) t.1 ∙ resolved_of-slash t.0 in
-    omega (
+    grind (
       arith,
+      slashed_len-names,
       ap (λ vs. slashed_len (drop n vs)) is,
-      after_root_fits n (names_below (values t.0))
-          (sym (ap (λ vs. list_any is_root (drop n vs)) is) ∙ none),
-      slashed_len-names t.0,
-      ap length t.1,
+      after_root_fits n
+          (names_below (values t.0)) (sym (ap (λ vs. list_any is_root (drop n vs)) is) ∙ none),
+      ap
+          length t.1,
     ))
     (λ r. omega (
       arith,

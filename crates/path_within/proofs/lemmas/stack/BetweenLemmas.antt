@@ -29,13 +29,9 @@ parent_dirs_for vs = map (λ v. ParentDir) vs
 pub take-shared : (v w : List Value) → take (shared_count v w) v ≡ take (shared_count v w) w
 take-shared [] w = grind (arith, common_steps)
 take-shared (x ∷ v) [] = refl
-take-shared (x ∷ v) (y ∷ w) = let n = shared_count v w in grind (
-  arith,
-  take-shared v w,
-  take-suc_cons n x v,
-  take-suc_cons n y w,
-  same_value-Decides x y,
-)
+take-shared (x ∷ v) (y ∷ w) =
+    let n = shared_count v w in
+    grind (arith, take-shared v w, take-suc_cons n x v, take-suc_cons n y w, same_value-Decides x y)
 
 -- putting the prefix f before two lists x and y adds the length of f to the length of their common
 -- prefix
@@ -69,11 +65,7 @@ pub some_steps : (f x y : List Value) → list_all is_name x ≡ true → list_a
     → steps_from (f ++ x) (f ++ y) ≡ None → ⊥
 some_steps f x y h k none =
     let m = shared_count x y in
-    let names = names_drop m x h in
-    let no_root = no_root_drop m y k in
-    let n = shared_count-behind f x y in
-    let some : Some (parent_dirs_for (drop m x) ++ drop m y) ≡ None =
-    rw (n, drop-append-add f x m, drop-append-add f y m, names, no_root) at none in cc
+    grind (arith, names_drop, no_root_drop, shared_count-behind, drop-append-add)
 
 -- `steps` is the relative path from v to w: v has only names, w has no root, and `steps` has a `..`
 -- for each name of v, and then w
@@ -85,5 +77,4 @@ pub record AreSteps (v w steps : List Value) : Type 0 where
 -- if `steps_between` finds a relative path from v to w, `AreSteps` is true of this path
 pub steps_between-is : (v w steps : List Value) → steps_between v w ≡ Some steps
     → AreSteps v w steps
-steps_between-is v w steps e =
-    record { names = grind (arith, e); no_root = grind (arith, e); steps_are = grind (arith, e) }
+steps_between-is v w steps e = grind arith

@@ -1,14 +1,12 @@
 -- Components that escape, which is tested by counting the depth from the first component on, and
 -- the stack of components that do not escape.
 use Rattle.std.proofs.Common.{◌≡◌, ℕ, suc, zero, ◌+◌, ◌-◌, ◌<◌, Bool, true, false, cond, List, []}
-use Rattle.std.proofs.Common.{◌∷◌, ◌++◌, length, take, refl, sym, ap, ◌∙◌, arith, inl, inr, ⊎_elim}
+use Rattle.std.proofs.Common.{◌∷◌, ◌++◌, length, take, refl, sym, ap, ◌∙◌, arith}
 use Rattle.std.proofs.Common.{◌↔◌}
 use Rattle.std.specs.List.{AllByRecursion, count_by}
 use Rattle.std.proofs.lemmas.Bool.{false_from_ne_true}
 use Rattle.std.proofs.lemmas.List.Sums.{sum_by-cons}
 use Rattle.unix_path.specs.Parts.{Value, RootDir, CurDir, ParentDir, Normal, is_rooted, values}
-use Rattle.unix_bytes.proofs.lemmas.lists.ListLemmas.{by_test}
-use Rattle.unix_path.specs.Prefixes.{IsPrefixOf}
 use Rattle.unix_path.proofs.lemmas.parts.PartLemmas.{root_first, root_first-values}
 use Rattle.unix_path.proofs.lemmas.rests.RootLemmas.{NoRoot, rooted-IsPrefixOf}
 use Rattle.path_runs.proofs.lemmas.joins.LeadLemmas.{IsInner, inner-behind}
@@ -94,21 +92,11 @@ rootless-no_roots s r = by (values s) refl
 -- a path escapes if and only if its components escape from depth 0
 pub escapes_by_depth : (s : List ℕ) → Escapes (values s) ↔ (escapes_from 0 (values s) ≡ true)
 escapes_by_depth s =
-    let root = rooted-IsPrefixOf s (is_rooted s) refl in (
-      λ h. ⊎_elim (λ r. begins (values s) r)
-          (λ a. goes-escapes_from 0 a.0 (values s) (omega (arith, a.1))) h,
-      λ e. by_test (is_rooted s) (λ r. inl (root.0 r))
-          (λ r. let found = escapes_from-goes 0 (values s) (rootless-no_roots s r) e in
-          inr (found.0, omega (arith, found.1))),
-    )
-  where
-    begins : (vs : List Value) → IsPrefixOf (RootDir ∷ []) vs → escapes_from 0 vs ≡ true
-    begins vs (ws, e) = ap (escapes_from 0) (sym e)
+    grind (arith, rooted-IsPrefixOf, goes-escapes_from, escapes_from-goes, rootless-no_roots)
 
 -- a path that does not escape has no root
 pub rootless-stays : (b : List ℕ) → (Escapes (values b) → ⊥) → is_rooted b ≡ false
-rootless-stays b h =
-    false_from_ne_true (is_rooted b) (λ r. h (inl ((rooted-IsPrefixOf b (is_rooted b) refl).0 r)))
+rootless-stays b h = grind (arith, false_from_ne_true, rooted-IsPrefixOf)
 
 -- the stack `all` is the stack ks with `names` on top, which are only names
 pub record Stays (ks all names : List Value) : Type 0 where
@@ -132,3 +120,5 @@ pub keeps_stack : (ks : List Value) (b : List ℕ) → (Escapes (values b) → �
     → Stays ks (resolve_onto ks (values b)) (resolve_onto [] (values b))
 keeps_stack ks b h = stays ks [] (values b) tt
     (false_from_ne_true (escapes_from 0 (values b)) (λ e. h ((escapes_by_depth b).1 e)))
+
+pub ruleset escapes_by_components_cases = (escapes_by_depth, escapes_from)

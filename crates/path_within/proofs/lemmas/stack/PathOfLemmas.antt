@@ -1,6 +1,6 @@
 -- The path of a stack: each component's bytes, joined to the path of the components below it.
-use Rattle.std.proofs.Common.{◌≡◌, ℕ, false, cond, List, [], ◌∷◌, ◌++◌, map, reverse, length, refl}
-use Rattle.std.proofs.Common.{sym, ap, ◌∙◌, ◌<◌, arith}
+use Rattle.std.proofs.Common.{◌≡◌, ℕ, false, List, [], ◌∷◌, ◌++◌, map, reverse, refl}
+use Rattle.std.proofs.Common.{sym, ap, ◌∙◌, arith, rules}
 use mathlib.Core.List.{reverse_aux}
 use Rattle.std.specs.List.{slice_split}
 use Rattle.std.proofs.lemmas.Grind.{reverse_onto}
@@ -14,7 +14,7 @@ use Rattle.unix_path.proofs.lemmas.parts.PartLemmas.{root_first, root_first-valu
 use Rattle.unix_path.proofs.lemmas.parts.ValueLemmas.{value_bytes-piece}
 use Rattle.path_runs.specs.Spelling.{spelling_of}
 use Rattle.path_runs.proofs.lemmas.spelling.JoinAllLemmas.{join_all_of-values}
-use Rattle.path_runs.proofs.lemmas.joins.LeadLemmas.{IsInner, inner-no_lead, append_values}
+use Rattle.path_runs.proofs.lemmas.joins.LeadLemmas.{IsInner, inner-no_lead}
 use Rattle.path_runs.proofs.lemmas.joins.LeadLemmas.{append_values-inner, values-join_of_rootless}
 use Rattle.path_runs.proofs.lemmas.spelling.PieceValueLemmas.{HoldsOfPieces, names_of, NoSlash}
 use Rattle.path_runs.proofs.lemmas.spelling.PieceValueLemmas.{values-hold, values-rooted}
@@ -23,22 +23,8 @@ use Rattle.path_within.specs.Resolved.{push_component, resolve_onto}
 use Rattle.path_within.specs.Steps.{ReadsAsItself, IsStack, ValueReadsAsItself, path_of}
 use Rattle.path_within.proofs.lemmas.stack.StackLemmas.{IsStack-parent_dir_run}
 
-pub ValueReadsAsItself-root : ValueReadsAsItself RootDir
-ValueReadsAsItself-root = values-rooted []
-
 pub ValueReadsAsItself-dot : ValueReadsAsItself CurDir
 ValueReadsAsItself-dot = values-rootless (dot ∷ []) ((dot ∷ []) ∷ []) refl refl
-
-pub ValueReadsAsItself-dot_dot : ValueReadsAsItself ParentDir
-ValueReadsAsItself-dot_dot = values-rootless (dot ∷ dot ∷ []) ((dot ∷ dot ∷ []) ∷ []) refl refl
-
--- if the bytes of a component, parsed as a path, have only that component, they are not empty
-pub one_has_bytes : (v : Value) → ValueReadsAsItself v → 0 < length (value_bytes v)
-one_has_bytes v one = by (value_bytes v) one
-  where
-    by : (b : List ℕ) → values b ≡ v ∷ [] → 0 < length b
-    by [] e = absurd (let no : [] ≡ v ∷ [] = sym values-nil ∙ e in cc)
-    by (x ∷ b) e = omega arith
 
 piece_rootless : (p : List ℕ) → NoSlash p → is_rooted p ≡ false
 piece_rootless [] h = refl
@@ -51,20 +37,19 @@ ValueReadsAsItself-piece p h e f =
     let alone : slice_split is_slash p ≡ p ∷ [] =
     slice_split_none is_slash p (All-from_recursion (λ b. is_slash b ≡ false) p h) in
     let single : names_of (p ∷ []) ≡ value_of_piece p ∷ [] = rw (e, f) refl in
-    ap values (value_bytes-piece p) ∙ values-rootless p (p ∷ []) (piece_rootless p h) alone
-    ∙ ap (λ c. cond c (CurDir ∷ []) [] ++ names_of (p ∷ [])) f ∙ single
+    grind (arith, value_bytes-piece, values-rootless, piece_rootless)
 
 -- the bytes of each component of a path, parsed as a path, have only that component
 pub ReadsAsItself-values : (s : List ℕ) → ReadsAsItself (values s)
-ReadsAsItself-values s = values-hold ValueReadsAsItself ValueReadsAsItself-root
-    ValueReadsAsItself-dot ValueReadsAsItself-piece s
+ReadsAsItself-values s =
+    search (rules, values-hold, ValueReadsAsItself-dot, ValueReadsAsItself-piece, values-rooted)
 
 -- if `ReadsAsItself` is true of a stack, and one more component reads as itself, it is true of the
 -- stack after that component
 pub ReadsAsItself-push_component : (ks : List Value) (v : Value) → ReadsAsItself ks
     → ValueReadsAsItself v
     → ReadsAsItself (push_component ks v)
-ReadsAsItself-push_component ks RootDir h k = (ValueReadsAsItself-root, tt)
+ReadsAsItself-push_component ks RootDir h k = grind (arith, values-rooted)
 ReadsAsItself-push_component ks CurDir h k = h
 ReadsAsItself-push_component (RootDir ∷ ks) ParentDir h k = h
 ReadsAsItself-push_component (Normal name ∷ ks) ParentDir h k = h.1
@@ -86,23 +71,20 @@ values-join_of_value s v i e =
     let b = value_bytes v in
     let rootless : is_rooted b ≡ false =
     sym (root_first-values b) ∙ ap root_first e ∙ (inner-no_lead (v ∷ []) (i, tt)).no_root in
-    values-join_of_rootless s b rootless ∙ ap (append_values (values s)) e
-    ∙ append_values-inner (values s) (v ∷ []) (i, tt)
+    grind (arith, values-join_of_rootless, append_values-inner)
 
 -- if v is `..` or a name, and reads as itself, and the path of the stack ks has the components of
 -- ks, the lowest one first, then this is also true of the stack with v on top of ks
 push_value : (ks : List Value) (v : Value) → IsInner v → ValueReadsAsItself v
     → values (path_of ks) ≡ reverse ks → values (path_of (v ∷ ks)) ≡ reverse (v ∷ ks)
-push_value ks v i e h = values-join_of_value (path_of ks) v i e
-    ∙ ap (λ vs. vs ++ v ∷ []) h ∙ sym (reverse_onto ks v [])
+push_value ks v i e h = grind (arith, values-join_of_value, reverse_onto)
 
 -- if each component of a stack reads as itself, the path of the stack has these components, the
 -- lowest one first
 pub values-path_of : (ks : List Value) → IsStack ks → ReadsAsItself ks
     → values (path_of ks) ≡ reverse ks
 values-path_of [] h k = values-nil
-values-path_of (RootDir ∷ ks) h k =
-    rw h (ap values (join_of_rooted [] (value_bytes RootDir) refl) ∙ ValueReadsAsItself-root)
+values-path_of (RootDir ∷ ks) h k = grind (arith, join_of_rooted)
 values-path_of (CurDir ∷ ks) h k = absurd h
 values-path_of (ParentDir ∷ ks) h k =
     push_value ks ParentDir tt k.0 (values-path_of ks (IsStack-parent_dir_run ks h) k.1)
@@ -121,7 +103,4 @@ join_all_of-reverse (k ∷ ks) vs = join_all_of-reverse ks (k ∷ vs)
 -- these components, the lowest one first
 pub path_of-spelled : (ks : List Value) → IsStack ks → ReadsAsItself ks
     → path_of ks ≡ spelling_of (reverse ks)
-path_of-spelled ks h k =
-    let all = values-path_of ks h k in
-    sym (join_all_of-reverse ks []) ∙ ap (λ vs. join_all_of [] (map value_bytes vs)) (sym all)
-    ∙ join_all_of-values (path_of ks) ∙ ap spelling_of all
+path_of-spelled ks h k = grind (arith, values-path_of, join_all_of-reverse, join_all_of-values)

@@ -38,8 +38,7 @@ resolve_onto-straight : (us vs : List Value) → AllParentDirs us → ParentDirs
     → resolve_onto us vs ≡ reverse_aux vs us
 resolve_onto-straight us [] h k = refl
 resolve_onto-straight us (ParentDir ∷ vs) h k =
-    ap (λ ks. resolve_onto ks vs) (push_parent_dir_grows us h)
-    ∙ resolve_onto-straight (ParentDir ∷ us) vs h k
+    cc (push_parent_dir_grows us h, resolve_onto-straight (ParentDir ∷ us) vs h k)
 resolve_onto-straight us (Normal name ∷ vs) h k = resolve_onto-names (Normal name ∷ us) vs k
 resolve_onto-straight us (v ∷ vs) h k = absurd k
 

@@ -1,9 +1,8 @@
 -- The components of a resolved path, and of a resolved join.
-use Rattle.std.proofs.Common.{◌≡◌, ℕ, List, [], ◌∷◌, ◌++◌, true, reverse, refl, sym, ap, ◌∙◌, drop}
-use Rattle.std.proofs.Common.{subst, take, take-append-drop}
+use Rattle.std.proofs.Common.{◌≡◌, ℕ, List, [], ◌∷◌, ◌++◌, refl, sym, ap, ◌∙◌, drop}
+use Rattle.std.proofs.Common.{subst, take, take-append-drop, arith}
 use Rattle.unix_path.specs.Joins.{join_of}
-use Rattle.unix_path.specs.Parts.{Value, CurDir, is_rooted, values}
-use Rattle.unix_bytes.proofs.lemmas.lists.ListLemmas.{by_test}
+use Rattle.unix_path.specs.Parts.{Value, CurDir, values}
 use Rattle.unix_path.proofs.lemmas.edits.JoinLemmas.{join_of_rooted}
 use Rattle.path_runs.specs.JoinLaws.{drop_dot, values_added}
 use Rattle.path_runs.specs.Spelling.{spelling_of}
@@ -13,10 +12,11 @@ use Rattle.path_runs.proofs.lemmas.lists.AllLemmas.{AllByRecursion-end}
 use Rattle.path_within.specs.Resolved.{resolve_onto, resolved_of, resolved_bytes_of}
 use Rattle.path_within.specs.Steps.{ReadsAsItself, ValueReadsAsItself}
 use Rattle.path_within.proofs.lemmas.stack.StackLemmas.{IsStack-resolve_onto, resolve_onto-append}
-use Rattle.path_within.proofs.lemmas.stack.StackLemmas.{resolved_of-append, resolved_of-resolved_of}
+use Rattle.path_within.proofs.lemmas.stack.StackLemmas.{resolved_of-append}
 use Rattle.path_within.proofs.lemmas.stack.PathOfLemmas.{ReadsAsItself-resolve_onto}
 use Rattle.path_within.proofs.lemmas.stack.PathOfLemmas.{ReadsAsItself-values}
 use Rattle.path_within.proofs.lemmas.stack.PathOfLemmas.{path_of-spelled, values-path_of}
+use Rattle.path_within.proofs.lemmas.stack.StackLemmas.{resolved_normal, resolve_onto-stack}
 
 -- if each component of vs reads as itself, the canonical form of the resolved vs, parsed as a path,
 -- has these resolved components
@@ -36,8 +36,8 @@ values-resolved s = values-spelling_of_resolved (values s) (ReadsAsItself-values
 -- resolving the resolved bytes of s again does not change them
 pub resolved_bytes_of-again : (s : List ℕ)
     → resolved_bytes_of (resolved_bytes_of s) ≡ resolved_bytes_of s
-resolved_bytes_of-again s =
-    ap spelling_of (ap resolved_of (values-resolved s) ∙ resolved_of-resolved_of (values s))
+unfolding resolved_of
+resolved_bytes_of-again s = grind (arith, values-resolved, resolve_onto-stack, IsStack-resolve_onto)
 
 -- in a suffix of a path's components, the bytes of each component, parsed as a path, have only that
 -- component
@@ -64,38 +64,25 @@ resolve_onto-added : (ks : List Value) (a b : List ℕ)
 resolve_onto-added ks [] b = refl
 resolve_onto-added ks (x ∷ a) b = resolve_onto-drop_dot ks (values b)
 
--- if b has a root, resolving its components onto any stack ks leaves the same stack as resolving
--- them onto the empty stack
-pub resolve_onto-rooted : (ks : List Value) (b : List ℕ) → is_rooted b ≡ true
-    → resolve_onto [] (values b) ≡ resolve_onto ks (values b)
-resolve_onto-rooted ks b r =
-    let t = is_rooted-slash b r in
-    let lead = ap values t.1 ∙ values-rooted t.0 in
-    ap (resolve_onto []) lead ∙ sym (ap (resolve_onto ks) lead)
-
 -- the stack of a join is the stack after the first path's components and then the second path's
 -- components
 pub resolve_onto-join : (a b : List ℕ)
     → resolve_onto [] (values (join_of a b)) ≡ resolve_onto (resolve_onto [] (values a)) (values b)
-resolve_onto-join a b = by_test (is_rooted b)
-    (λ r. ap (λ s. resolve_onto [] (values s)) (join_of_rooted a b r)
-    ∙ resolve_onto-rooted (resolve_onto [] (values a)) b r)
-    (λ r. ap (resolve_onto []) (values-join_of_values_added a b r)
-    ∙ resolve_onto-append [] (values a) (values_added a b)
-    ∙ resolve_onto-added (resolve_onto [] (values a)) a b)
+resolve_onto-join a b = grind (
+  arith,
+  join_of_rooted,
+  values-join_of_values_added,
+  resolve_onto-append,
+  resolve_onto-added,
+  is_rooted-slash,
+  values-rooted,
+)
 
 -- the components of a join resolve to the same components as those of the first path and then those
 -- of the second
 pub resolved_of-both : (a b : List ℕ)
     → resolved_of (values (join_of a b)) ≡ resolved_of (values a ++ values b)
 unfolding resolved_of
-resolved_of-both a b =
-    ap reverse (resolve_onto-join a b ∙ sym (resolve_onto-append [] (values a) (values b)))
+resolved_of-both a b = simp (resolve_onto-join, resolve_onto-append)
 
--- resolving the first path of a join beforehand does not change what the join resolves to
-pub resolved_of-join : (a b : List ℕ)
-    → resolved_bytes_of (join_of a b) ≡ resolved_bytes_of (join_of (resolved_bytes_of a) b)
-resolved_of-join a b = ap spelling_of (resolved_of-both a b
-    ∙ sym (resolved_of-both (resolved_bytes_of a) b
-    ∙ ap (λ vs. resolved_of (vs ++ values b)) (values-resolved a)
-    ∙ resolved_of-append (values a) (values b)))
+pub ruleset resolved_is_normal_cases = (resolved_normal, values-resolved, resolved_bytes_of-again)

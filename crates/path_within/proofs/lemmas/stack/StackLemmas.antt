@@ -1,5 +1,5 @@
 -- Stacks: their components, and that resolving these components again leaves the same stack.
-use Rattle.std.proofs.Common.{◌≡◌, List, [], ◌∷◌, ◌++◌, reverse, refl, sym, ap, ◌∙◌}
+use Rattle.std.proofs.Common.{◌≡◌, List, [], ◌∷◌, ◌++◌, reverse, refl, sym, ap, ◌∙◌, arith}
 use mathlib.Core.List.{reverse_aux}
 use Rattle.unix_path.specs.Parts.{Value, RootDir, CurDir, ParentDir, Normal}
 use Rattle.path_within.specs.Resolved.{push_parent_dir, push_component, resolve_onto, resolved_of}
@@ -100,21 +100,13 @@ pub resolved_normal : (vs : List Value) → IsNormal (resolved_of vs)
 unfolding resolved_of
 resolved_normal vs = stack_normal (resolve_onto [] vs) [] (IsStack-resolve_onto [] vs tt) tt
 
--- resolving the resolved components of vs again does not change them
-pub resolved_of-resolved_of : (vs : List Value) → resolved_of (resolved_of vs) ≡ resolved_of vs
-unfolding resolved_of
-resolved_of-resolved_of vs =
-    ap reverse (resolve_onto-stack (resolve_onto [] vs) (IsStack-resolve_onto [] vs tt))
-
 -- resolving vs beforehand does not change what vs and then ws resolve to
 pub resolved_of-append : (vs ws : List Value)
     → resolved_of (resolved_of vs ++ ws) ≡ resolved_of (vs ++ ws)
 unfolding resolved_of
 resolved_of-append vs ws =
     let ks = resolve_onto [] vs in
-    ap reverse (resolve_onto-append [] (reverse ks) ws
-    ∙ ap (λ js. resolve_onto js ws) (resolve_onto-stack ks (IsStack-resolve_onto [] vs tt))
-    ∙ sym (resolve_onto-append [] vs ws))
+    grind (arith, resolve_onto-append, resolve_onto-stack, IsStack-resolve_onto)
 
 names_before : (ns vs : List Value) → AllNames ns → AllNames vs → AllNames (reverse_aux ns vs)
 names_before [] vs h k = k

@@ -1,4 +1,4 @@
-use Rattle.std.proofs.Common.{arith, ◌≡◌, ◌∷◌}
+use Rattle.std.proofs.Common.{arith}
 use Rattle.unix_path.specs.Cursor.{cursor_values}
 use Rattle.unix_path.specs.Views.{value_of}
 use Rattle.path_within.proofs.lemmas.names_only.NormalLemmas.{straight_iff}
@@ -8,5 +8,4 @@ pub returns-then-is_name : goal.returns-then-is_name
 returns-then-is_name c =
     let v = value_of c.in-Some.part in
     let vs = cursor_values c.next.new.self in
-    let cut : cursor_values c.loop-part.rest ≡ v ∷ vs = c.in-Some.ensures.steps.item_is in
-    grind (arith, cut, straight_iff v vs)
+    grind (arith, straight_iff v vs)

@@ -1,15 +1,10 @@
-use Rattle.std.proofs.Common.{not, length, sym, ap, arith, get_or, eqb, ◌≡◌, false}
-use Rattle.std.proofs.lemmas.Bool.Decides.{nat_tests}
+use Rattle.std.proofs.Common.{not, length, sym, ap, arith}
 use Rattle.std.proofs.lemmas.List.Sums.{position_or_len_is}
 use Rattle.unix_path.specs.Parts.{is_slash}
 use Rattle.path_within.proofs.request.leading_slash_count.Goals as goal
 
 pub returns-then-byte-ne47-clause-value : goal.returns-then-byte-ne47-clause-value
-returns-then-byte-ne47-clause-value c =
-    let other : eqb (get_or c.args.bytes.now c.loop-index.index 0) 47 ≡ false =
-    grind (arith, nat_tests) in
-    sym (position_or_len_is (λ b. not (is_slash b)) c.args.bytes.now c.loop-index.index 0
-    (omega arith) (λ k l. ap not (c.loop-index.invariant k l)) (λ _. ap not other))
+returns-then-byte-ne47-clause-value c = grind (arith, position_or_len_is)
 
 pub returns-clause-value : goal.returns-clause-value
 returns-clause-value c =

@@ -1,6 +1,5 @@
-use Rattle.std.proofs.Common.{◌++◌, ap, ap₂, sym, ◌∙◌}
+use Rattle.std.proofs.Common.{arith}
 use Rattle.unix_path.specs.Parts.{values}
-use Rattle.path_runs.specs.Spelling.{spelling_of}
 use Rattle.path_within.specs.Escapes.{Escapes}
 use Rattle.path_within.proofs.lemmas.below.BelowLawLemmas.{resolved-names_only_join}
 use Rattle.path_within.proofs.lemmas.below.BelowLemmas.{names_only_verbatim}
@@ -12,20 +11,14 @@ use Rattle.path_within.proofs.within.join_within.Goals.{Else-is_refused}
 
 -- if the check does not refuse the request, the request does not escape
 stays : (c : Else-is_refused) → Escapes (values c.args.request.bytes.now) → ⊥
-stays c escapes =
-    let yes = c.is_refused.ensures.1 (c.check_escape-check.ensures.refused.1 escapes) in
-    let no = c.if-is_refused.false in cc
+stays c escapes = grind arith
 
 pub returns-then-is_names_only-clause-bytes : goal.returns-then-is_names_only-clause-bytes
 returns-then-is_names_only-clause-bytes c =
     let a = c.args.root.bytes.now in
     let b = c.args.request.bytes.now in
     let stay = stays (goal.at.returns-then-is_names_only-clause-bytes c).Else-is_refused in
-    c.in_ok-join.ensures.bytes
-    ∙ resolved-names_only_join a b (c.is_names_only.ensures c.if-is_names_only.true)
-    (c.check_escape-check.ensures.names_only
-    (c.is_names_only-is_request_names_only.ensures.0 c.if-is_request_names_only.true))
-    (rootless-stays b stay)
+    grind (arith, resolved-names_only_join, rootless-stays)
 
 pub returns-then-is_names_only-clause-within : goal.returns-then-is_names_only-clause-within
 returns-then-is_names_only-clause-within c =
@@ -45,10 +38,7 @@ returns-clause-bytes c =
     let a = c.args.root.bytes.now in
     let b = c.args.request.bytes.now in
     let stay = stays (goal.at.returns-clause-bytes c).Else-is_refused in
-    c.in_ok-to_path_buf.ensures.bytes ∙ ap spelling_of (c.with-layout.ensures
-    ∙ ap₂ (λ vs ws. vs ++ ws) c.of.ensures.values
-    (c.names_of-names.ensures ∙ names_below-resolved b stay)
-    ∙ sym (resolved_of-within a b stay))
+    grind (arith, names_below-resolved, resolved_of-within)
 
 pub returns-clause-within : goal.returns-clause-within
 returns-clause-within c =

@@ -1,4 +1,4 @@
-use Rattle.std.proofs.Common.{ap, sym, ◌∙◌}
+use Rattle.std.proofs.Common.{ap, sym, ◌∙◌, arith}
 use Rattle.unix_path.specs.CommonDir.{inner_values}
 use Rattle.unix_path.specs.Scan.{is_filler}
 use Rattle.path_within.proofs.lemmas.backward.PieceLemmas.{after_filler-resolved}
@@ -6,15 +6,13 @@ use Rattle.path_within.proofs.lemmas.backward.PieceLemmas.{after_filler-represen
 use Rattle.path_within.proofs.write.trimmed.Goals as goal
 
 pub returns-clause-represents_names : goal.returns-clause-represents_names
-returns-clause-represents_names c =
-    after_filler-represents_names c.without_filler.result.bytes.now c.from_bytes.result.bytes.now
-    c.args.path.bytes.now c.without_filler.ensures
-    (c.after_filler.ensures.same ∙ ap inner_values (sym c.from_bytes.ensures.bytes))
-    (ap (λ s. is_filler s 0) c.from_bytes.ensures.bytes ∙ c.after_filler.ensures.not_filler)
+returns-clause-represents_names c = grind (
+  arith,
+  after_filler-represents_names c.without_filler.result.bytes.now c.from_bytes.result.bytes.now
+      c.args.path.bytes.now c.without_filler.ensures
+      (c.after_filler.ensures.same ∙ ap inner_values (sym c.from_bytes.ensures.bytes))
+      (ap (λ s. is_filler s 0) c.from_bytes.ensures.bytes ∙ c.after_filler.ensures.not_filler),
+)
 
 pub returns-clause-resolved : goal.returns-clause-resolved
-returns-clause-resolved c =
-    after_filler-resolved c.without_filler.result.bytes.now c.from_bytes.result.bytes.now
-    c.args.path.bytes.now c.without_filler.ensures
-    (c.after_filler.ensures.same ∙ ap inner_values (sym c.from_bytes.ensures.bytes))
-    (ap (λ s. is_filler s 0) c.from_bytes.ensures.bytes ∙ c.after_filler.ensures.not_filler)
+returns-clause-resolved c = grind (arith, after_filler-resolved)

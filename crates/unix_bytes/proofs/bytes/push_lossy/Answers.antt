@@ -1,3 +1,4 @@
+use Rattle.std.proofs.lemmas.Grind.{common_steps}
 use Rattle.std.proofs.Common.{length, sym, ap, ◌∙◌, arith, length-drop}
 use Rattle.std.proofs.lemmas.Bool.{eqb-true}
 use Rattle.std.proofs.lemmas.List.{take_rest}
@@ -14,17 +15,7 @@ loop-unread-smaller c =
     omega (arith, less, ap length (take_rest rest read), length-drop read rest)
 
 pub loop-unread-preserved : goal.loop-unread-preserved
-loop-unread-preserved c =
-    let rest = c.split_text.result.2.now in
-    let more = pushes_split c.loop-unread.bytes.items c.split_text.ensures in
-    let buffer = pushes_buffer _ _ rest _ _ (take_rest rest c.show_first-read.result.0)
-    c.show_first-read.ensures.lossy in
-    rw (
-      c.in_ok-extend_from_slice.ensures.items,
-      c.in_ok-push_broken.ensures,
-      c.in_ok-push_prefix.ensures,
-    )
-    (buffer ∙ more ∙ c.loop-unread.invariant)
+loop-unread-preserved c = grind (arith, common_steps, pushes_split, pushes_buffer, take_rest)
 
 pub returns : goal.returns
 returns c =

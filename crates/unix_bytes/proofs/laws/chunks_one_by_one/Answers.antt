@@ -1,9 +1,5 @@
-use Rattle.unix_bytes.proofs.lemmas.chunks.ChunkLemmas.{chunks_of-nil}
 use Rattle.unix_bytes.proofs.lemmas.chunks.PartitionLemmas.{chunks_of_some}
 use Rattle.unix_bytes.proofs.laws.chunks_one_by_one.Goals as goal
-
-pub returns-clause-nothing : goal.returns-clause-nothing
-returns-clause-nothing c = chunks_of-nil
 
 pub returns-clause-some : goal.returns-clause-some
 returns-clause-some c = chunks_of_some

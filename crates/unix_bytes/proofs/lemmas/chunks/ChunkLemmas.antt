@@ -1,22 +1,22 @@
 -- The first chunk, which is the longest valid prefix and the front after it, and the chunks of the
 -- rest.
 use Rattle.std.proofs.Common.{◌≡◌, ℕ, zero, suc, ◌+◌, ◌<◌, ◌≤◌, List, [], ◌∷◌, ◌++◌, length, take}
-use Rattle.std.proofs.Common.{drop, false, eqb, if◌then◌else◌, ⊎_elim, inr, refl, sym, ap, ◌∙◌}
+use Rattle.std.proofs.Common.{drop, ⊎_elim, refl, sym, ap, ◌∙◌}
 use Rattle.std.proofs.Common.{subst, arith, le_refl, length-drop, length-take-le, take-append-drop}
-use Rattle.std.proofs.Common.{append_assoc, append-nil, length-append, true}
+use Rattle.std.proofs.Common.{append_assoc, append-nil, true}
 use Rattle.std.specs.List.{concat, flat_map, list_all}
 use Rattle.std.specs.Str.{IsUtf8}
-use Rattle.std.proofs.lemmas.Bool.{and_parts, cases_lt, cond-true, cond-false, ne_eqb}
-use Rattle.std.proofs.lemmas.List.{take_all, drop-drop}
+use Rattle.std.proofs.lemmas.Bool.{and_parts}
+use Rattle.std.proofs.lemmas.List.{drop-drop}
 use Rattle.std.proofs.lemmas.Str.{IsUtf8-append}
 use Rattle.std.proofs.Math.Seq.{take-add}
+use Rattle.std.proofs.lemmas.Grind.{common_steps}
 use Rattle.unix_bytes.specs.Utf8.{is_sequence, IsSequence, IsText}
-use Rattle.unix_bytes.specs.Lossy.{fronts_of, is_text, replacement, lossy_of}
+use Rattle.unix_bytes.specs.Lossy.{fronts_of, is_text, lossy_of}
 use Rattle.unix_bytes.specs.Chunks.{chunks_from, chunks_of, shown_chunk, replacement_for}
 use Rattle.unix_bytes.specs.Steps.{longest_len, longest_front_of, first_chunk_of, chunk_len}
 use Rattle.unix_bytes.proofs.lemmas.text.TextLemmas.{IsUtf8-sequence, IsUtf8-from_IsText}
 use Rattle.unix_bytes.proofs.lemmas.text.TextLemmas.{IsText-from_IsUtf8}
-use Rattle.unix_bytes.proofs.lemmas.text.TextLemmas.{IsText-nil}
 use Rattle.unix_bytes.proofs.lemmas.sequences.LongestLemmas.{longest_len-is, longest_len-longest}
 use Rattle.unix_bytes.proofs.lemmas.sequences.LongestLemmas.{longest_len-least}
 use Rattle.unix_bytes.proofs.lemmas.sequences.FrontLemmas.{longest_front_of-nil}
@@ -30,17 +30,11 @@ use Rattle.unix_bytes.proofs.lemmas.lossy.LossyLemmas.{lossy_of-nil, lossy_of-ap
 -- if s is valid UTF-8 (`IsUtf8`), the longest valid prefix of s is all of s
 pub whole_text : (s : List ℕ) → IsUtf8 s → longest_len is_text s ≡ length s
 whole_text s u =
-    longest_len-is is_text s (length s) (le_refl (length s))
-    (inr (ap is_text (take_all (length s) s (le_refl (length s)))
-    ∙ is_text-from_IsText s (IsText-from_IsUtf8 s u)))
-    (λ k p q. absurd (omega arith))
+    grind (arith, common_steps, longest_len-is, is_text-from_IsText, IsText-from_IsUtf8)
 
 -- the longest prefix of s that passes `is_text` is valid UTF-8
 pub text_prefix : (s : List ℕ) → IsText (take (longest_len is_text s) s)
-text_prefix s =
-    let n = longest_len is_text s in
-    ⊎_elim (λ z. subst (λ j. IsText (take j s)) (sym z) IsText-nil)
-    (λ p. IsText-from_is_text (take n s) p) (longest_len-longest is_text s).passes
+text_prefix s = grind (arith, longest_len-longest is_text s, IsText-from_is_text)
 
 -- the `valid` part of the first chunk of s is valid UTF-8
 pub first_chunk_of-text : (s : List ℕ) → IsText (first_chunk_of s).valid
@@ -72,17 +66,7 @@ none_after_text s =
 -- the first chunk of a nonempty byte string has at least one byte
 pub chunk_some : (b : ℕ) (bs : List ℕ) → 1 ≤ chunk_len (first_chunk_of (b ∷ bs))
 unfolding first_chunk_of
-chunk_some b bs =
-    let s = b ∷ bs in
-    let n = longest_len is_text s in
-    let w = (longest_len-longest is_text s).within in
-    ⊎_elim (λ (some : 0 < n). omega (arith, length-take-le n s w))
-    (λ (none : n ≤ 0).
-    let z : n ≡ 0 = omega arith in
-    let e : length (longest_front_of (drop n s)) ≡ length (longest_front_of s) =
-    ap (λ k. length (longest_front_of (drop k s))) z in
-    omega (arith, e, (front_within b bs).0))
-    (cases_lt 0 n)
+chunk_some b bs = grind (arith, front_within)
 
 -- the empty byte string has no chunks
 pub chunks_of-nil : chunks_of [] ≡ []
@@ -99,12 +83,10 @@ chunks_of-empty (b ∷ bs) e = absurd (omega arith)
 chunks_from-sequences : (us : List (List ℕ)) (text : List ℕ) (rest : List (List ℕ))
     → list_all is_sequence us ≡ true
     → chunks_from text (us ++ rest) ≡ chunks_from (text ++ concat us) rest
-chunks_from-sequences [] text rest h =
-    ap (λ t. chunks_from t rest) (sym (append-nil text))
+chunks_from-sequences [] text rest h = grind (arith, append-nil)
 chunks_from-sequences (u ∷ us) text rest h =
     let k : IsSequence u × (list_all is_sequence us ≡ true) = and_parts _ _ h in
-    cond-true _ _ _ k.0 ∙ chunks_from-sequences us (text ++ u) rest k.1
-    ∙ ap (λ t. chunks_from t rest) (append_assoc text u (concat us))
+    grind (arith, common_steps, chunks_from-sequences us (text ++ u) rest k.1)
 
 -- if no prefix of t is a sequence, and `text` and t are not both empty, the chunks of `text` and
 -- the fronts of t are the chunk of `text` and the first front of t, which is empty if t is, and
@@ -112,14 +94,8 @@ chunks_from-sequences (u ∷ us) text rest h =
 chunks_from-rest : (text t : List ℕ) → longest_len is_sequence t ≡ 0 → 0 < length (text ++ t)
     → chunks_from text (fronts_of t) ≡ record { valid = text; broken = longest_front_of t }
     ∷ chunks_from [] (fronts_of (drop (length (longest_front_of t)) t))
-chunks_from-rest text [] z some =
-    let e : eqb (length text) 0 ≡ false =
-    ne_eqb (length text) 0 (omega (arith, length-append text [])) in
-    ap (chunks_from text) fronts_of-nil ∙ cond-false _ _ _ e
-    ∙ sym (rw (longest_front_of-nil, fronts_of-nil) refl)
-chunks_from-rest text (b ∷ bs) z some =
-    ap (chunks_from text) (fronts_of-some b bs)
-    ∙ cond-false _ _ _ (is_sequence-longest_front_of (b ∷ bs) z)
+chunks_from-rest text [] z some = grind (arith, common_steps, fronts_of-nil, longest_front_of-nil)
+chunks_from-rest text (b ∷ bs) z some = grind (arith, fronts_of-some, is_sequence-longest_front_of)
 
 -- if v is valid UTF-8, no prefix of t is a sequence, and v and t are not both empty, the chunks of
 -- v followed by t are the chunk of v and the first front of t, and then the chunks of the bytes of
@@ -130,9 +106,7 @@ chunks_of-append : (v t : List ℕ) → IsText v → longest_len is_sequence t �
     ∷ chunks_of (drop (length (longest_front_of t)) t)
 unfolding chunks_of
 chunks_of-append v t h z some =
-    let (us, all, e, cut) = fronts_of-text v t h in
-    ap (chunks_from []) cut ∙ chunks_from-sequences us [] (fronts_of t) all
-    ∙ ap (λ x. chunks_from x (fronts_of t)) e ∙ chunks_from-rest v t z some
+    grind (arith, fronts_of-text v t h, chunks_from-sequences, chunks_from-rest)
 
 -- the chunks of a nonempty byte string are the chunk `first_chunk_of` and then the chunks of the
 -- bytes after that chunk
@@ -158,13 +132,7 @@ lossy_of-rest : (t : List ℕ) → longest_len is_sequence t ≡ 0
     → lossy_of t ≡ replacement_for (longest_front_of t)
     ++ lossy_of (drop (length (longest_front_of t)) t)
 lossy_of-rest [] z = rw (ap length longest_front_of-nil) refl
-lossy_of-rest (b ∷ bs) z =
-    let s = b ∷ bs in
-    let k = length (longest_front_of s) in
-    let some : 1 ≤ k = (front_within b bs).0 in
-    let e : eqb k 0 ≡ false = ne_eqb k 0 (omega arith) in
-    lossy_of-none b bs z
-    ∙ ap (λ c. (if c then [] else replacement) ++ lossy_of (drop k s)) (sym e)
+lossy_of-rest (b ∷ bs) z = grind (arith, lossy_of-none)
 
 -- the lossy form of s is the shown form of the first chunk of s (`shown_chunk`) and then the lossy
 -- form of the bytes after that chunk
@@ -202,3 +170,6 @@ shows_lossy_within (suc n) (b ∷ bs) le =
 -- the shown forms of the chunks of s (`shown_chunk`), one after the other, are the lossy form of s
 pub flat_map-shown_chunk : (s : List ℕ) → flat_map shown_chunk (chunks_of s) ≡ lossy_of s
 flat_map-shown_chunk s = shows_lossy_within (length s) s (le_refl (length s))
+
+-- no bytes have no chunks
+pub ruleset no_chunks = (chunks_of-empty)

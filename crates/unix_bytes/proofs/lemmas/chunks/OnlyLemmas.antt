@@ -1,12 +1,13 @@
 -- The first chunk, and whether it is the only chunk.
 use Rattle.std.proofs.Common.{◌≡◌, ℕ, List, [], ◌∷◌, ◌++◌, sym, ap, ◌∙◌}
-use Rattle.std.proofs.Common.{subst, arith, append-nil}
+use Rattle.std.proofs.Common.{arith}
 use Rattle.std.specs.List.{flat_map}
 use Rattle.std.proofs.lemmas.List.{drop_all}
+use Rattle.std.proofs.lemmas.Grind.{common_steps}
 use Rattle.unix_bytes.specs.Utf8.{IsText}
-use Rattle.unix_bytes.specs.Lossy.{is_text, lossy_of}
+use Rattle.unix_bytes.specs.Lossy.{lossy_of}
 use Rattle.unix_bytes.specs.Chunks.{Chunk, chunks_of, shown_chunk}
-use Rattle.unix_bytes.specs.Steps.{longest_len, longest_front_of, first_chunk_of}
+use Rattle.unix_bytes.specs.Steps.{first_chunk_of}
 use Rattle.unix_bytes.proofs.lemmas.text.TextLemmas.{IsUtf8-from_IsText}
 use Rattle.unix_bytes.proofs.lemmas.sequences.FrontLemmas.{longest_front_of-nil}
 use Rattle.unix_bytes.proofs.lemmas.chunks.ChunkLemmas.{whole_text, chunks_of-nil, chunks_of-some}
@@ -23,17 +24,13 @@ first_chunk_is (b ∷ bs) c cs e = let h = chunks_of-some b bs in cc
 pub only_chunk : (s : List ℕ) (c : Chunk) (cs : List Chunk) → chunks_of s ≡ c ∷ cs
     → c.broken ≡ [] → c.valid ≡ s
 only_chunk s c cs e z =
-    let none : cs ≡ [] = whole_chunk_is_last s [] cs c e z in
-    let bytes : Chunk → List ℕ = λ x. x.valid ++ x.broken in
-    sym (append-nil c.valid) ∙ ap (λ b. c.valid ++ b) (sym z) ∙ sym (append-nil (bytes c))
-    ∙ ap (flat_map bytes) (ap (λ t. c ∷ t) (sym none) ∙ sym e) ∙ chunks_partition s
+    grind (arith, common_steps, whole_chunk_is_last s [] cs c e z, chunks_partition s)
 
 -- if the first chunk c of s has no invalid bytes, s is valid UTF-8
 pub only_text : (s : List ℕ) (c : Chunk) (cs : List Chunk) → chunks_of s ≡ c ∷ cs
     → c.broken ≡ [] → IsText s
 only_text s c cs e z =
-    subst IsText (ap (λ (x : Chunk). x.valid) (first_chunk_is s c cs e) ∙ only_chunk s c cs e z)
-    (first_chunk_of-text s)
+    grind (arith, first_chunk_is s c cs e, only_chunk s c cs e z, first_chunk_of-text s)
 
 -- if the chunks of s are c and then cs, their shown forms (`shown_chunk`), one after the other, are
 -- the lossy form of s
@@ -46,7 +43,4 @@ pub text_has_none_broken : (s : List ℕ) (c : Chunk) (cs : List Chunk) → chun
     → IsText s → c.broken ≡ []
 unfolding first_chunk_of
 text_has_none_broken s c cs e t =
-    let n = longest_len is_text s in
-    let all = whole_text s (IsUtf8-from_IsText s t) in
-    sym (ap (λ (x : Chunk). x.broken) (first_chunk_is s c cs e))
-    ∙ ap longest_front_of (drop_all n s (omega arith)) ∙ longest_front_of-nil
+    grind (arith, whole_text, IsUtf8-from_IsText, first_chunk_is, drop_all, longest_front_of-nil)

@@ -1,12 +1,10 @@
 -- Chunks partition the bytes: their number, their contents, and which chunk is the last.
 use Rattle.std.proofs.Common.{◌≡◌, ℕ, zero, suc, ◌+◌, ◌≤◌, List, [], ◌∷◌, ◌++◌, length, take, drop}
-use Rattle.std.proofs.Common.{refl, sym, ap, ◌∙◌, subst, arith, le_refl, append_assoc}
+use Rattle.std.proofs.Common.{refl, sym, ap, ◌∙◌, subst, arith, le_refl}
 use Rattle.std.proofs.Common.{length-append, length-drop, length-take-le, take-append-drop}
-use Rattle.std.specs.Prelude.{max}
 use Rattle.std.specs.List.{All, flat_map}
-use Rattle.std.proofs.lemmas.List.{drop_at, drop-drop}
 use Rattle.std.proofs.lemmas.List.Elements.{All-nil, All-cons}
-use Rattle.unix_bytes.specs.Utf8.{begins_sequence}
+use Rattle.std.proofs.lemmas.Grind.{common_steps}
 use Rattle.unix_bytes.specs.Lossy.{front_of, is_text}
 use Rattle.unix_bytes.specs.Chunks.{Chunk, chunks_of}
 use Rattle.unix_bytes.specs.Steps.{longest_len, longest_front_of, first_chunk_of, chunk_len}
@@ -45,13 +43,7 @@ follow_first s =
 
 pub chunks_of_some : ChunksOfSome
 chunks_of_some [] c cs e = let h = chunks_of-nil in cc
-chunks_of_some (b ∷ bs) c cs e =
-    let s = b ∷ bs in
-    let h = chunks_of-some b bs in
-    let first : first_chunk_of s ≡ c = cc in
-    let rest : chunks_of (drop (chunk_len (first_chunk_of s)) s) ≡ cs = cc in
-    subst (λ x. FollowFirst s x cs) first
-    (subst (λ xs. FollowFirst s (first_chunk_of s) xs) rest (follow_first s))
+chunks_of_some (b ∷ bs) c cs e = grind (arith, chunks_of-some, follow_first)
 
 -- if s has at most n bytes, it has no more chunks than bytes
 length_within : (n : ℕ) (s : List ℕ) → length s ≤ n → length (chunks_of s) ≤ length s
@@ -72,25 +64,17 @@ length-chunks_of s = length_within (length s) s (le_refl (length s))
 two_prefixes : (s : List ℕ) (n k : ℕ) → n ≤ length s
     → (take n s ++ take k (drop n s)) ++ drop (length (take n s) + length (take k (drop n s))) s ≡ s
 two_prefixes s n k w =
-    let v = take n s in
     let t = drop n s in
     let b = take k t in
     let e : t ≡ b ++ drop k t = sym (take-append-drop k t) in
-    let back : drop (length v + length b) s ≡ drop k t =
-    ap (λ j. drop (j + length b) s) (length-take-le n s w) ∙ sym (drop-drop (length b) n s)
-    ∙ ap (drop (length b)) e ∙ drop_at b (drop k t) (length b) refl in
-    append_assoc v b _ ∙ ap (λ x. v ++ (b ++ x)) back
-    ∙ ap (λ x. v ++ x) (sym e) ∙ take-append-drop n s
+    grind (arith, common_steps)
 
 -- the `valid` part of the first chunk of s, its `broken` part, and the bytes after this chunk, one
 -- after the other, are s
 first_chunk_of-drop : (s : List ℕ) → (first_chunk_of s).valid ++ (first_chunk_of s).broken
     ++ drop (chunk_len (first_chunk_of s)) s ≡ s
 unfolding first_chunk_of longest_front_of
-first_chunk_of-drop s =
-    let n = longest_len is_text s in
-    let k = max 1 (longest_len begins_sequence (drop n s)) in
-    two_prefixes s n k (longest_len-longest is_text s).within
+first_chunk_of-drop s = grind (arith, two_prefixes, longest_len-longest)
 
 -- if s has at most n bytes, the bytes of the chunks of s, one after the other, are s
 partition_within : (n : ℕ) (s : List ℕ) → length s ≤ n
@@ -136,20 +120,14 @@ chunks_are_short s = short_within (length s) s (le_refl (length s))
 longest_front_of-empty : (s : List ℕ) → longest_front_of s ≡ [] → s ≡ []
 longest_front_of-empty [] e = refl
 longest_front_of-empty (b ∷ bs) e =
-    let some = (front_within b bs).0 in
     let none : length (longest_front_of (b ∷ bs)) ≡ 0 = ap length e in
-    absurd (omega arith)
+    grind (arith, front_within)
 
 -- if the first chunk of s has no invalid bytes, no byte of s follows this chunk
 nothing_follows : (s : List ℕ) → (first_chunk_of s).broken ≡ []
     → drop (chunk_len (first_chunk_of s)) s ≡ []
 unfolding first_chunk_of
-nothing_follows s e =
-    let n = longest_len is_text s in
-    let v = length-take-le n s (longest_len-longest is_text s).within in
-    let k : length (take n s) + length (longest_front_of (drop n s)) ≡ n =
-    omega (arith, v, ap length e) in
-    ap (λ j. drop j s) k ∙ longest_front_of-empty (drop n s) e
+nothing_follows s e = grind (arith, common_steps, longest_front_of-empty)
 
 -- if s has at most n bytes, and c is a chunk of s without invalid bytes, no chunk comes after c
 last_within : (n : ℕ) (s : List ℕ) (before after : List Chunk) (c : Chunk) → length s ≤ n
@@ -158,12 +136,7 @@ last_within n [] [] after c l e z = let h = chunks_of-nil in cc
 last_within n [] (x ∷ before) after c l e z = let h = chunks_of-nil in cc
 last_within zero (b ∷ bs) before after c l e z = absurd (omega arith)
 last_within (suc n) (b ∷ bs) [] after c l e z =
-    let s = b ∷ bs in
-    let k = chunk_len (first_chunk_of s) in
-    let h = chunks_of-some b bs in
-    let first : first_chunk_of s ≡ c = cc in
-    let rest : chunks_of (drop k s) ≡ after = cc in
-    sym rest ∙ ap chunks_of (nothing_follows s (ap (λ x. x.broken) first ∙ z)) ∙ chunks_of-nil
+    grind (arith, chunks_of-some, nothing_follows, chunks_of-nil)
 last_within (suc n) (b ∷ bs) (x ∷ before) after c l e z =
     let s = b ∷ bs in
     let k = chunk_len (first_chunk_of s) in

@@ -1,5 +1,5 @@
 -- The two cases of a test, and the first and last elements of a list.
-use Rattle.std.proofs.Common.{◌≡◌, ℕ, zero, suc, ◌+◌, ◌-◌, ◌≤◌, Bool, true, false, List, [], ◌∷◌}
+use Rattle.std.proofs.Common.{◌≡◌, ℕ, suc, ◌+◌, ◌-◌, ◌≤◌, Bool, true, false, List, [], ◌∷◌}
 use Rattle.std.proofs.Common.{◌++◌, length, take, drop, Option, Some, refl, sym, ap, ◌∙◌, arith}
 use Rattle.std.proofs.Common.{length-drop}
 use Rattle.std.specs.List.{last_or}
@@ -22,12 +22,6 @@ drop-suc_cons n x xs = ap (λ k. drop k (x ∷ xs)) {x = 1 + n} {y = suc n} (ome
 pub take-beginning : (s u : List ℕ) (n : ℕ) → take (length u) s ≡ u → n ≤ length u
     → take n u ≡ take n s
 take-beginning s u n e l = ap (take n) (sym e) ∙ take-take n (length u) s l
-
--- if k is the length of `take n s`, the first k bytes of s are `take n s`
-pub take-take_front : (n : ℕ) (s : List ℕ) → take (length (take n s)) s ≡ take n s
-take-take_front zero s = refl
-take-take_front (suc n) [] = refl
-take-take_front (suc n) (b ∷ s) = ap (λ t. b ∷ t) (take-take_front n s)
 
 -- if b is at most the length of s, the range of s from index a up to b, exclusive, has b - a bytes
 pub length-range : (s : List ℕ) (a b : ℕ) → b ≤ length s → length (slice_range s a b) ≡ b - a

@@ -1,16 +1,16 @@
 -- Laws of fronts and of lossy forms.
 use Rattle.std.proofs.Common.{◌≡◌, ℕ, ◌<◌, ◌≤◌, List, [], ◌∷◌, ◌++◌, length, take, drop, true}
-use Rattle.std.proofs.Common.{⊎_elim, inl, inr, refl, sym, ap, ◌∙◌, subst, arith, length-take-le}
+use Rattle.std.proofs.Common.{⊎_elim, refl, sym, ◌∙◌, subst, arith, length-take-le}
 use Rattle.std.proofs.Common.{length-append, take-append-drop, append-nil, map, zero, suc, ◌⊎◌}
 use Rattle.std.proofs.Common.{le_refl}
 use Rattle.std.specs.Prelude.{max}
 use Rattle.std.specs.List.{All, list_all}
-use Rattle.std.proofs.lemmas.Bool.{cases_lt, cases_Bool, cond-true, cond-false}
-use Rattle.std.proofs.lemmas.List.{take_all}
+use Rattle.std.proofs.lemmas.Bool.{cases_lt}
 use Rattle.std.proofs.lemmas.List.Concat.{concat_is}
 use Rattle.std.proofs.lemmas.List.Elements.{All-nil, All-cons}
 use Rattle.std.proofs.lemmas.List.Folds.{flat_map-map}
 use Rattle.std.proofs.lemmas.List.Sums.{AllPass-from_list_all}
+use Rattle.std.proofs.lemmas.Grind.{common_steps}
 use Rattle.unix_bytes.specs.Utf8.{is_sequence, IsSequence, BeginsSequence, begins_sequence}
 use Rattle.unix_bytes.specs.Lossy.{fronts_of, replacement, lossy_of}
 use Rattle.unix_bytes.specs.Steps.{longest_len, longest_front_of}
@@ -32,18 +32,7 @@ use Rattle.unix_bytes.proofs.lemmas.lossy.LossyLemmas.{length-drop-some}
 longest_front_begins : (b : ℕ) (bs : List ℕ)
     → BeginsSequence (longest_front_of (b ∷ bs)) ⊎ (length (longest_front_of (b ∷ bs)) ≡ 1)
 unfolding longest_front_of
-longest_front_begins b bs =
-    let s = b ∷ bs in
-    let n = longest_len begins_sequence s in
-    ⊎_elim
-    (λ (some : 0 < n).
-    let e : max 1 n ≡ n = omega arith in
-    ⊎_elim (λ z. absurd (omega arith))
-    (λ t. inl (subst (λ k. BeginsSequence (take k s)) (sym e) (BeginsSequence-from (take n s) t)))
-    (longest_len-longest begins_sequence s).passes)
-    (λ (none : n ≤ 0).
-    let e : max 1 n ≡ 1 = omega arith in inr (ap (λ k. length (take k s)) e))
-    (cases_lt 0 n)
+longest_front_begins b bs = grind (arith, BeginsSequence-from, longest_len-longest)
 
 -- u begins a sequence, or is one byte
 abbrev MayStand : List ℕ → Type 0
@@ -66,9 +55,7 @@ fronts_begin s = may_stand_within (length s) s (le_refl (length s))
 pub fronts_one_by_one : FrontsOneByOne
 unfolding fronts_of
 fronts_one_by_one [] = refl
-fronts_one_by_one (b ∷ bs) =
-    ap (drop 1) (fronts_of-some b bs)
-    ∙ ap (λ u. fronts_of (drop (length u) (b ∷ bs))) (sym (front_of-longest (b ∷ bs)))
+fronts_one_by_one (b ∷ bs) = grind (arith, common_steps, fronts_of-some)
 
 -- the first front of s is a prefix of s, and no prefix of s that begins a sequence is longer
 longest_front_is_longest : (s : List ℕ) → IsLongest BeginsSequence (longest_front_of s) s
@@ -85,9 +72,7 @@ longest_front_is_longest s =
     )
 
 pub front_is_longest : FrontIsLongest
-front_is_longest s =
-    subst (λ u. IsLongest BeginsSequence u s) (sym (front_of-longest s))
-    (longest_front_is_longest s)
+front_is_longest s = grind (arith, front_of-longest s, longest_front_is_longest s)
 
 -- if no prefix of s is a sequence (`BeginsWithNoSequence`), `longest_len is_sequence s` is 0
 longest_len-BeginsWithNoSequence : (s : List ℕ) → BeginsWithNoSequence s
@@ -100,9 +85,7 @@ longest_len-BeginsWithNoSequence s none =
 pub lossy_of_broken : LossyOfBroken
 lossy_of_broken [] some none = absurd (omega arith)
 lossy_of_broken (b ∷ bs) some none =
-    lossy_of-none b bs (longest_len-BeginsWithNoSequence (b ∷ bs) none)
-    ∙ ap (λ u. replacement ++ lossy_of (drop (length u) (b ∷ bs)))
-    (sym (front_of-longest (b ∷ bs)))
+    grind (arith, lossy_of-none, longest_len-BeginsWithNoSequence, front_of-longest)
 
 -- U+FFFD is a sequence
 pub replacement_is_sequence : is_sequence replacement ≡ true
@@ -111,10 +94,7 @@ replacement_is_sequence = refl
 
 -- the bytes that are shown for u as a front, either u itself or U+FFFD, are a sequence
 shown_front_is_sequence : (u : List ℕ) → is_sequence (shown_front u) ≡ true
-shown_front_is_sequence u =
-    ⊎_elim (λ t. ap is_sequence (cond-true _ _ _ t) ∙ t)
-    (λ f. ap is_sequence (cond-false _ _ _ f) ∙ replacement_is_sequence)
-    (cases_Bool (is_sequence u))
+shown_front_is_sequence u = grind (arith, replacement_is_sequence)
 
 -- if no prefix of s is a sequence, the longest prefix of s that begins a sequence has at most three
 -- bytes
@@ -142,16 +122,11 @@ beginning_is_short s z =
 pub longest_front_is_short : (s : List ℕ) → longest_len is_sequence s ≡ 0
     → length (longest_front_of s) ≤ 3
 unfolding longest_front_of
-longest_front_is_short s z =
-    let few = beginning_is_short s z in
-    let k = max 1 (longest_len begins_sequence s) in
-    ⊎_elim (λ (l : length s < k). omega (arith, ap length (take_all k s (omega arith))))
-    (λ (g : k ≤ length s). omega (arith, length-take-le k s g)) (cases_lt (length s) k)
+longest_front_is_short s z = grind (arith, common_steps, beginning_is_short)
 
 pub broken_is_short : BrokenIsShort
 broken_is_short s none =
-    subst (λ u. length u ≤ 3) (sym (front_of-longest s))
-    (longest_front_is_short s (longest_len-BeginsWithNoSequence s none))
+    grind (arith, front_of-longest, longest_front_is_short, longest_len-BeginsWithNoSequence)
 
 -- for each u of us, the bytes that are shown for u as a front are a sequence
 shown_fronts_are_sequences : (us : List (List ℕ))

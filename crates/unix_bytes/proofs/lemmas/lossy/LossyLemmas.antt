@@ -4,11 +4,11 @@ use Rattle.std.proofs.Common.{true, false, refl, sym, ap, ap₂, ◌∙◌, arit
 use Rattle.std.proofs.Common.{length-drop, length-take-le, take-append-drop, append-nil}
 use Rattle.std.proofs.Common.{if◌then◌else◌}
 use Rattle.std.specs.List.{concat, flat_map, list_all}
-use Rattle.std.proofs.lemmas.Bool.{and_parts, cond-true, cond-false, false_from_ne_true}
+use Rattle.std.proofs.lemmas.Bool.{and_parts, cond-true, false_from_ne_true}
 use Rattle.std.proofs.lemmas.List.{drop_at}
 use Rattle.std.proofs.lemmas.List.Concat.{flat_map-append}
-use Rattle.std.proofs.lemmas.List.Folds.{list_all-append}
 use Rattle.std.proofs.lemmas.List.Sums.{AllPass-from_list_all, list_all-from_AllPass}
+use Rattle.std.proofs.lemmas.Grind.{common_steps}
 use Rattle.unix_bytes.specs.Utf8.{is_sequence, IsSequence, IsText}
 use Rattle.unix_bytes.specs.Lossy.{fronts_of, replacement, lossy_of, is_text}
 use Rattle.unix_bytes.specs.Steps.{longest_len, longest_front_of}
@@ -27,10 +27,7 @@ shown_front u = if is_sequence u then u else replacement
 fronts_of-sequence : (u s : List ℕ) → IsSequence u → fronts_of (u ++ s) ≡ u ∷ fronts_of s
 fronts_of-sequence [] s h = let k = is_sequence-nil in cc
 fronts_of-sequence (b ∷ u) s h =
-    let e = longest_front_of-sequence (b ∷ u) s h in
-    fronts_of-some b (u ++ s)
-    ∙ ap (λ f. f ∷ fronts_of (drop (length f) (b ∷ u ++ s))) e
-    ∙ ap (λ t. (b ∷ u) ∷ fronts_of t) (drop_at (b ∷ u) s (length (b ∷ u)) refl)
+    grind (arith, longest_front_of-sequence (b ∷ u) s h, fronts_of-some, drop_at)
 
 -- if us are sequences, the byte string that is us, one after the other, and then s has the fronts
 -- us and then the fronts of s
@@ -39,8 +36,7 @@ fronts_of-concat : (us : List (List ℕ)) (s : List ℕ) → list_all is_sequenc
 fronts_of-concat [] s h = refl
 fronts_of-concat (u ∷ us) s h =
     let k : IsSequence u × (list_all is_sequence us ≡ true) = and_parts _ _ h in
-    ap fronts_of (append_assoc u (concat us) s) ∙ fronts_of-sequence u (concat us ++ s) k.0
-    ∙ ap (λ fs. u ∷ fs) (fronts_of-concat us s k.1)
+    grind (arith, append_assoc, fronts_of-sequence, fronts_of-concat us s k.1)
 
 -- if at least one byte is dropped from a nonempty string of at most n + 1 bytes, at most n remain
 pub length-drop-some : (n k b : ℕ) (bs : List ℕ) → 1 ≤ k → length (b ∷ bs) ≤ suc n
@@ -73,18 +69,12 @@ IsText-from_is_text s h =
 -- followed by s are us and then the fronts of s
 pub fronts_of-text : (t s : List ℕ) → IsText t → (us : List (List ℕ))
     × (list_all is_sequence us ≡ true) × (concat us ≡ t) × (fronts_of (t ++ s) ≡ us ++ fronts_of s)
-fronts_of-text t s (us, h, e) =
-    let all = list_all-from_AllPass is_sequence us h in
-    (us, all, e, ap (λ x. fronts_of (x ++ s)) (sym e) ∙ fronts_of-concat us s all)
+fronts_of-text t s (us, h, e) = grind (arith, list_all-from_AllPass, fronts_of-concat)
 
 -- valid UTF-8 passes the test `is_text`
 pub is_text-from_IsText : (s : List ℕ) → IsText s → is_text s ≡ true
 unfolding is_text
-is_text-from_IsText s t =
-    let (us, all, e, cut) = fronts_of-text s [] t in
-    let same : fronts_of s ≡ us =
-    ap fronts_of (sym (append-nil s)) ∙ cut ∙ ap (λ fs. us ++ fs) fronts_of-nil ∙ append-nil us in
-    ap (list_all is_sequence) same ∙ all
+is_text-from_IsText s t = grind (arith, fronts_of-text s [] t, append-nil, fronts_of-nil)
 
 -- if t is valid UTF-8, and t followed by s is valid UTF-8, so is s
 pub text_rest : (t s : List ℕ) → IsText t → IsText (t ++ s) → IsText s
@@ -93,8 +83,7 @@ text_rest t s h k =
     let (us, all, e, cut) = fronts_of-text t s h in
     let both : list_all is_sequence (us ++ fronts_of s) ≡ true =
     sym (ap (list_all is_sequence) cut) ∙ is_text-from_IsText (t ++ s) k in
-    IsText-from_is_text s
-    (and_parts _ _ (sym (list_all-append is_sequence us (fronts_of s)) ∙ both)).1
+    grind (arith, common_steps, IsText-from_is_text)
 
 -- if us are sequences, the bytes that are shown for them as fronts are us, one after the other
 flat_map-shown_front : (us : List (List ℕ)) → list_all is_sequence us ≡ true
@@ -112,23 +101,15 @@ lossy_of-nil = ap (flat_map shown_front) fronts_of-nil
 -- if t is valid UTF-8, the lossy form of t followed by s is t and then the lossy form of s
 pub lossy_of-append : (t s : List ℕ) → IsText t → lossy_of (t ++ s) ≡ t ++ lossy_of s
 unfolding lossy_of
-lossy_of-append t s h =
-    let (us, all, e, cut) = fronts_of-text t s h in
-    ap (flat_map shown_front) cut ∙ flat_map-append shown_front us (fronts_of s)
-    ∙ ap (λ x. x ++ flat_map shown_front (fronts_of s)) (flat_map-shown_front us all ∙ e)
+lossy_of-append t s h = grind (arith, fronts_of-text t s h, flat_map-append, flat_map-shown_front)
 
 -- valid UTF-8 is its own lossy form
 pub lossy_of-text : (s : List ℕ) → IsText s → lossy_of s ≡ s
-lossy_of-text s t =
-    ap lossy_of (sym (append-nil s)) ∙ lossy_of-append s [] t
-    ∙ ap (λ x. s ++ x) lossy_of-nil ∙ append-nil s
+lossy_of-text s t = grind (arith, append-nil s, lossy_of-append s [] t, lossy_of-nil)
 
 -- if `longest_len is_sequence s` is 0, no prefix u of s is a sequence
 pub no_sequence : (s u v : List ℕ) → longest_len is_sequence s ≡ 0 → s ≡ u ++ v → IsSequence u → ⊥
-no_sequence s u v z e h =
-    let some = sequence_len u h in
-    let few = longest_len-prefix is_sequence s u v h e in
-    absurd (omega arith)
+no_sequence s u v z e h = grind (arith, longest_len-prefix is_sequence s u v h e, sequence_len)
 
 -- if no prefix of s is a sequence, the first front of s is no sequence either
 pub is_sequence-longest_front_of : (s : List ℕ) → longest_len is_sequence s ≡ 0
@@ -137,8 +118,7 @@ is_sequence-longest_front_of s z =
     let k = length (longest_front_of s) in
     let e : s ≡ longest_front_of s ++ drop k s =
     sym (take-append-drop k s) ∙ ap (λ f. f ++ drop k s) (sym (longest_front_of-take s)) in
-    false_from_ne_true (is_sequence (longest_front_of s))
-    (no_sequence s (longest_front_of s) (drop k s) z e)
+    grind (arith, no_sequence)
 
 -- if no prefix of a nonempty byte string is a sequence, its lossy form is U+FFFD and then the lossy
 -- form of the bytes after its first front
@@ -146,11 +126,7 @@ pub lossy_of-none : (b : ℕ) (bs : List ℕ) → longest_len is_sequence (b ∷
     → lossy_of (b ∷ bs)
     ≡ replacement ++ lossy_of (drop (length (longest_front_of (b ∷ bs))) (b ∷ bs))
 unfolding lossy_of
-lossy_of-none b bs z =
-    let s = b ∷ bs in
-    ap (flat_map shown_front) (fronts_of-some b bs)
-    ∙ ap (λ f. f ++ flat_map shown_front (fronts_of (drop (length (longest_front_of s)) s)))
-    (cond-false _ _ _ (is_sequence-longest_front_of s z))
+lossy_of-none b bs z = grind (arith, fronts_of-some, is_sequence-longest_front_of)
 
 -- if no prefix of s is a sequence, no nonempty prefix of s is valid UTF-8
 pub no_text : (s : List ℕ) (k : ℕ) → IsText (take k s) → 0 < k → k ≤ length s

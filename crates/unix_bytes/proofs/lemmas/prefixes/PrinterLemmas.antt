@@ -1,12 +1,14 @@
 -- Lossy forms, written one buffer at a time.
 use Rattle.std.proofs.Common.{◌≡◌, ℕ, ◌+◌, ◌<◌, ◌≤◌, List, [], ◌∷◌, ◌++◌, length, take, drop, refl}
-use Rattle.std.proofs.Common.{sym, ap, ◌∙◌, subst, arith, append_assoc, append-nil}
+use Rattle.std.proofs.Common.{sym, ap, ◌∙◌, subst, arith, append_assoc}
 use Rattle.std.proofs.Common.{take-append-drop}
 use Rattle.std.proofs.Common.{length-take-le, ⊎_elim, slice_index, slice_set}
-use Rattle.std.proofs.lemmas.List.{drop-drop, take-take, take_more_set, nil_from_length}
+use Rattle.std.proofs.lemmas.List.{drop-drop, take-take, take_more_set}
 use Rattle.std.proofs.lemmas.Str.Ascii.{IsAscii-more, IsAscii-nil}
 use Rattle.std.specs.Str.{IsUtf8}
 use Rattle.std.proofs.Math.Seq.{take-append-add}
+use Rattle.std.proofs.lemmas.Grind.{common_steps}
+use Rattle.std.proofs.lemmas.Simd.{take_more_put_chunk}
 use Rattle.unix_bytes.specs.Utf8.{is_sequence, IsText}
 use Rattle.unix_bytes.specs.Lossy.{lossy_of, replacement}
 use Rattle.unix_bytes.specs.Steps.{longest_len, longest_front_of, broken_len}
@@ -59,21 +61,14 @@ shows_broken (b ∷ bs) before n after (some, is) e =
 -- has extended `before` to `after` (`Shows`)
 pub shows_more : (s t before middle after : List ℕ) (n k : ℕ) → t ≡ drop n s
     → Shows s before n middle → Shows t middle k after → Shows s before (n + k) after
-shows_more s t before middle after n k e p q = record {
-  lossy =
-      ap (λ u. after ++ lossy_of u) (sym (drop-drop k n s) ∙ ap (drop k) (sym e)) ∙ q.lossy
-      ∙ ap (λ u. middle ++ lossy_of u) e ∙ p.lossy;
-  text = λ h. q.text (p.text h);
-}
+shows_more s t before middle after n k e p q = grind (arith, drop-drop)
 
 -- if reading the first n bytes of s has written `buffer` (`Shows`), and t is the rest of s, then
 -- `items`, `buffer` and the lossy form of t, one after the other, are `items` and then the lossy
 -- form of s
 pub pushes_buffer : (items buffer s t : List ℕ) (n : ℕ) → t ≡ drop n s → Shows s [] n buffer
     → (items ++ buffer) ++ lossy_of t ≡ items ++ lossy_of s
-pushes_buffer items buffer s t n e p =
-    append_assoc items buffer (lossy_of t)
-    ∙ ap (λ u. items ++ u) (ap (λ u. buffer ++ lossy_of u) e ∙ p.lossy)
+pushes_buffer items buffer s t n e p = grind (arith, append_assoc)
 
 -- if reading the first n bytes of s has written `buffer` (`Shows`), `buffer` is UTF-8
 pub buffer_is_utf8 : (s buffer : List ℕ) (n : ℕ) → Shows s [] n buffer → IsUtf8 buffer
@@ -82,9 +77,7 @@ buffer_is_utf8 s buffer n p = IsUtf8-from_IsText buffer (p.text IsText-nil)
 -- if s is empty, and `items` followed by the lossy form of s is `whole`, then `items` is `whole`
 pub writes_whole : (items s whole : List ℕ) → length s ≡ 0 → items ++ lossy_of s ≡ whole
     → items ≡ whole
-writes_whole items s whole z e =
-    sym (append-nil items)
-    ∙ ap (λ u. items ++ u) (sym (ap lossy_of (nil_from_length s z) ∙ lossy_of-nil)) ∙ e
+writes_whole items s whole z e = grind (arith, common_steps, lossy_of-nil)
 
 -- if reading the first n bytes of s, which are all of s, has written `buffer` (`Shows`), and
 -- `items` followed by the lossy form of s is `whole`, then `items` followed by `buffer` is `whole`
@@ -98,11 +91,7 @@ writes_last items buffer s t whole n cut z p e =
 pub takes_fewer : (out old s : List ℕ) (at n k : ℕ) → k ≤ n → at ≤ length old
     → take (at + n) out ≡ take at old ++ take n s → take (at + k) out ≡ take at old ++ take k s
 takes_fewer out old s at n k few within e =
-    let long : length (take at old) ≡ at = length-take-le at old within in
-    sym (take-take (at + k) (at + n) out (omega arith)) ∙ ap (take (at + k)) e
-    ∙ ap (λ j. take (j + k) (take at old ++ take n s)) (sym long)
-    ∙ take-append-add (take at old) (take n s) k
-    ∙ ap (λ t. take at old ++ t) (take-take k n s few)
+    grind (arith, common_steps, take-append-add (take at old) (take n s) k)
 
 -- if s is not empty, and its first byte is written into `out` at index `at`, then `out` begins with
 -- its old first `at` bytes and then the first byte of s
@@ -126,3 +115,6 @@ sequence_is_short s =
 -- the longest prefix of s that is a sequence has at most four bytes, and the invalid front at the
 -- beginning of s is no longer than s
 pub ruleset front_bounds = (sequence_is_short, broken_len_within)
+
+-- what a copy of several bytes leaves in a buffer
+pub ruleset copied = (length-take-le, take_more_put_chunk, takes_fewer)

@@ -1,20 +1,21 @@
 -- The valid prefix, extended one run at a time.
+use Rattle.std.proofs.Common.{rules}
 use Rattle.std.proofs.Common.{◌≡◌, ℕ, ◌+◌, ◌-◌, ◌<◌, ◌≤◌, List, ◌++◌, length, take, drop}
-use Rattle.std.proofs.Common.{slice_index, get_or-drop, ⊎_elim, inr, sym, ap, ◌∙◌, subst}
-use Rattle.std.proofs.Common.{eqb, true, le_refl, arith, length-drop}
-use Rattle.std.proofs.lemmas.Bool.{eqb-true, false_from_ne_true}
+use Rattle.std.proofs.Common.{slice_index, inr, sym, ap, ◌∙◌, subst}
+use Rattle.std.proofs.Common.{eqb, true, arith, length-drop}
+use Rattle.std.proofs.lemmas.Bool.{false_from_ne_true}
 use Rattle.std.specs.Str.{IsAscii, IsUtf8}
-use Rattle.std.proofs.lemmas.List.{take_all, take_rest, drop-drop}
+use Rattle.std.proofs.lemmas.List.{take_all, take_rest}
 use Rattle.std.proofs.lemmas.Str.{IsUtf8-from_ascii}
 use Rattle.std.proofs.Math.Seq.{take-add}
-use Rattle.unix_bytes.specs.Utf8.{is_sequence, IsSequence, IsText}
+use Rattle.std.proofs.lemmas.Grind.{common_steps}
+use Rattle.unix_bytes.specs.Utf8.{is_sequence, IsText}
 use Rattle.unix_bytes.specs.Lossy.{is_text}
 use Rattle.unix_bytes.specs.Steps.{longest_len, broken_len}
 use Rattle.unix_bytes.proofs.lemmas.text.TextLemmas.{IsUtf8-from_IsText, IsText-from_IsUtf8}
 use Rattle.unix_bytes.proofs.lemmas.text.TextLemmas.{IsText-nil}
 use Rattle.unix_bytes.proofs.lemmas.text.TextLemmas.{IsText-append, IsText-sequence}
 use Rattle.unix_bytes.proofs.lemmas.sequences.SequenceLemmas.{IsSequence-two}
-use Rattle.unix_bytes.proofs.lemmas.sequences.HasBegunLemmas.{take-two, first_of_drop}
 use Rattle.unix_bytes.proofs.lemmas.sequences.LongestLemmas.{longest_len-is, longest_len-longest}
 use Rattle.unix_bytes.proofs.lemmas.lossy.LossyLemmas.{is_text-from_IsText, IsText-from_is_text}
 use Rattle.unix_bytes.proofs.lemmas.lossy.LossyLemmas.{text_rest}
@@ -35,10 +36,7 @@ none_is_text s = IsText-nil
 -- are valid UTF-8
 pub sequence_is_text : (s : List ℕ) (n : ℕ) → 0 < n → n ≡ longest_len is_sequence s
     → IsText (take n s)
-sequence_is_text s n some e =
-    subst (λ j. IsText (take j s)) (sym e)
-    (IsText-sequence _ (⊎_elim (λ z. absurd (omega arith)) (λ t. t)
-    (longest_len-longest is_sequence s).passes))
+sequence_is_text s n some e = grind (arith, IsText-sequence, longest_len-longest)
 
 -- the longest prefix of s that is a sequence is no longer than s
 pub sequence_within : (s : List ℕ) → longest_len is_sequence s ≤ length s
@@ -57,20 +55,13 @@ pub pair_at : (s : List ℕ) (i : ℕ) → i + 2 ≤ length s
     → (0x80 ≤ slice_index s (i + 1)) × (slice_index s (i + 1) ≤ 0xBF)
     → IsText (take i s) → IsText (take (i + 2) s)
 pair_at s i l lead tail before =
-    let r = drop i s in
-    let second : slice_index r 1 ≡ slice_index s (i + 1) = get_or-drop i s 1 0 in
-    let pair = IsSequence-two (slice_index r 0) (slice_index r 1)
-    (rw (first_of_drop i s, second) (lead.0, lead.1, tail.0, tail.1)) in
-    let two = take-two r (omega (arith, length-drop i s)) in
-    more_text s i 2 before (IsText-sequence (take 2 r) (subst IsSequence (sym two) pair))
+    grind (arith, common_steps, IsSequence-two, more_text, IsText-sequence)
 
 -- if i is the length of s, and the first i bytes of s are valid UTF-8, i is the length of the
 -- longest valid prefix of s
 pub text_to_end : (s : List ℕ) (i : ℕ) → length s ≤ i → i ≤ length s → IsText (take i s)
     → i ≡ longest_len is_text s
-text_to_end s i ge le h =
-    sym (longest_len-is is_text s i le (inr (is_text-from_IsText (take i s) h))
-    (λ k p q. absurd (omega arith)))
+text_to_end s i ge le h = grind (arith, longest_len-is, is_text-from_IsText)
 
 -- if s has at least i bytes, the first i bytes are valid UTF-8, and no prefix of the bytes after
 -- them is a sequence, then the longest valid prefix of s has i bytes
@@ -95,10 +86,7 @@ text_until s i le h z =
 module _ (s r : List ℕ) (i : ℕ) (rest : r ≡ drop i s) (before : IsText (take i s)) where
   pub after_text : (n : ℕ) → i ≤ length s → n ≤ length r → IsText (take n r)
       → (i + n ≤ length s) × IsText (take (i + n) s)
-  after_text n le bound here = (
-    omega (arith, bound, ap length rest, length-drop i s),
-    more_text s i n before (subst (λ t. IsText (take n t)) rest here),
-  )
+  after_text n le bound here = grind (arith, length-drop, more_text)
 
   pub after_ascii : (n : ℕ) → i ≤ length s → n ≤ length r → IsAscii (take n r)
       → (i + n ≤ length s) × IsText (take (i + n) s)
@@ -135,17 +123,11 @@ slice_from n s = take (length s - n) (drop n s)
 pub text_before : (s r : List ℕ) (n : ℕ) → TextBefore s r → n ≤ length r → IsText (take n r)
     → TextBefore s (slice_from n r)
 text_before s r n h bound here =
-    let w = h.within in
     let i = place_of s r in
     let e = take_rest r n in
     let l = ap length e ∙ length-drop n r in
-    let place : place_of s (slice_from n r) ≡ i + n = omega (arith, l) in
     let more = after_text s r i h.rest h.text n (omega arith) bound here in
-    record {
-      within = omega (arith, l);
-      rest = e ∙ ap (drop n) h.rest ∙ drop-drop n i s ∙ ap (λ k. drop k s) (sym place);
-      text = subst (λ k. IsText (take k s)) (sym place) more.1;
-    }
+    grind (arith, common_steps)
 
 -- if `TextBefore s r` holds, and r starts with a sequence of k bytes (k is n), then `TextBefore`
 -- also holds of s and the bytes of r from index k on
@@ -160,8 +142,7 @@ sequence_before s r n k h (some, is) same =
 pub sequences_before : (s r : List ℕ) (n k m : ℕ) → TextBefore s r
     → (0 < n) × (n ≡ longest_len is_sequence r) → n ≡ k → m ≤ length (slice_from k r)
     → IsText (take m (slice_from k r)) → TextBefore s (slice_from m (slice_from k r))
-sequences_before s r n k m h found same bound here =
-    text_before s (slice_from k r) m (sequence_before s r n k h found same) bound here
+sequences_before s r n k m h found same bound here = search (rules, text_before, sequence_before)
 
 -- if `TextBefore s r` holds, and r begins with an invalid front, the longest valid prefix of s ends
 -- where r begins
@@ -173,11 +154,7 @@ broken_rest s r n h found =
 -- if `TextBefore s r` holds, and r is empty, the longest valid prefix of s is all of s
 pub no_rest : (s r : List ℕ) → TextBefore s r → eqb (length r) 0 ≡ true
     → length s ≡ longest_len is_text s
-no_rest s r h none =
-    let within = h.within in
-    let end : place_of s r ≡ length s = omega (arith, eqb-true (length r) 0 none) in
-    text_to_end s (length s) (le_refl (length s)) (le_refl (length s))
-    (subst (λ n. IsText (take n s)) end h.text)
+no_rest s r h none = grind (arith, text_to_end)
 
 -- if i is at least the length of s, no invalid front begins at index i of s
 pub none_at_end : (s : List ℕ) (i : ℕ) → length s ≤ i → 0 ≡ broken_len (drop i s)
@@ -185,15 +162,13 @@ none_at_end s i end = sym (broken_len-empty (drop i s) (omega (arith, length-dro
 
 -- if the longest valid prefix of s has n bytes, and s is valid UTF-8, s has at most n bytes
 pub text_ends : (s : List ℕ) (n : ℕ) → n ≡ longest_len is_text s → IsText s → length s ≤ n
-text_ends s n e h =
-    let k = whole_text s (IsUtf8-from_IsText s h) in omega arith
+text_ends s n e h = grind (arith, whole_text, IsUtf8-from_IsText)
 
 -- if the longest valid prefix of s has n bytes, the first n bytes of s are UTF-8 as Rattle's std
 -- defines it (`IsUtf8`)
 pub prefix_is_utf8 : (s : List ℕ) (n : ℕ) → n ≡ longest_len is_text s → IsUtf8 (take n s)
 prefix_is_utf8 s n e =
-    subst (λ j. IsUtf8 (take j s)) (sym e)
-    (IsUtf8-from_IsText (take (longest_len is_text s) s) (text_prefix s))
+    grind (arith, IsUtf8-from_IsText (take (longest_len is_text s) s) (text_prefix s))
 
 -- if the longest valid prefix of s has n bytes, and s has at most n bytes, s is UTF-8 as Rattle's
 -- std defines it (`IsUtf8`)
@@ -211,3 +186,6 @@ text_within s = (longest_len-longest is_text s).within
 -- neither the longest valid prefix of a byte string nor an invalid front at its beginning is longer
 -- than the byte string
 pub ruleset prefix_bounds = (text_within, broken_len_within)
+
+-- no bytes, and ASCII bytes, are valid UTF-8
+pub ruleset no_or_ascii_text = (none_is_text, ascii_is_text)

@@ -1,13 +1,14 @@
 -- Bytes begin a sequence (`BeginsSequence`) if and only if they pass the test `begins_sequence`.
+use Rattle.std.proofs.Common.{rules}
 use Rattle.std.proofs.Common.{◌≡◌, ℕ, ◌≤◌, List, [], ◌∷◌, ◌++◌, length, take, drop, map, Bool, true}
-use Rattle.std.proofs.Common.{⊎_elim, nat_le, refl, sym, ap, ◌∙◌, subst, arith, append_assoc}
+use Rattle.std.proofs.Common.{⊎_elim, nat_le, refl, arith}
 use Rattle.std.proofs.Common.{take-append-drop}
 use Rattle.std.specs.List.{list_any, list_all}
 use Rattle.std.specs.Int.{is_in_range}
 use Rattle.std.proofs.lemmas.Bool.{and_parts, or_cases, or_right}
 use Rattle.std.proofs.lemmas.Bool.Decides.{nat_tests}
-use Rattle.std.proofs.lemmas.List.{take-take}
-use Rattle.unix_bytes.specs.Utf8.{table, fits, is_sequence, IsSequence, BeginsSequence}
+use Rattle.std.proofs.lemmas.Grind.{common_steps}
+use Rattle.unix_bytes.specs.Utf8.{table, fits, is_sequence, BeginsSequence}
 use Rattle.unix_bytes.specs.Utf8.{begins_sequence}
 
 -- if t followed by u fits `row`, then t fits the first ranges of `row`, as many as t has bytes
@@ -31,9 +32,7 @@ any_more p q (x ∷ xs) f h =
 -- bytes that begin a sequence pass the test `begins_sequence`
 pub begins_sequence-from : (t : List ℕ) → BeginsSequence t → begins_sequence t ≡ true
 unfolding is_sequence begins_sequence
-begins_sequence-from t (u, h) =
-    any_more (λ row. fits row (t ++ u)) (λ row. fits (take (length t) row) t) table
-    (λ row e. fits_prefix row t u e) h
+begins_sequence-from t (u, h) = search (rules, any_more, fits_prefix)
 
 -- no range of `row` is empty
 abbrev has_bytes : List (ℕ × ℕ) → Bool
@@ -86,9 +85,4 @@ BeginsSequence-from t h = some_row table t refl h
 -- if j is at most k, and the first k bytes of t begin a sequence, so do the first j bytes of t
 pub BeginsSequence-take : (j k : ℕ) (t : List ℕ) → j ≤ k
     → BeginsSequence (take k t) → BeginsSequence (take j t)
-BeginsSequence-take j k t le (u, is) =
-    let rest = drop j (take k t) in
-    let e : take j t ++ (rest ++ u) ≡ take k t ++ u =
-    sym (append_assoc (take j t) rest u) ∙ ap (λ p. p ++ rest ++ u) (sym (take-take j k t le))
-    ∙ ap (λ p. p ++ u) (take-append-drop j (take k t)) in
-    (rest ++ u, subst IsSequence (sym e) is)
+BeginsSequence-take j k t le (u, is) = grind (arith, common_steps, take-append-drop j (take k t))

@@ -1,12 +1,12 @@
 -- The first front of a byte string, as `longest_front_of` computes it, and how many bytes this
 -- front has.
 use Rattle.std.proofs.Common.{◌≡◌, ℕ, suc, ◌-◌, ◌+◌, ◌<◌, ◌≤◌, List, [], ◌∷◌, ◌++◌, length, take}
-use Rattle.std.proofs.Common.{◌⊎◌, ⊎_elim, inl, inr, refl, sym, ap, ◌∙◌, subst, arith}
-use Rattle.std.proofs.Common.{append_assoc, append-nil, length-append, length-take-le}
-use Rattle.std.specs.Prelude.{max}
+use Rattle.std.proofs.Common.{◌⊎◌, ⊎_elim, inr, refl, sym, ap, ◌∙◌, subst, arith}
+use Rattle.std.proofs.Common.{append-nil, length-append}
 use Rattle.std.proofs.lemmas.Bool.{cases_lt, false_from_ne_true}
 use Rattle.std.proofs.lemmas.List.{take_at, take_all}
 use Rattle.std.proofs.Math.Seq.{take-append-add}
+use Rattle.std.proofs.lemmas.Grind.{common_steps}
 use Rattle.unix_bytes.specs.Utf8.{is_sequence, IsSequence, BeginsSequence, begins_sequence}
 use Rattle.unix_bytes.specs.Steps.{longest_len, longest_front_of, HasBegun}
 use Rattle.unix_bytes.proofs.lemmas.sequences.SequenceLemmas.{sequence_len}
@@ -15,7 +15,6 @@ use Rattle.unix_bytes.proofs.lemmas.sequences.BeginLemmas.{begins_sequence-from}
 use Rattle.unix_bytes.proofs.lemmas.sequences.BeginLemmas.{BeginsSequence-from}
 use Rattle.unix_bytes.proofs.lemmas.sequences.BeginLemmas.{BeginsSequence-take}
 use Rattle.unix_bytes.proofs.lemmas.sequences.LongestLemmas.{longest_len-is, longest_len-longest}
-use Rattle.unix_bytes.proofs.lemmas.sequences.LongestLemmas.{longest_len-least}
 
 -- a sequence begins a sequence: itself
 pub BeginsSequence-sequence : (u : List ℕ) → IsSequence u → BeginsSequence u
@@ -28,13 +27,7 @@ none_longer : (u s : List ℕ) (k : ℕ) → IsSequence u → length u < k → k
 none_longer u s k h more within (v, is) =
     let j = k - length u in
     let split : k ≡ length u + j = omega arith in
-    let front : take k (u ++ s) ≡ u ++ take j s =
-    ap (λ n. take n (u ++ s)) split ∙ take-append-add u s j in
-    let long : IsSequence (u ++ (take j s ++ v)) =
-    subst IsSequence (ap (λ x. x ++ v) front ∙ append_assoc u (take j s) v) is in
-    let none : take j s ++ v ≡ [] = prefix_free u (take j s ++ v) h long in
-    let some : j ≤ length s = omega (arith, length-append u s) in
-    absurd (omega (arith, ap length none, length-append (take j s) v, length-take-le j s some))
+    grind (arith, common_steps, take-append-add, prefix_free)
 
 -- if a byte string starts with the sequence u, its longest prefix that is a sequence is as long as
 -- u
@@ -60,11 +53,7 @@ longest_len-begins_sequence u s h =
 -- if a byte string starts with the sequence u, its first front is u
 pub longest_front_of-sequence : (u s : List ℕ) → IsSequence u → longest_front_of (u ++ s) ≡ u
 unfolding longest_front_of
-longest_front_of-sequence u s h =
-    let k = sequence_len u h in
-    let e : max 1 (longest_len begins_sequence (u ++ s)) ≡ length u =
-    omega (arith, longest_len-begins_sequence u s h) in
-    ap (λ n. take n (u ++ s)) e ∙ take_at u s (length u) refl
+longest_front_of-sequence u s h = grind (arith, sequence_len, longest_len-begins_sequence, take_at)
 
 -- let n be from 1 to the length of s: if n is 1 or the first n bytes of s begin a sequence, and if
 -- s has only n bytes or its first n + 1 bytes begin no sequence, the first front of s has n bytes
@@ -74,7 +63,6 @@ unfolding longest_front_of
 length-longest_front_of s n some within at above =
     let l = longest_len begins_sequence s in
     let h = longest_len-longest begins_sequence s in
-    let w = h.within in
     let low : l ≤ n = ⊎_elim
     (λ (more : n < l).
     ⊎_elim (λ z. omega arith)
@@ -84,22 +72,14 @@ length-longest_front_of s n some within at above =
           (BeginsSequence-take (suc n) l s (omega arith) (BeginsSequence-from (take l s) p)),
     )))
     h.passes) (λ le. le) (cases_lt n l) in
-    let high : n ≤ max 1 l = ⊎_elim (λ e. omega arith)
-    (λ b. let k = longest_len-least begins_sequence s n within b.1 in omega arith) at in
-    let e : max 1 l ≡ n = omega arith in
-    ap (λ k. length (take k s)) e ∙ length-take-le n s within
+    grind (arith, common_steps)
 
 -- the first front of a nonempty byte string has at least one byte, and is no longer than the string
 pub front_within : (b : ℕ) (bs : List ℕ)
     → (1 ≤ length (longest_front_of (b ∷ bs)))
     × (length (longest_front_of (b ∷ bs)) ≤ length (b ∷ bs))
 unfolding longest_front_of
-front_within b bs =
-    let l = longest_len begins_sequence (b ∷ bs) in
-    let w = (longest_len-longest begins_sequence (b ∷ bs)).within in
-    let e : length (longest_front_of (b ∷ bs)) ≡ max 1 l =
-    length-take-le (max 1 l) (b ∷ bs) (omega arith) in
-    (omega (arith, e), omega (arith, e))
+front_within b bs = grind (arith, common_steps)
 
 -- the first front of the empty byte string is empty
 pub longest_front_of-nil : longest_front_of [] ≡ []
@@ -110,17 +90,7 @@ longest_front_of-nil = take_all _ [] (omega arith)
 pub longest_front_of-take : (s : List ℕ) → longest_front_of s ≡ take (length (longest_front_of s)) s
 unfolding longest_front_of
 longest_front_of-take [] = longest_front_of-nil ∙ sym (take_all _ [] (omega arith))
-longest_front_of-take (b ∷ bs) =
-    let l = longest_len begins_sequence (b ∷ bs) in
-    let w = (longest_len-longest begins_sequence (b ∷ bs)).within in
-    let k = length-take-le (max 1 l) (b ∷ bs) (omega arith) in
-    ap (λ n. take n (b ∷ bs)) (sym k)
-
--- if s is not empty, and if s has no second byte or its first two bytes begin no sequence, the
--- first front of s has one byte
-pub one_byte_front : (s : List ℕ) → 0 < length s → (HasBegun s 2 → ⊥)
-    → length (longest_front_of s) ≡ 1
-one_byte_front s some end = length-longest_front_of s 1 (omega arith) (omega arith) (inl refl) end
+longest_front_of-take (b ∷ bs) = grind (arith, common_steps)
 
 -- if the first two bytes of s begin a sequence, and if s has no third byte or its first three bytes
 -- begin no sequence, the first front of s has two bytes

@@ -1,11 +1,11 @@
 -- The first front, found byte by byte (`front_of`), is the longest front (`longest_front_of`).
 use Rattle.std.proofs.Common.{◌≡◌, ℕ, suc, ◌+◌, ◌≤◌, List, [], ◌∷◌, ◌++◌, length, take, drop, Bool}
-use Rattle.std.proofs.Common.{true, false, cond, ◌⊎◌, ⊎_elim, inl, inr, refl, sym, ap, ◌∙◌, arith}
+use Rattle.std.proofs.Common.{true, false, cond, ◌⊎◌, inl, refl, ap, ◌∙◌, arith}
 use Rattle.std.proofs.Common.{append_assoc, append-nil, length-append}
-use Rattle.std.specs.List.{concat, push}
-use Rattle.std.proofs.lemmas.Bool.{true≢false}
+use Rattle.std.specs.List.{push}
 use Rattle.std.proofs.lemmas.List.{take_at, drop_at}
 use Rattle.std.proofs.Math.Seq.{take-append-add}
+use Rattle.std.proofs.lemmas.Grind.{common_steps}
 use Rattle.unix_bytes.specs.Utf8.{begins_sequence}
 use Rattle.unix_bytes.specs.Lossy.{fronts_from, fronts_of, front_of}
 use Rattle.unix_bytes.specs.Steps.{longest_front_of, HasBegun}
@@ -23,12 +23,8 @@ longest_front_of-append : (u s : List ℕ) → 1 ≤ length u → IsGrown u
     → (HasBegun (u ++ s) (suc (length u)) → ⊥) → longest_front_of (u ++ s) ≡ u
 longest_front_of-append u s some at end =
     let n = length u in
-    let within : n ≤ length (u ++ s) = omega (arith, length-append u s) in
     let front : take n (u ++ s) ≡ u = take_at u s n refl in
-    let begun : (n ≡ 1) ⊎ HasBegun (u ++ s) n =
-    ⊎_elim (λ e. inl e) (λ b. inr (within, ap begins_sequence front ∙ b)) at in
-    longest_front_of-take (u ++ s)
-    ∙ ap (λ k. take k (u ++ s)) (length-longest_front_of (u ++ s) n some within begun end) ∙ front
+    grind (arith, common_steps, longest_front_of-take, length-longest_front_of)
 
 -- the longest front of s, and then the fronts of the bytes of s after it
 abbrev longest_fronts : List ℕ → List (List ℕ)
@@ -39,9 +35,7 @@ longest_fronts s = longest_front_of s ∷ fronts_of (drop (length (longest_front
 -- s
 longest_fronts-append : (u s : List ℕ) → 1 ≤ length u → IsGrown u
     → (HasBegun (u ++ s) (suc (length u)) → ⊥) → longest_fronts (u ++ s) ≡ u ∷ fronts_of s
-longest_fronts-append u s some at end =
-    ap (λ f. f ∷ fronts_of (drop (length f) (u ++ s))) (longest_front_of-append u s some at end)
-    ∙ ap (λ t. u ∷ fronts_of t) (drop_at u s (length u) refl)
+longest_fronts-append u s some at end = grind (arith, longest_front_of-append, drop_at)
 
 -- one step of `fronts_from` with the next byte b yields `longest_fronts`, if the steps after an
 -- extension of u do: u, which is one byte or begins a sequence, is extended by b if both together
@@ -57,20 +51,16 @@ fronts_from-step b s u some at more false e =
     let next : take (suc (length u)) (u ++ b ∷ s) ≡ push u b =
     ap (λ k. take k (u ++ b ∷ s)) {x = suc (length u)} {y = length u + 1} (omega arith)
     ∙ take-append-add u (b ∷ s) 1 in
-    sym (longest_fronts-append u (b ∷ s) some at
-    (λ h. absurd (true≢false (sym h.1 ∙ ap begins_sequence next ∙ e))))
+    grind (arith, longest_fronts-append)
 
 -- let u be one byte, or begin a sequence and not be empty: `fronts_from u s` is the longest front
 -- of u followed by s, and then the fronts of the bytes after that front
 fronts_from-longest : (s u : List ℕ) → 1 ≤ length u → IsGrown u
     → fronts_from u s ≡ longest_fronts (u ++ s)
 unfolding fronts_of
-fronts_from-longest [] u some at =
-    sym (longest_fronts-append u [] some at (λ h. absurd (omega (arith, h.0, length-append u []))))
+fronts_from-longest [] u some at = grind (arith, longest_fronts-append, length-append)
 fronts_from-longest (b ∷ s) u some at =
-    fronts_from-step b s u some at
-    (λ e. fronts_from-longest s (push u b) (omega (arith, length-append u (b ∷ []))) (inr e))
-    (begins_sequence (push u b)) refl
+    grind (arith, fronts_from-step, length-append, fronts_from-longest s (push u b))
 
 -- the empty byte string has no fronts
 pub fronts_of-nil : fronts_of [] ≡ []
@@ -86,7 +76,5 @@ fronts_of-some b bs = fronts_from-longest bs (b ∷ []) (omega arith) (inl refl)
 
 -- the first front of s, by `front_of`, is the longest front of s
 pub front_of-longest : (s : List ℕ) → front_of s ≡ longest_front_of s
-front_of-longest [] =
-    ap (λ us. concat (take 1 us)) fronts_of-nil ∙ sym longest_front_of-nil
-front_of-longest (b ∷ bs) =
-    ap (λ us. concat (take 1 us)) (fronts_of-some b bs) ∙ append-nil (longest_front_of (b ∷ bs))
+front_of-longest [] = grind (arith, fronts_of-nil, longest_front_of-nil)
+front_of-longest (b ∷ bs) = grind (arith, fronts_of-some, append-nil)

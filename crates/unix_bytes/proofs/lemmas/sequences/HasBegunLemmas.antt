@@ -1,7 +1,7 @@
 -- The ranges of the first two, three or four bytes of a byte string, if these begin a sequence
 -- (`HasBegun`).
 use Rattle.std.proofs.Common.{◌≡◌, ℕ, ◌<◌, ◌≤◌, List, [], ◌∷◌, length, take, true, ⊎_elim, arith}
-use Rattle.std.proofs.Common.{refl, ap, ◌∙◌, drop, slice_index, get_or-drop, add-zero}
+use Rattle.std.proofs.Common.{refl, slice_index}
 use Rattle.std.proofs.lemmas.Bool.{cases_lt}
 use Rattle.unix_bytes.specs.Utf8.{IsSequence, begins_sequence}
 use Rattle.unix_bytes.specs.Steps.{HasBegun}
@@ -31,8 +31,7 @@ IsTail z = (0x80 ≤ z) × (z ≤ 0xBF)
 -- if a sequence has a third byte, this is a tail byte, and the first byte is at least E0
 third_of : (x y z : ℕ) (u : List ℕ) → IsSequence (x ∷ y ∷ z ∷ u) → (0xE0 ≤ x) × IsTail z
 third_of x y z [] h = let p = three_bytes x y z h in (omega arith, (omega arith, omega arith))
-third_of x y z (a ∷ []) h =
-    let p = four_bytes x y z a h in (omega arith, (omega arith, omega arith))
+third_of x y z (a ∷ []) h = grind (arith, four_bytes)
 third_of x y z (a ∷ b ∷ u) h = let p = is_sequence-more x y z a b u in cc
 
 -- if a sequence has a fourth byte, this is a tail byte, and the first byte is at least F0
@@ -56,95 +55,59 @@ third_begins x y z b g r =
 fourth_begins : (x y z w : ℕ) → begins_sequence (x ∷ y ∷ z ∷ []) ≡ true → 0xF0 ≤ x → IsTail w
     → begins_sequence (x ∷ y ∷ z ∷ w ∷ []) ≡ true
 fourth_begins x y z w b g r =
-    let (u, is) = BeginsSequence-from (x ∷ y ∷ z ∷ []) b in
-    let h = pair_of x y (z ∷ u) is in
-    let k = third_of x y z u is in
-    begins_sequence-from (x ∷ y ∷ z ∷ w ∷ []) ([], IsSequence-four x y z w (grind arith))
+    grind (arith, BeginsSequence-from, pair_of, third_of, begins_sequence-from, IsSequence-four)
 
 -- if s has at least two bytes, its first two bytes are those at indices 0 and 1
 pub take-two : (s : List ℕ) → 1 < length s
     → take 2 s ≡ slice_index s 0 ∷ slice_index s 1 ∷ []
-take-two [] l = absurd (omega arith)
-take-two (x ∷ []) l = absurd (omega arith)
 take-two (x ∷ y ∷ s) l = refl
-
--- the byte at index 0 of s without its first i bytes is the byte of s at index i
-pub first_of_drop : (i : ℕ) (s : List ℕ) → slice_index (drop i s) 0 ≡ slice_index s i
-first_of_drop i s = get_or-drop i s 0 0 ∙ ap (slice_index s) (add-zero i)
+take-two s l = absurd (omega arith)
 
 -- if the first two bytes of s begin a sequence, s has at least two bytes, the first is from C2 to
 -- F4, and the second is a tail byte
 pub pair_bounds : (s : List ℕ) → HasBegun s 2 → (0xC2 ≤ slice_index s 0)
     × (slice_index s 0 ≤ 0xF4) × (1 < length s) × IsTail (slice_index s 1)
-pair_bounds [] h = absurd (omega arith)
-pair_bounds (x ∷ []) h = absurd (omega arith)
-pair_bounds (x ∷ y ∷ s) h =
-    let (u, is) = BeginsSequence-from (x ∷ y ∷ []) h.1 in
-    let p = pair_of x y u is in
-    (p.0, p.1, omega arith, (p.2, p.3))
+pair_bounds (x ∷ y ∷ s) h = grind (arith, BeginsSequence-from, pair_of)
+pair_bounds s h = absurd (omega arith)
 
 -- if the first two bytes of s begin a sequence, the first is at least E0, and s has a third byte,
 -- which is a tail byte, then the first three begin a sequence
 pub HasBegun-three : (s : List ℕ) → HasBegun s 2 → 0xE0 ≤ slice_index s 0 → 2 < length s
     → IsTail (slice_index s 2) → HasBegun s 3
-HasBegun-three [] h g l t = absurd (omega arith)
-HasBegun-three (x ∷ []) h g l t = absurd (omega arith)
-HasBegun-three (x ∷ y ∷ []) h g l t = absurd (omega arith)
 HasBegun-three (x ∷ y ∷ z ∷ s) h g l t = (omega arith, third_begins x y z h.1 g t)
+HasBegun-three s h g l t = absurd (omega arith)
 
 -- if the first three bytes of s begin a sequence, s has at least three bytes, the first is at least
 -- E0, and the third is a tail byte
 pub third_byte_bounds : (s : List ℕ) → HasBegun s 3
     → (0xE0 ≤ slice_index s 0) × (2 < length s) × IsTail (slice_index s 2)
-third_byte_bounds [] h = absurd (omega arith)
-third_byte_bounds (x ∷ []) h = absurd (omega arith)
-third_byte_bounds (x ∷ y ∷ []) h = absurd (omega arith)
-third_byte_bounds (x ∷ y ∷ z ∷ s) h =
-    let (u, is) = BeginsSequence-from (x ∷ y ∷ z ∷ []) h.1 in
-    let t = third_of x y z u is in
-    (t.0, omega arith, t.1)
+third_byte_bounds (x ∷ y ∷ z ∷ s) h = grind (arith, BeginsSequence-from, third_of)
+third_byte_bounds s h = absurd (omega arith)
 
 -- if the first three bytes of s begin a sequence, the first is at least F0, and s has a fourth
 -- byte, which is a tail byte, then the first four begin a sequence
 pub HasBegun-four : (s : List ℕ) → HasBegun s 3 → 0xF0 ≤ slice_index s 0 → 3 < length s
     → IsTail (slice_index s 3) → HasBegun s 4
-HasBegun-four [] h g l t = absurd (omega arith)
-HasBegun-four (x ∷ []) h g l t = absurd (omega arith)
-HasBegun-four (x ∷ y ∷ []) h g l t = absurd (omega arith)
-HasBegun-four (x ∷ y ∷ z ∷ []) h g l t = absurd (omega arith)
 HasBegun-four (x ∷ y ∷ z ∷ w ∷ s) h g l t = (omega arith, fourth_begins x y z w h.1 g t)
+HasBegun-four s h g l t = absurd (omega arith)
 
 -- if the first four bytes of s begin a sequence, s has at least four bytes, the first is at least
 -- F0, and the fourth is a tail byte
 pub fourth_byte_bounds : (s : List ℕ) → HasBegun s 4
     → (0xF0 ≤ slice_index s 0) × (3 < length s) × IsTail (slice_index s 3)
-fourth_byte_bounds [] h = absurd (omega arith)
-fourth_byte_bounds (x ∷ []) h = absurd (omega arith)
-fourth_byte_bounds (x ∷ y ∷ []) h = absurd (omega arith)
-fourth_byte_bounds (x ∷ y ∷ z ∷ []) h = absurd (omega arith)
-fourth_byte_bounds (x ∷ y ∷ z ∷ w ∷ s) h =
-    let (u, is) = BeginsSequence-from (x ∷ y ∷ z ∷ w ∷ []) h.1 in
-    let t = fourth_of x y z w u is in
-    (t.0, omega arith, t.1)
+fourth_byte_bounds (x ∷ y ∷ z ∷ w ∷ s) h = grind (arith, BeginsSequence-from, fourth_of)
+fourth_byte_bounds s h = absurd (omega arith)
 
 -- if the first four bytes of s begin a sequence, so do the first three
 pub HasBegun-three_of_four : (s : List ℕ) → HasBegun s 4 → HasBegun s 3
-HasBegun-three_of_four [] h = absurd (omega arith)
-HasBegun-three_of_four (x ∷ []) h = absurd (omega arith)
-HasBegun-three_of_four (x ∷ y ∷ []) h = absurd (omega arith)
-HasBegun-three_of_four (x ∷ y ∷ z ∷ []) h = absurd (omega arith)
 HasBegun-three_of_four (x ∷ y ∷ z ∷ w ∷ s) h =
-    let (u, is) = BeginsSequence-from (x ∷ y ∷ z ∷ w ∷ []) h.1 in
-    (omega arith, begins_sequence-from (x ∷ y ∷ z ∷ []) (w ∷ u, is))
+    grind (arith, BeginsSequence-from, begins_sequence-from)
+HasBegun-three_of_four s h = absurd (omega arith)
 
 -- if the first three bytes of s begin a sequence, so do the first two
 pub HasBegun-two_of_three : (s : List ℕ) → HasBegun s 3 → HasBegun s 2
-HasBegun-two_of_three [] h = absurd (omega arith)
-HasBegun-two_of_three (x ∷ []) h = absurd (omega arith)
-HasBegun-two_of_three (x ∷ y ∷ []) h = absurd (omega arith)
-HasBegun-two_of_three (x ∷ y ∷ z ∷ s) h =
-    let (u, is) = BeginsSequence-from (x ∷ y ∷ z ∷ []) h.1 in
-    (omega arith, begins_sequence-from (x ∷ y ∷ []) (z ∷ u, is))
+HasBegun-two_of_three (x ∷ y ∷ z ∷ s) h = grind (arith, BeginsSequence-from, begins_sequence-from)
+HasBegun-two_of_three s h = absurd (omega arith)
 
 -- lemmas that say for which bytes at indices 0 to 3 of s the first two, three or four bytes of s
 -- begin a sequence (`HasBegun`)

@@ -1,9 +1,8 @@
 -- The longest prefix that passes a test.
 use Rattle.std.proofs.Common.{◌≡◌, ℕ, zero, suc, ◌<◌, ◌≤◌, List, ◌++◌, length, take, Bool, true}
-use Rattle.std.proofs.Common.{false, cond, ◌⊎◌, ⊎_elim, inl, inr, refl, sym, ap, ◌∙◌, subst, arith}
-use Rattle.std.proofs.Common.{length-append}
-use Rattle.std.proofs.lemmas.Bool.{cases_lt, cond-true, cond-false, true≢false}
-use Rattle.std.proofs.lemmas.List.{take_at}
+use Rattle.std.proofs.Common.{false, cond, ◌⊎◌, ⊎_elim, inr, refl, sym, ◌∙◌, subst, arith}
+use Rattle.std.proofs.lemmas.Bool.{cases_lt, cond-true, cond-false}
+use Rattle.std.proofs.lemmas.Grind.{common_steps}
 use Rattle.unix_bytes.specs.Steps.{longest_len_to, longest_len}
 
 -- let n be at most m: if n is 0 or the first n bytes of s pass the test, and if each longer prefix
@@ -65,11 +64,7 @@ one_more m test s h = by (test (take (suc m) s)) refl
 -- the test, or 0 if none passes (`Longest`)
 longest_len_to-longest : (m : ℕ) (test : List ℕ → Bool) (s : List ℕ)
     → Longest test s (longest_len_to m test s) m
-longest_len_to-longest zero test s = record {
-  within = omega arith;
-  passes = inl refl;
-  longest = λ k p q. absurd (omega arith);
-}
+longest_len_to-longest zero test s = grind arith
 longest_len_to-longest (suc m) test s = one_more m test s (longest_len_to-longest m test s)
 
 -- `longest_len test s` is the length of the longest prefix of s that passes the test, or 0 if none
@@ -83,17 +78,10 @@ longest_len-longest test s = longest_len_to-longest (length s) test s
 -- passes has at least k bytes
 pub longest_len-least : (test : List ℕ → Bool) (s : List ℕ) (k : ℕ) → k ≤ length s
     → test (take k s) ≡ true → k ≤ longest_len test s
-longest_len-least test s k within t =
-    ⊎_elim
-    (λ (more : longest_len test s < k).
-    absurd (true≢false (sym t ∙ (longest_len-longest test s).longest k more within)))
-    (λ le. le) (cases_lt (longest_len test s) k)
+longest_len-least test s k within t = grind (arith, longest_len-longest)
 
 -- if u is a prefix of s and passes the test, u is no longer than the longest prefix of s that
 -- passes
 pub longest_len-prefix : (test : List ℕ → Bool) (s u v : List ℕ) → test u ≡ true → s ≡ u ++ v
     → length u ≤ longest_len test s
-longest_len-prefix test s u v t e =
-    let at : take (length u) s ≡ u = ap (take (length u)) e ∙ take_at u v (length u) refl in
-    longest_len-least test s (length u) (omega (arith, ap length e, length-append u v))
-    (ap test at ∙ t)
+longest_len-prefix test s u v t e = grind (arith, common_steps, longest_len-least)

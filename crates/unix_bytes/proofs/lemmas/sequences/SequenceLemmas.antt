@@ -1,7 +1,6 @@
 -- Well-formed sequences, by the ranges of their bytes.
-use Rattle.std.proofs.Common.{◌≡◌, ℕ, ◌≤◌, List, [], ◌∷◌, length, true, false, ◌&&◌, ⊎_elim}
+use Rattle.std.proofs.Common.{◌≡◌, ℕ, ◌≤◌, List, [], ◌∷◌, length, false}
 use Rattle.std.proofs.Common.{refl, arith}
-use Rattle.std.specs.Int.{is_in_range}
 use Rattle.std.proofs.lemmas.Bool.{or_cases}
 use Rattle.std.proofs.lemmas.Bool.Decides.{nat_tests}
 use Rattle.unix_bytes.specs.Utf8.{is_sequence, IsSequence}
@@ -36,22 +35,10 @@ Three a b c =
     (0xE0 ≤ a) × (a ≤ 0xEF) × (0x80 ≤ b) × (b ≤ 0xBF) × (0x80 ≤ c) × (c ≤ 0xBF)
     × (a ≡ 0xE0 → 0xA0 ≤ b) × (a ≡ 0xED → b ≤ 0x9F)
 
--- if a, b and c pass the tests of a row of three ranges, the last of which is `tail`, they are in
--- these ranges
-in_three : (al ah bl bh a b c : ℕ)
-    → (is_in_range 0x80 0xBF c && is_in_range bl bh b && is_in_range al ah a) ≡ true
-    → (al ≤ a) × (a ≤ ah) × (bl ≤ b) × (b ≤ bh) × (0x80 ≤ c) × (c ≤ 0xBF)
-in_three al ah bl bh a b c h = grind (arith, nat_tests)
-
 -- the bytes of a sequence of three bytes are in the ranges of `Three`
 pub three_bytes : (a b c : ℕ) → IsSequence (a ∷ b ∷ c ∷ []) → Three a b c
 unfolding is_sequence
-three_bytes a b c h =
-    ⊎_elim (λ r. let k = in_three 0xE0 0xE0 0xA0 0xBF a b c r in grind arith)
-    (λ h. ⊎_elim (λ r. let k = in_three 0xE1 0xEC 0x80 0xBF a b c r in grind arith)
-    (λ h. ⊎_elim (λ r. let k = in_three 0xED 0xED 0x80 0x9F a b c r in grind arith)
-    (λ h. ⊎_elim (λ r. let k = in_three 0xEE 0xEF 0x80 0xBF a b c r in grind arith)
-    (λ h. cc) (or_cases _ _ h)) (or_cases _ _ h)) (or_cases _ _ h)) (or_cases _ _ h)
+three_bytes a b c h = grind (arith, or_cases, nat_tests)
 
 -- three bytes in the ranges of `Three` are a sequence
 pub IsSequence-three : (a b c : ℕ) → Three a b c → IsSequence (a ∷ b ∷ c ∷ [])
@@ -64,23 +51,10 @@ Four a b c d =
     (0xF0 ≤ a) × (a ≤ 0xF4) × (0x80 ≤ b) × (b ≤ 0xBF) × (0x80 ≤ c) × (c ≤ 0xBF)
     × (0x80 ≤ d) × (d ≤ 0xBF) × (a ≡ 0xF0 → 0x90 ≤ b) × (a ≡ 0xF4 → b ≤ 0x8F)
 
--- if a, b, c and d pass the tests of a row of four ranges, the last two of which are `tail`, they
--- are in these ranges
-in_four : (al ah bl bh a b c d : ℕ)
-    → (is_in_range 0x80 0xBF d && is_in_range 0x80 0xBF c
-    && is_in_range bl bh b && is_in_range al ah a) ≡ true
-    → (al ≤ a) × (a ≤ ah) × (bl ≤ b) × (b ≤ bh) × (0x80 ≤ c) × (c ≤ 0xBF)
-    × (0x80 ≤ d) × (d ≤ 0xBF)
-in_four al ah bl bh a b c d h = grind (arith, nat_tests)
-
 -- the bytes of a sequence of four bytes are in the ranges of `Four`
 pub four_bytes : (a b c d : ℕ) → IsSequence (a ∷ b ∷ c ∷ d ∷ []) → Four a b c d
 unfolding is_sequence
-four_bytes a b c d h =
-    ⊎_elim (λ r. let k = in_four 0xF0 0xF0 0x90 0xBF a b c d r in grind arith)
-    (λ h. ⊎_elim (λ r. let k = in_four 0xF1 0xF3 0x80 0xBF a b c d r in grind arith)
-    (λ h. ⊎_elim (λ r. let k = in_four 0xF4 0xF4 0x80 0x8F a b c d r in grind arith)
-    (λ h. cc) (or_cases _ _ h)) (or_cases _ _ h)) (or_cases _ _ h)
+four_bytes a b c d h = grind (arith, or_cases, nat_tests)
 
 -- four bytes in the ranges of `Four` are a sequence
 pub IsSequence-four : (a b c d : ℕ) → Four a b c d → IsSequence (a ∷ b ∷ c ∷ d ∷ [])
@@ -101,8 +75,5 @@ is_sequence-more a b c d e u = refl
 -- a sequence has one to four bytes
 pub sequence_len : (u : List ℕ) → IsSequence u → (1 ≤ length u) × (length u ≤ 4)
 sequence_len [] h = let k = is_sequence-nil in cc
-sequence_len (a ∷ []) h = (omega arith, omega arith)
-sequence_len (a ∷ b ∷ []) h = (omega arith, omega arith)
-sequence_len (a ∷ b ∷ c ∷ []) h = (omega arith, omega arith)
-sequence_len (a ∷ b ∷ c ∷ d ∷ []) h = (omega arith, omega arith)
 sequence_len (a ∷ b ∷ c ∷ d ∷ e ∷ u) h = let k = is_sequence-more a b c d e u in cc
+sequence_len u h = (omega arith, omega arith)

@@ -3,7 +3,6 @@
 use Rattle.std.proofs.Common.{◌≡◌, ℕ, zero, suc, ◌<◌, ◌≤◌, List, [], ◌∷◌, ◌++◌, length, take, drop}
 use Rattle.std.proofs.Common.{⊎_elim, sym, ap, ◌∙◌, subst, arith, append-nil, slice_index}
 use Rattle.std.proofs.Common.{length-append, length-take-le, take-append-drop}
-use Rattle.std.proofs.lemmas.Bool.{cases_lt}
 use Rattle.unix_bytes.specs.Utf8.{is_sequence, IsSequence, BeginsSequence}
 use Rattle.unix_bytes.specs.Steps.{longest_len, HasBegun}
 use Rattle.unix_bytes.proofs.lemmas.sequences.SequenceLemmas.{is_sequence-nil, sequence_len}
@@ -20,8 +19,7 @@ use Rattle.unix_bytes.proofs.lemmas.sequences.FrontLemmas.{BeginsSequence-sequen
 none_missing : (n : ℕ) (t : List ℕ) → length t ≡ n
     → ((u : List ℕ) → IsSequence (t ++ u) → length (t ++ u) ≤ n) → BeginsSequence t → IsSequence t
 none_missing n t e few ([], h) = subst IsSequence (append-nil t) h
-none_missing n t e few (x ∷ v, h) =
-    let k = few (x ∷ v) h in absurd (omega (arith, length-append t (x ∷ v)))
+none_missing n t e few (x ∷ v, h) = grind (arith, length-append)
 
 -- if the first n bytes of s begin a sequence, and no sequence that starts with these n bytes has
 -- more bytes, the longest prefix of s that is a sequence has n bytes
@@ -52,28 +50,19 @@ longest_len-not_HasBegun s n never many =
 -- bounds of n, the length of a sequence whose first byte is b
 module _ (b n : ℕ) (w : HasWidth b n) where
   two_at_most : b < 0xE0 → n ≤ 2
-  two_at_most l =
-      ⊎_elim (λ (c : b < 0xC2). let e = (w.one c).1 in omega arith)
-      (λ c. let e = w.two c (omega arith) in omega arith) (cases_lt b 0xC2)
+  two_at_most l = grind arith
 
   three_at_most : b < 0xF0 → n ≤ 3
-  three_at_most l =
-      ⊎_elim (λ (c : b < 0xE0). let e = two_at_most c in omega arith)
-      (λ c. let e = w.three c (omega arith) in omega arith) (cases_lt b 0xE0)
+  three_at_most l = grind arith
 
   four_at_least : 0xF0 ≤ b → 4 ≤ n
   four_at_least g = let e = (w.four g).1 in omega arith
 
   three_at_least : 0xE0 ≤ b → 3 ≤ n
-  three_at_least g =
-      ⊎_elim (λ (c : b < 0xF0). let e = w.three g (omega arith) in omega arith)
-      (λ c. let e = four_at_least c in omega arith) (cases_lt b 0xF0)
+  three_at_least g = grind arith
 
   two_at_least : 0x80 ≤ b → 2 ≤ n
-  two_at_least g =
-      ⊎_elim (λ (c : b < 0xC2). let e = (w.one c).0 in absurd (omega arith))
-      (λ c. ⊎_elim (λ (d : b < 0xE0). let e = w.two c (omega arith) in omega arith)
-      (λ d. let e = three_at_least d in omega arith) (cases_lt b 0xE0)) (cases_lt b 0xC2)
+  two_at_least g = grind arith
 
 -- if the first k bytes of b followed by bs are a sequence, k is the length of the sequences that
 -- start with b (`HasWidth`)
@@ -87,21 +76,18 @@ prefix_width b bs (suc k) within h =
 -- of s that is a sequence has two bytes
 pub two_byte_sequence : (s : List ℕ) → HasBegun s 2 → slice_index s 0 < 0xE0
     → longest_len is_sequence s ≡ 2
-two_byte_sequence [] h l = absurd (omega arith)
-two_byte_sequence (b ∷ []) h l = absurd (omega arith)
 two_byte_sequence (b ∷ x ∷ s) h l =
     longest_len-HasBegun (b ∷ x ∷ s) 2 h (λ u is. two_at_most b _ (has_width b (x ∷ u) is) l)
+two_byte_sequence s h l = absurd (omega arith)
 
 -- if the first three bytes of s begin a sequence, and the first is less than F0, the longest prefix
 -- of s that is a sequence has three bytes
 pub three_byte_sequence : (s : List ℕ) → HasBegun s 3 → slice_index s 0 < 0xF0
     → longest_len is_sequence s ≡ 3
-three_byte_sequence [] h l = absurd (omega arith)
-three_byte_sequence (b ∷ []) h l = absurd (omega arith)
-three_byte_sequence (b ∷ x ∷ []) h l = absurd (omega arith)
 three_byte_sequence (b ∷ x ∷ y ∷ s) h l =
     longest_len-HasBegun (b ∷ x ∷ y ∷ s) 3 h
     (λ u is. three_at_most b _ (has_width b (x ∷ y ∷ u) is) l)
+three_byte_sequence s h l = absurd (omega arith)
 
 -- if the first four bytes of s begin a sequence, the longest prefix of s that is a sequence has
 -- four bytes

@@ -1,7 +1,7 @@
 -- The first byte of a sequence determines its length. No sequence is a proper prefix of another.
 use Rattle.std.specs.Prelude.{◌↔◌}
 use Rattle.std.proofs.Common.{◌⊎◌, ◌≡◌, ℕ, suc, ◌<◌, ◌≤◌, List, [], ◌∷◌, ◌++◌, length, ⊎_elim, refl}
-use Rattle.std.proofs.Common.{sym, ◌∙◌, arith, length-append}
+use Rattle.std.proofs.Common.{arith, length-append}
 use Rattle.std.proofs.lemmas.Bool.{cases_lt}
 use Rattle.unix_bytes.specs.Utf8.{IsSequence, BeginsSequence}
 use Rattle.unix_bytes.proofs.lemmas.sequences.SequenceLemmas.{one_byte, two_bytes, three_bytes}
@@ -21,48 +21,15 @@ pub record HasWidth (b n : ℕ) : Type 0 where
 -- if b followed by u is a sequence, its length is the length of the sequences that start with b
 -- (`HasWidth`)
 pub has_width : (b : ℕ) (u : List ℕ) → IsSequence (b ∷ u) → HasWidth b (suc (length u))
-has_width b [] h =
-    let p = one_byte b h in
-    record {
-      one = λ l. (omega arith, omega arith);
-      two = λ l g. absurd (omega arith);
-      three = λ l g. absurd (omega arith);
-      four = λ l. absurd (omega arith);
-    }
-has_width b (x ∷ []) h =
-    let p = two_bytes b x h in
-    record {
-      one = λ l. absurd (omega arith);
-      two = λ l g. omega arith;
-      three = λ l g. absurd (omega arith);
-      four = λ l. absurd (omega arith);
-    }
-has_width b (x ∷ y ∷ []) h =
-    let p = three_bytes b x y h in
-    record {
-      one = λ l. absurd (omega arith);
-      two = λ l g. absurd (omega arith);
-      three = λ l g. omega arith;
-      four = λ l. absurd (omega arith);
-    }
-has_width b (x ∷ y ∷ z ∷ []) h =
-    let p = four_bytes b x y z h in
-    record {
-      one = λ l. absurd (omega arith);
-      two = λ l g. absurd (omega arith);
-      three = λ l g. absurd (omega arith);
-      four = λ l. (omega arith, omega arith);
-    }
+has_width b [] h = grind (arith, one_byte)
+has_width b (x ∷ []) h = grind (arith, two_bytes)
+has_width b (x ∷ y ∷ []) h = grind (arith, three_bytes)
+has_width b (x ∷ y ∷ z ∷ []) h = grind (arith, four_bytes)
 has_width b (x ∷ y ∷ z ∷ w ∷ u) h = let p = is_sequence-more b x y z w u in cc
 
 -- if n and m are both lengths of sequences that start with b (`HasWidth`), they are equal
 same_width : (b n m : ℕ) → HasWidth b n → HasWidth b m → n ≡ m
-same_width b n m p q =
-    ⊎_elim (λ (l : b < 0xC2). (p.one l).1 ∙ sym (q.one l).1)
-    (λ g. ⊎_elim (λ (l : b < 0xE0). p.two g (omega arith) ∙ sym (q.two g (omega arith)))
-    (λ g. ⊎_elim (λ (l : b < 0xF0). p.three g (omega arith) ∙ sym (q.three g (omega arith)))
-    (λ g. (p.four g).1 ∙ sym (q.four g).1)
-    (cases_lt b 0xF0)) (cases_lt b 0xE0)) (cases_lt b 0xC2)
+same_width b n m p q = grind arith
 
 -- if u followed by v is as long as u, v is empty
 none_more : (u v : List ℕ) → length (u ++ v) ≡ length u → v ≡ []
@@ -111,12 +78,13 @@ LeadsNone b = ((0x80 ≤ b) × (b < 0xC2)) ⊎ (0xF4 < b)
 
 -- no sequence begins with a byte from 80 to C1, or greater than F4
 pub leads_none : (b : ℕ) (u : List ℕ) → LeadsNone b → IsSequence (b ∷ u) → ⊥
-leads_none b u lone h =
-    let w = has_width b u h in
-    ⊎_elim (λ l. let p = (w.one l.1).0 in omega arith)
-    (λ g. let p = (w.four (omega arith)).0 in omega arith) lone
+leads_none b u lone h = grind (arith, has_width b u h)
 
 -- if b is from 80 to C1, or greater than F4: 0 is 0 if and only if b begins no sequence, as both
 -- are true
 pub no_width : (b : ℕ) → LeadsNone b → ◌≡◌ {A = ℕ} 0 0 ↔ ¬ (BeginsSequence (b ∷ []))
 no_width b lone = (λ e (u, h). leads_none b u lone h, λ none. refl)
+
+-- which bytes begin a sequence, and which begin none
+pub ruleset widths =
+    (begins_one, begins_two, begins_three, begins_four, some_width, leads_none, no_width)

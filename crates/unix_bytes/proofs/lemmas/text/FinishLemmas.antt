@@ -23,16 +23,11 @@ KeepsFinished s = (a b c : ℕ) → IsFinished a b c → EndsFinished a b c s
 -- if u is a sequence, and `KeepsFinished` holds of s, it also holds of u followed by s
 sequence_keeps_finished : (u s : List ℕ) → IsSequence u → KeepsFinished s → KeepsFinished (u ++ s)
 sequence_keeps_finished [] s h next a b c k = let z = is_sequence-nil in cc
-sequence_keeps_finished (d ∷ []) s h next a b c k =
-    let p = one_byte d h in next b c d (omega arith, omega arith, omega arith)
-sequence_keeps_finished (d ∷ e ∷ []) s h next a b c k =
-    let p = two_bytes d e h in next c d e (omega arith, omega arith, omega arith)
-sequence_keeps_finished (d ∷ e ∷ f ∷ []) s h next a b c k =
-    let p = three_bytes d e f h in next d e f (omega arith, omega arith, omega arith)
-sequence_keeps_finished (d ∷ e ∷ f ∷ x ∷ []) s h next a b c k =
-    let p = four_bytes d e f x h in next e f x (omega arith, omega arith, omega arith)
-sequence_keeps_finished (d ∷ e ∷ f ∷ x ∷ y ∷ u) s h next a b c k =
-    let z = is_sequence-more d e f x y u in cc
+sequence_keeps_finished (d ∷ []) s h next a b c k = grind (arith, one_byte)
+sequence_keeps_finished (d ∷ e ∷ []) s h next a b c k = grind (arith, two_bytes)
+sequence_keeps_finished (d ∷ e ∷ f ∷ []) s h next a b c k = grind (arith, three_bytes)
+sequence_keeps_finished (d ∷ e ∷ f ∷ x ∷ []) s h next a b c k = grind (arith, four_bytes)
+sequence_keeps_finished (d ∷ e ∷ f ∷ x ∷ y ∷ u) s h next a b c k = grind (arith, is_sequence-more)
 
 -- if us are sequences, `KeepsFinished` holds of the byte string that is us, one after the other
 text_keeps_finished : (us : List (List ℕ)) → All IsSequence us → KeepsFinished (concat us)
@@ -45,11 +40,9 @@ text_keeps_finished (u ∷ us) all =
 -- first three of w leave no sequence unfinished, the first three bytes of w leave none unfinished
 IsFinished-last : (u w : List ℕ) (a b c : ℕ) → 3 ≤ length w → EndsFinished a b c (u ++ take 3 w)
     → IsFinished (slice_index w 0) (slice_index w 1) (slice_index w 2)
-IsFinished-last [] [] a b c l h = absurd (omega arith)
-IsFinished-last [] (x ∷ []) a b c l h = absurd (omega arith)
-IsFinished-last [] (x ∷ y ∷ []) a b c l h = absurd (omega arith)
 IsFinished-last [] (x ∷ y ∷ z ∷ w) a b c l h = h
 IsFinished-last (d ∷ u) w a b c l h = IsFinished-last u w b c d l h
+IsFinished-last u w a b c l h = absurd (omega arith)
 
 -- if i is from 3 to the length of s, and the first i bytes of s are valid UTF-8, the last three of
 -- these i bytes leave no sequence unfinished

@@ -1,7 +1,8 @@
 -- Bytes are valid by the table of RFC 3629 (`IsText`) if and only if Rattle's std defines them as
 -- UTF-8 (`IsUtf8`).
+use Rattle.std.proofs.Common.{rules}
 use Rattle.std.proofs.Common.{◌≡◌, ℕ, ◌+◌, ◌/◌, ◌%◌, ◌<◌, List, [], ◌∷◌, ◌++◌, map, true, ⊎_elim}
-use Rattle.std.proofs.Common.{inl, inr, refl, ap, ◌∙◌, subst, arith}
+use Rattle.std.proofs.Common.{inl, inr, refl, subst, arith}
 use Rattle.std.specs.List.{concat, list_all}
 use Rattle.std.specs.Str.{IsUtf8}
 use Rattle.std.proofs.lemmas.Bool.{and_parts, cases_lt}
@@ -43,32 +44,14 @@ IsSequence-encode c h =
     let k = scalar_cases c h in
     let top : c < 1114112 = ⊎_elim (λ l. omega arith) (λ l. l.1) k in
     ⊎_elim (λ l. rw (one c l) (IsSequence-one c (omega arith)))
-    (λ m1. ⊎_elim (λ l. rw (two c m1 l) (IsSequence-two (192 + c / 64) (128 + c % 64)
-    (omega arith, omega arith, omega arith, omega arith)))
+    (λ m1. ⊎_elim
+    (λ l. rw (two c m1 l) (IsSequence-two (192 + c / 64) (128 + c % 64) (grind arith)))
     (λ m2. ⊎_elim
-    (λ l. rw (three c m2 l) (IsSequence-three (224 + c / 4096) (128 + c / 64 % 64) (128 + c % 64) (
-      omega arith,
-      omega arith,
-      omega arith,
-      omega arith,
-      omega arith,
-      omega arith,
-      λ e. omega arith,
-      λ e. ⊎_elim (λ p. omega arith) (λ p. absurd (omega arith)) k,
-    )))
+    (λ l. rw (three c m2 l)
+    (IsSequence-three (224 + c / 4096) (128 + c / 64 % 64) (128 + c % 64) (grind arith)))
     (λ m3. rw (four c m3)
-    (IsSequence-four (240 + c / 262144) (128 + c / 4096 % 64) (128 + c / 64 % 64) (128 + c % 64) (
-      omega arith,
-      omega arith,
-      omega arith,
-      omega arith,
-      omega arith,
-      omega arith,
-      omega arith,
-      omega arith,
-      λ e. omega arith,
-      λ e. omega arith,
-    )))
+    (IsSequence-four (240 + c / 262144) (128 + c / 4096 % 64) (128 + c / 64 % 64) (128 + c % 64)
+    (grind arith)))
     (cases_lt c 65536)) (cases_lt c 2048)) (cases_lt c 128)
 
 -- if us are sequences, the byte string that is us, one after the other, is UTF-8 as Rattle's std
@@ -92,15 +75,12 @@ sequences : (cs : List ℕ) → scalars cs ≡ true
 sequences [] h = (refl, refl)
 sequences (c ∷ cs) h =
     let k : (scalar c ≡ true) × (scalars cs ≡ true) = and_parts _ _ h in
-    let j = sequences cs k.1 in
-    (rw (IsSequence-encode c k.0, j.0) refl, ap (λ t. encode c ++ t) j.1)
+    grind (arith, IsSequence-encode, sequences cs k.1)
 
 -- if s is UTF-8 as Rattle's std defines it (`IsUtf8`), it is valid UTF-8 by the table of RFC 3629
 -- (`IsText`)
 pub IsText-from_IsUtf8 : (s : List ℕ) → IsUtf8 s → IsText s
-IsText-from_IsUtf8 s (cs, (h, e)) =
-    let j = sequences cs h in
-    (map encode cs, AllPass-from_list_all is_sequence (map encode cs) j.0, j.1 ∙ e)
+IsText-from_IsUtf8 s (cs, (h, e)) = grind (arith, sequences cs h, AllPass-from_list_all)
 
 -- the empty list is valid UTF-8
 pub IsText-nil : IsText []
@@ -112,6 +92,4 @@ IsText-sequence u h = IsText-from_IsUtf8 u (IsUtf8-sequence u h)
 
 -- if s and t are valid UTF-8, so is s followed by t
 pub IsText-append : (s t : List ℕ) → IsText s → IsText t → IsText (s ++ t)
-IsText-append s t h k =
-    IsText-from_IsUtf8 (s ++ t)
-    (IsUtf8-append s t (IsUtf8-from_IsText s h) (IsUtf8-from_IsText t k))
+IsText-append s t h k = search (rules, IsText-from_IsUtf8, IsUtf8-append, IsUtf8-from_IsText)

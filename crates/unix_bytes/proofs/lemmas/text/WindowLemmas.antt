@@ -1,12 +1,11 @@
 -- Windows of UTF-8: consecutive bytes, each of which may follow the three bytes before it.
 use Rattle.std.proofs.Common.{◌≡◌, ℕ, zero, suc, ◌+◌, ◌-◌, ◌<◌, ◌≤◌, List, [], ◌∷◌, ◌++◌, length}
-use Rattle.std.proofs.Common.{take, drop, Bool, true, false, ⊎_elim, inl, inr, refl, sym, ap, ◌∙◌}
+use Rattle.std.proofs.Common.{take, drop, ⊎_elim, inl, inr, refl, sym, ap, ◌∙◌}
 use Rattle.std.proofs.Common.{subst, arith, slice_index, length-append, length-take-le, le-leb}
 use Rattle.std.proofs.Common.{le_refl}
-use Rattle.std.specs.Prelude.{◌==◌, if◌then◌else◌}
 use Rattle.std.proofs.lemmas.Bool.{cases_lt, lt-leb}
-use Rattle.std.proofs.lemmas.List.{take-take}
 use Rattle.std.proofs.Math.Seq.{take-append-add}
+use Rattle.std.proofs.lemmas.Grind.{common_steps}
 use Rattle.unix_bytes.specs.Utf8.{IsSequence, IsText}
 use Rattle.unix_bytes.specs.Windows.{min_second, max_second, unfinished_len, IsFinished}
 use Rattle.unix_bytes.specs.Windows.{Fits, FitAfter, FitsWindow}
@@ -35,12 +34,7 @@ unfinished_len-finished a b c h = rw (lt-leb 0xC0 c h.2, lt-leb 0xE0 b h.1, lt-l
 
 -- the upper bound of the byte after c is at most F4
 max_bound : (c : ℕ) → max_second c ≤ 0xF4
-max_bound c = by (c == 0xED) (c == 0xF4)
-  where
-    by : (p q : Bool) → (if p then 0x9F else if q then 0x8F else 0xF4) ≤ 0xF4
-    by true q = omega arith
-    by false true = omega arith
-    by false false = omega arith
+max_bound c = grind arith
 
 -- if all bytes of s, and none of a, b and c before them, belong to an unfinished sequence,
 -- `TextPrefix a b c s` holds with an empty valid prefix
@@ -64,26 +58,11 @@ more_prefix u s a b c x y z n h l f e = record {
 unfinished_len-one : (a b c : ℕ) → 0xC0 ≤ c → unfinished_len a b c ≡ 1
 unfinished_len-one a b c h = rw (le-leb 0xC0 c h) refl
 
--- if c is less than C0, and b is at least E0, then of a, b and c two bytes belong to an unfinished
--- sequence
-unfinished_len-two : (a b c : ℕ) → c < 0xC0 → 0xE0 ≤ b → unfinished_len a b c ≡ 2
-unfinished_len-two a b c l h = rw (lt-leb 0xC0 c l, le-leb 0xE0 b h) refl
-
--- if c is less than C0, b is less than E0, and a is at least F0, then a, b and c all belong to an
--- unfinished sequence
-unfinished_len-three : (a b c : ℕ) → c < 0xC0 → b < 0xE0 → 0xF0 ≤ a → unfinished_len a b c ≡ 3
-unfinished_len-three a b c l k h = rw (lt-leb 0xC0 c l, lt-leb 0xE0 b k, le-leb 0xF0 a h) refl
-
 -- if e is within the bounds of the byte after d, e is at least A0 if d is E0, at most 9F if d is
 -- ED, at least 90 if d is F0, and at most 8F if d is F4
 second_bounds : (d e : ℕ) → min_second d ≤ e → e ≤ max_second d
     → (d ≡ 0xE0 → 0xA0 ≤ e) × (d ≡ 0xED → e ≤ 0x9F) × (d ≡ 0xF0 → 0x90 ≤ e) × (d ≡ 0xF4 → e ≤ 0x8F)
-second_bounds d e l m = (
-  λ h. subst (λ x. min_second x ≤ e) h l,
-  λ h. subst (λ x. e ≤ max_second x) h m,
-  λ h. subst (λ x. min_second x ≤ e) h l,
-  λ h. subst (λ x. e ≤ max_second x) h m,
-)
+second_bounds d e l m = grind arith
 
 -- for all a, b, c and s: if s has at most n bytes, a, b and c leave no sequence unfinished, and
 -- each byte of s may follow the three bytes before it, then `TextPrefix a b c s` holds
@@ -109,9 +88,7 @@ module _ (n : ℕ) (fewer : HasPrefixUpTo n) (a b c d : ℕ) (k : IsFinished a b
   three_byte_prefix : (s : List ℕ) → length s ≤ n → 0xE0 ≤ d → d ≤ 0xEF → FitAfter b c d s
       → TextPrefix a b c (d ∷ s)
   three_byte_prefix [] le g l hs = no_prefix _ _ _ _ (unfinished_len-one b c d (omega arith))
-  three_byte_prefix (e ∷ []) le g l (h, hs) =
-      let (lo, hi) = h.goes.within (inr (inr (omega arith))) in
-      no_prefix _ _ _ _ (unfinished_len-two c d e (omega arith) g)
+  three_byte_prefix (e ∷ []) le g l (h, hs) = grind arith
   three_byte_prefix (e ∷ f ∷ s) le g l (h, (i, hs)) =
       let (lo, hi) = h.goes.within (inr (inr (omega arith))) in
       let (lo2, hi2) = i.goes.within (inr (inl g)) in
@@ -125,13 +102,6 @@ module _ (n : ℕ) (fewer : HasPrefixUpTo n) (a b c d : ℕ) (k : IsFinished a b
   four_byte_prefix : (s : List ℕ) → length s ≤ n → 0xF0 ≤ d → d ≤ 0xF4 → FitAfter b c d s
       → TextPrefix a b c (d ∷ s)
   four_byte_prefix [] le g l hs = no_prefix _ _ _ _ (unfinished_len-one b c d (omega arith))
-  four_byte_prefix (e ∷ []) le g l (h, hs) =
-      let (lo, hi) = h.goes.within (inr (inr (omega arith))) in
-      no_prefix _ _ _ _ (unfinished_len-two c d e (omega arith) (omega arith))
-  four_byte_prefix (e ∷ f ∷ []) le g l (h, (i, hs)) =
-      let (lo, hi) = h.goes.within (inr (inr (omega arith))) in
-      let (lo2, hi2) = i.goes.within (inr (inl (omega arith))) in
-      no_prefix _ _ _ _ (unfinished_len-three d e f (omega arith) (omega arith) g)
   four_byte_prefix (e ∷ f ∷ x ∷ s) le g l (h, (i, (j, hs))) =
       let (lo, hi) = h.goes.within (inr (inr (omega arith))) in
       let (lo2, hi2) = i.goes.within (inr (inl (omega arith))) in
@@ -140,6 +110,7 @@ module _ (n : ℕ) (fewer : HasPrefixUpTo n) (a b c d : ℕ) (k : IsFinished a b
       more_prefix (d ∷ e ∷ f ∷ x ∷ []) s a b c e f x 4
       (IsSequence-four d e f x (g, l, lo, hi, lo2, hi2, lo3, hi3, second.2, second.3)) refl
       (fewer e f x s (omega arith) (omega arith, omega arith, omega arith) hs) refl
+  four_byte_prefix s le g l hs = grind arith
 
   -- if d may follow a, b and c, s has at most n bytes, and after b, c and d each byte of s may
   -- follow the three bytes before it, then `TextPrefix a b c` holds of d followed by s
@@ -162,8 +133,7 @@ module _ (n : ℕ) (fewer : HasPrefixUpTo n) (a b c d : ℕ) (k : IsFinished a b
 has_prefix : (n : ℕ) → HasPrefixUpTo n
 has_prefix n a b c [] le k h = no_prefix _ _ _ _ (unfinished_len-finished a b c k)
 has_prefix zero a b c (d ∷ s) le k h = absurd (omega arith)
-has_prefix (suc n) a b c (d ∷ s) le k (h, hs) =
-    any_prefix n (has_prefix n) a b c d k s (omega arith) h hs
+has_prefix (suc n) a b c (d ∷ s) le k (h, hs) = grind (arith, any_prefix, has_prefix n)
 
 -- if s has at least n bytes: of the bytes a, b, c and then the first n of s, the last three
 -- determine how many at the end belong to an unfinished sequence (`unfinished_len`)
@@ -182,14 +152,11 @@ pub window_text : (w : List ℕ) → 19 ≤ length w
     → IsFinished (slice_index w 0) (slice_index w 1) (slice_index w 2) → FitsWindow w
     → let last = slice_index w in
     IsText (take (16 - unfinished_len (last 16) (last 17) (last 18)) (drop 3 w))
-window_text [] l k h = absurd (omega arith)
-window_text (a ∷ []) l k h = absurd (omega arith)
-window_text (a ∷ b ∷ []) l k h = absurd (omega arith)
 window_text (a ∷ b ∷ c ∷ s) l k h =
     let f = has_prefix (length (take 16 s)) a b c (take 16 s) (le_refl _) k h in
     let sixteen : length (take 16 s) ≡ 16 = length-take-le 16 s (omega arith) in
     let last = slice_index (a ∷ b ∷ c ∷ s) in
     let e : f.len ≡ 16 - unfinished_len (last 16) (last 17) (last 18) =
     omega (arith, f.whole, unfinished_after-take 16 a b c s (omega arith)) in
-    subst (λ n. IsText (take n s)) e
-    (subst IsText (take-take f.len 16 s (omega (arith, f.whole))) f.text)
+    grind (arith, common_steps)
+window_text w l k h = absurd (omega arith)

@@ -1,7 +1,7 @@
 -- Common prefixes, and several bytes of two strings compared at once.
-use Rattle.std.proofs.Common.{◌≡◌, ℕ, zero, suc, ◌+◌, ◌-◌, ◌^◌, ◌%◌, ◌<◌, ◌≤◌, Bool, true, false}
+use Rattle.std.proofs.Common.{◌≡◌, ℕ, zero, suc, ◌+◌, ◌^◌, ◌%◌, ◌<◌, ◌≤◌, Bool, true, false}
 use Rattle.std.proofs.Common.{cond, not, eqb, List, [], ◌∷◌, length, map, get_or, ⊎_elim}
-use Rattle.std.proofs.Common.{refl, sym, ap, ap₂, ◌∙◌, arith, w8, eq-eqb, ne_eqb, eqb-true}
+use Rattle.std.proofs.Common.{refl, sym, ap, ◌∙◌, arith, w8, eq-eqb, ne_eqb}
 use Rattle.std.specs.Int.Count.{count_trailing_zeros}
 use Rattle.std.specs.List.{common_prefix_len, prefix_len}
 use Rattle.std.specs.Simd.Lanes.{zip2, chunk, mask_l, top}
@@ -18,27 +18,20 @@ pub common_prefix_len-is : (a b : List ℕ) (n : ℕ) → n ≤ length a → n �
     → ((k : ℕ) → k < n → get_or a k 0 ≡ get_or b k 0)
     → (n < length a → n < length b → eqb (get_or a n 0) (get_or b n 0) ≡ false)
     → n ≡ common_prefix_len eqb a b
-common_prefix_len-is [] b n l m same differs = omega arith
-common_prefix_len-is (x ∷ a) [] n l m same differs = omega arith
-common_prefix_len-is (x ∷ a) (y ∷ b) zero l m same differs =
-    rw (differs (omega arith) (omega arith)) refl
+common_prefix_len-is (x ∷ a) (y ∷ b) zero l m same differs = grind arith
 common_prefix_len-is (x ∷ a) (y ∷ b) (suc n) l m same differs =
     let first : eqb x y ≡ true = eq-eqb x y (same 0 (omega arith)) in
-    let next : n ≡ common_prefix_len eqb a b =
-    common_prefix_len-is a b n (omega arith) (omega arith) (λ k h. same (suc k) (omega arith))
-    (λ i j. differs (omega arith) (omega arith)) in
-    let total : suc n ≡ 1 + common_prefix_len eqb a b = omega arith in
-    rw first total
+    grind (
+      arith,
+      common_prefix_len-is a b n (omega arith) (omega arith) (λ k h. same (suc k) (omega arith))
+          (λ i j. differs (omega arith) (omega arith)),
+    )
+common_prefix_len-is a b n l m same differs = omega arith
 
 -- a and b have the same byte at each index k of their common prefix
 pub common_prefix_len-same : (a b : List ℕ) (k : ℕ) → k < common_prefix_len eqb a b
     → get_or a k 0 ≡ get_or b k 0
-common_prefix_len-same [] b k l = absurd (omega arith)
-common_prefix_len-same (x ∷ a) [] k l = absurd (omega arith)
-common_prefix_len-same (x ∷ a) (y ∷ b) zero l =
-    ⊎_elim (λ (same : eqb x y ≡ true). eqb-true x y same)
-    (λ (other : eqb x y ≡ false). let m : 0 < 0 = rw other at l in absurd (omega arith))
-    (cases_Bool (eqb x y))
+common_prefix_len-same (x ∷ a) (y ∷ b) zero l = grind arith
 common_prefix_len-same (x ∷ a) (y ∷ b) (suc k) l =
     ⊎_elim
     (λ (same : eqb x y ≡ true).
@@ -46,18 +39,13 @@ common_prefix_len-same (x ∷ a) (y ∷ b) (suc k) l =
     common_prefix_len-same a b k (omega arith))
     (λ (other : eqb x y ≡ false). let m : suc k < 0 = rw other at l in absurd (omega arith))
     (cases_Bool (eqb x y))
+common_prefix_len-same a b k l = absurd (omega arith)
 
 -- if a and b both continue after their common prefix of n bytes, they differ at index n
 pub common_prefix_len-differs : (a b : List ℕ) (n : ℕ) → n ≡ common_prefix_len eqb a b
     → n < length a
     → n < length b → eqb (get_or a n 0) (get_or b n 0) ≡ false
-common_prefix_len-differs [] b n e l m = absurd (omega arith)
-common_prefix_len-differs (x ∷ a) [] n e l m = absurd (omega arith)
-common_prefix_len-differs (x ∷ a) (y ∷ b) zero e l m =
-    ⊎_elim
-    (λ (same : eqb x y ≡ true).
-    let f : 0 ≡ 1 + common_prefix_len eqb a b = rw same at e in absurd (omega arith))
-    (λ (other : eqb x y ≡ false). other) (cases_Bool (eqb x y))
+common_prefix_len-differs (x ∷ a) (y ∷ b) zero e l m = grind arith
 common_prefix_len-differs (x ∷ a) (y ∷ b) (suc n) e l m =
     ⊎_elim
     (λ (same : eqb x y ≡ true).
@@ -65,6 +53,7 @@ common_prefix_len-differs (x ∷ a) (y ∷ b) (suc n) e l m =
     common_prefix_len-differs a b n (omega arith) (omega arith) (omega arith))
     (λ (other : eqb x y ≡ false). let f : suc n ≡ 0 = rw other at e in absurd (omega arith))
     (cases_Bool (eqb x y))
+common_prefix_len-differs a b n e l m = absurd (omega arith)
 
 -- the two bytes of a pair are not the same
 abbrev differ : ℕ × ℕ → Bool
@@ -77,19 +66,15 @@ pairs a b = zip2 (λ x y. (x, y)) a b
 -- zipping a and b with the test whether two bytes differ is the same as mapping `differ` over the
 -- pairs of a and b
 zip2-pairs : (a b : List ℕ) → zip2 (λ x y. not (eqb x y)) a b ≡ map differ (pairs a b)
-zip2-pairs [] b = refl
-zip2-pairs (x ∷ a) [] = refl
 zip2-pairs (x ∷ a) (y ∷ b) = ap (λ ts. not (eqb x y) ∷ ts) (zip2-pairs a b)
+zip2-pairs a b = refl
 
 -- the number of pairs of a and b before the first pair whose bytes differ is the length of the
 -- common prefix of a and b
 prefix_len-pairs : (a b : List ℕ)
     → prefix_len (λ pair. not (differ pair)) (pairs a b) ≡ common_prefix_len eqb a b
-prefix_len-pairs [] b = refl
-prefix_len-pairs (x ∷ a) [] = refl
-prefix_len-pairs (x ∷ a) (y ∷ b) =
-    ⊎_elim (λ (same : eqb x y ≡ true). rw same (ap (λ n. 1 + n) (prefix_len-pairs a b)))
-    (λ (other : eqb x y ≡ false). rw other refl) (cases_Bool (eqb x y))
+prefix_len-pairs (x ∷ a) (y ∷ b) = grind (arith, prefix_len-pairs a b)
+prefix_len-pairs a b = refl
 
 -- if a and b have the same length, they have as many pairs as each of them has bytes
 length-pairs : (a b : List ℕ) → length a ≡ length b → length (pairs a b) ≡ length a
@@ -134,22 +119,15 @@ pub record CommonInLanes (a b : List ℕ) (n at len : ℕ) : Type 0 where
 in_lanes : (a b : List ℕ) (n at len : ℕ) → at + n ≤ length a → at + n ≤ length b
     → len ≡ common_prefix_len eqb (chunk at n a) (chunk at n b) → CommonInLanes a b n at len
 in_lanes a b n at len l m is =
-    let few : len ≤ n = omega (
+    grind (
       arith,
-      (common_prefix_len-le eqb (chunk at n a) (chunk at n b)).0,
-      length-chunk at n a l,
-    ) in
-    record {
-      in_range = few;
-      same = λ k from to.
-          sym (in_window at n a k from (omega arith))
-          ∙ common_prefix_len-same (chunk at n a) (chunk at n b) (k - at) (omega arith)
-          ∙ in_window at n b k from (omega arith);
-      differs = λ short.
-          sym (ap₂ eqb (get_or-chunk at n a len 0 short) (get_or-chunk at n b len 0 short))
-          ∙ common_prefix_len-differs (chunk at n a) (chunk at n b) len is
-          (omega (arith, length-chunk at n a l)) (omega (arith, length-chunk at n b m));
-    }
+      common_prefix_len-le,
+      length-chunk,
+      in_window,
+      common_prefix_len-same,
+      get_or-chunk,
+      common_prefix_len-differs,
+    )
 
 -- if a and b have n bytes from index `at` on, at most 64, and no bit of `other_mask` of these bytes
 -- is set, these bytes are the same in a and b

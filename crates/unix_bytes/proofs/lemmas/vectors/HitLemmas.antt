@@ -7,10 +7,11 @@ use Rattle.std.specs.List.{position_or_len}
 use Rattle.std.proofs.Math.Nat.{div-eq_of_lt, pow-succ'}
 use Rattle.std.proofs.Math.Pow.{pow_mono}
 use Rattle.std.proofs.lemmas.Bool.{cases_lt}
-use Rattle.std.proofs.lemmas.List.{get_or-map, get_or-take, length-map}
+use Rattle.std.proofs.lemmas.List.{get_or-map, length-map}
 use Rattle.std.proofs.lemmas.List.Sums.{position_or_len_is}
-use Rattle.std.proofs.lemmas.Nat.{div_below, le-div, leading_length}
+use Rattle.std.proofs.lemmas.Nat.{leading_length}
 use Rattle.std.proofs.lemmas.Simd.{bit_mask_l, mask_l-lt, run_in_chunk_fails, run_in_chunk_stops}
+use Rattle.std.proofs.lemmas.Grind.{common_steps}
 use Rattle.unix_bytes.specs.Lanes.{hit_mask}
 use Rattle.unix_bytes.proofs.lemmas.vectors.MaskLemmas.{bit, is_clear}
 
@@ -45,16 +46,12 @@ no_bit a k m l h = div-eq_of_lt (omega (arith, pow_mono h))
 
 -- if a is at least 2^k and less than 2^(k+1), the highest bit set in a has index k
 top_bit : (a k : ℕ) → 2 ^ k ≤ a → a < 2 * 2 ^ k → a / 2 ^ k ≡ 1
-top_bit a k low high =
-    let some : 0 < 2 ^ k = omega (arith, pow_mono {i = 0} {j = k} (omega arith)) in
-    omega (arith, le-div 1 a (2 ^ k) some (omega arith), div_below a (2 ^ k) 2 some (omega arith))
+top_bit a k low high = grind arith
 
 -- the bit of the mask at index k is set if and only if the byte of xs at index k is `byte`
 bit_of : (byte : ℕ) (xs : List ℕ) (k : ℕ) → k < length xs
     → hit_mask byte xs / 2 ^ k % 2 ≡ bit (get_or xs k 0 == byte)
-bit_of byte xs k l =
-    bit_mask_l (map (λ b. b == byte) xs) k
-    ∙ ap bit (get_or-map (λ b. b == byte) xs k 0 false l)
+bit_of byte xs k l = grind (arith, bit_mask_l, get_or-map)
 
 -- a test whose bit is 1 is true
 is_set : (t : Bool) → bit t ≡ 1 → t ≡ true
@@ -121,6 +118,4 @@ none_from byte s from l none =
 -- the window of n bytes of s from `at` on
 pub in_window : (at n : ℕ) (s : List ℕ) (k : ℕ) → at ≤ k → k < at + n
     → get_or (take n (drop at s)) (k - at) 0 ≡ get_or s k 0
-in_window at n s k l h =
-    get_or-take n (drop at s) (k - at) 0 (omega arith) ∙ get_or-drop at s (k - at) 0
-    ∙ ap (λ i. get_or s i 0) {x = at + (k - at)} {y = k} (omega arith)
+in_window at n s k l h = grind (arith, common_steps)

@@ -1,7 +1,7 @@
 -- Bit masks of vectors: a bit for each byte that passes a comparison.
-use Rattle.std.proofs.Common.{◌≡◌, ℕ, ◌<◌, ◌≤◌, ◌%◌, ◌^◌, List, [], ◌∷◌, length, Bool}
+use Rattle.std.proofs.Common.{◌≡◌, ℕ, ◌<◌, ◌≤◌, ◌%◌, ◌^◌, List, ◌∷◌, length, Bool}
 use Rattle.std.proofs.Common.{true, false, cond, map, nat_le, ltb, refl, sym, ap, ◌∙◌}
-use Rattle.std.proofs.Common.{subst, arith, ltb-false, w8}
+use Rattle.std.proofs.Common.{arith, w8}
 use Rattle.std.specs.Prelude.{replicate}
 use Rattle.std.specs.Simd.Lanes.{zip2, mask_l, top}
 use Rattle.std.proofs.lemmas.List.{length-map}
@@ -25,9 +25,7 @@ min_mask k n xs e le =
 
 -- the mask of those of the 16 bytes xs that are not less than k is less than 2^16
 pub mask_bound : (k : ℕ) (xs : List ℕ) → length xs ≡ 16 → mask_l (map (nat_le k) xs) < 0x10000
-mask_bound k xs e =
-    let l = length-map xs (nat_le k) ∙ e in
-    subst (λ n. mask_l (map (nat_le k) xs) < 2 ^ n) l (mask_l-lt (map (nat_le k) xs))
+mask_bound k xs e = grind (arith, length-map, mask_l-lt)
 
 -- the bit of the test result t: 1 if t is true, and otherwise 0
 abbrev pub bit : Bool → ℕ
@@ -41,10 +39,8 @@ is_clear false e = refl
 -- if the mask of the indices at which the byte of xs is less than the byte of ys is 0, no byte of
 -- xs is less than the byte of ys with the same index
 none_less : (xs ys : List ℕ) → mask_l (zip2 ltb xs ys) ≡ 0 → AllAtLeast xs ys
-none_less [] ys e = tt
-none_less (x ∷ xs) [] e = tt
-none_less (x ∷ xs) (y ∷ ys) e =
-    (ltb-false x y (is_clear (ltb x y) (omega arith)), none_less xs ys (omega arith))
+none_less (x ∷ xs) (y ∷ ys) e = grind (arith, none_less xs ys (omega arith))
+none_less xs ys e = tt
 
 -- for 16 bytes xs and 16 bytes ys: if the mask that the code computes of the indices at which the
 -- byte of xs is less than the byte of ys is 0, no byte of xs is less than the byte of ys with the

@@ -1,5 +1,5 @@
 -- Vectors of bytes, lane by lane: selection by a comparison.
-use Rattle.std.proofs.Common.{◌≡◌, ℕ, zero, suc, List, [], ◌∷◌, length, Bool, cond, map, nat_le}
+use Rattle.std.proofs.Common.{◌≡◌, ℕ, zero, suc, List, ◌∷◌, length, Bool, cond, map, nat_le}
 use Rattle.std.proofs.Common.{eqb, refl, sym, ap, ◌∙◌, arith, w8}
 use Rattle.std.specs.Prelude.{replicate}
 use Rattle.std.specs.Simd.Lanes.{zip2, sel_l, top}
@@ -10,11 +10,9 @@ use Rattle.std.proofs.lemmas.Simd.{tops_compared, zip2_splat, zip2_splat_left, z
 -- passes p, and elsewhere the byte of `os`
 sel_l-map : (p : ℕ → Bool) (y n : ℕ) (xs os : List ℕ) → length xs ≡ n
     → sel_l (map p xs) (replicate n y) os ≡ zip2 (λ b o. cond (p b) y o) xs os
-sel_l-map p y n [] os e = refl
 sel_l-map p y zero (x ∷ xs) os e = absurd (omega arith)
-sel_l-map p y (suc n) (x ∷ xs) [] e = refl
-sel_l-map p y (suc n) (x ∷ xs) (o ∷ os) e =
-    ap (λ t. cond (p x) y o ∷ t) (sel_l-map p y n xs os (omega arith))
+sel_l-map p y (suc n) (x ∷ xs) (o ∷ os) e = grind (arith, sel_l-map p y n xs os (omega arith))
+sel_l-map p y n xs os e = refl
 
 -- selecting from 255 and `os`, by whether each of the n bytes xs is at least k, yields 255 where it
 -- is, and elsewhere the byte of `os`
@@ -34,9 +32,7 @@ pub sel_l-equal : (k own n : ℕ) (xs os : List ℕ) → length xs ≡ n
     (replicate n own) os
     ≡ zip2 (λ b o. cond (eqb b k) own o) xs os
 sel_l-equal k own n xs os e =
-    ap (λ ms. sel_l ms (replicate n own) os)
-    (tops_compared w8 eqb xs (replicate n k) ∙ zip2_splat eqb xs n k e)
-    ∙ sel_l-map (λ b. eqb b k) own n xs os e
+    grind (arith, tops_compared w8 eqb xs (replicate n k), zip2_splat eqb xs n k e, sel_l-map)
 
 -- selecting by g, starting from z everywhere, and then by f, both by the same n bytes xs, maps each
 -- byte b of xs to `f b (g b z)`

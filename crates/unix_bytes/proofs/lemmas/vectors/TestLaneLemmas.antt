@@ -1,36 +1,29 @@
 -- Lanes that each show whether a test holds, and the mask made of them.
 use Rattle.std.proofs.Common.{◌≡◌, ℕ, ◌+◌, ◌-◌, ◌%◌, ◌^◌, ◌<◌, ◌≤◌, Bool, true, false, cond, not}
 use Rattle.std.proofs.Common.{eqb, ◌&&◌, ◌||◌, List, [], ◌∷◌, length, map, get_or, replicate}
-use Rattle.std.proofs.Common.{bit_and, bit_or, refl, sym, ap, ap₂, ◌∙◌, arith, eq-eqb, ne_eqb}
-use Rattle.std.proofs.Common.{⊎_elim}
+use Rattle.std.proofs.Common.{bit_and, bit_or, refl, sym, ap, ◌∙◌, arith, eq-eqb}
 use Rattle.std.specs.Int.Count.{count_trailing_zeros}
 use Rattle.std.specs.List.{prefix_len}
 use Rattle.std.specs.Simd.Lanes.{chunk, zip2, mask_l, top}
-use Rattle.std.proofs.lemmas.Bool.{cases_lt, not-true, not-false}
-use Rattle.std.proofs.lemmas.List.{get_or_default, get_or-replicate, length-map, length-replicate}
+use Rattle.std.proofs.lemmas.Bool.{not-true}
+use Rattle.std.proofs.lemmas.List.{get_or-replicate, length-map, length-replicate}
 use Rattle.std.proofs.lemmas.List.Sums.{prefix_len-le-length, prefix_len_passes, prefix_len_stops}
-use Rattle.std.proofs.lemmas.Simd.{length-zip2, get_or-zip2, get_or-chunk, first_set_mask_l}
+use Rattle.std.proofs.lemmas.Simd.{length-zip2, get_or-zip2, first_set_mask_l}
 use Rattle.std.proofs.lemmas.Simd.{mask_l-mod}
+use Rattle.std.proofs.lemmas.Grind.{common_steps}
 
 -- the lane of a test whose result is b: 255, which has all bits set, if b is true, and otherwise 0
 abbrev pub lane : Bool → ℕ
 lane b = cond b 255 0
 
 and_lane : (a b : Bool) → bit_and (lane a) (lane b) ≡ lane (a && b)
-and_lane true true = refl
-and_lane true false = refl
-and_lane false true = refl
-and_lane false false = refl
+and_lane a b = grind arith
 
 or_lane : (a b : Bool) → bit_or (lane a) (lane b) ≡ lane (a || b)
-or_lane true true = refl
-or_lane true false = refl
-or_lane false true = refl
-or_lane false false = refl
+or_lane a b = grind arith
 
 pub top_lane : (a : Bool) → top 7 (lane a) ≡ a
-top_lane true = refl
-top_lane false = refl
+top_lane a = grind arith
 
 -- f applied to each of the n bytes xs and to y
 abbrev pub with : (ℕ → ℕ → ℕ) → ℕ → List ℕ → ℕ → List ℕ
@@ -38,14 +31,11 @@ with f n xs y = zip2 f xs (replicate n y)
 
 pub length-with : (f : ℕ → ℕ → ℕ) (n : ℕ) (xs : List ℕ) (y : ℕ) → length xs ≡ n
     → length (with f n xs y) ≡ n
-length-with f n xs y l =
-    length-zip2 f xs (replicate n y) (l ∙ sym (length-replicate n y)) ∙ l
+length-with f n xs y l = grind (arith, length-zip2, length-replicate)
 
 pub get_or-with : (f : ℕ → ℕ → ℕ) (n : ℕ) (xs : List ℕ) (y i : ℕ) → length xs ≡ n → i < n
     → get_or (with f n xs y) i 0 ≡ f (get_or xs i 0) y
-get_or-with f n xs y i l few =
-    get_or-zip2 f xs (replicate n y) i 0 0 0 (omega arith) (omega (arith, length-replicate n y))
-    ∙ ap (f (get_or xs i 0)) (get_or-replicate n i y 0 few)
+get_or-with f n xs y i l few = grind (arith, common_steps, get_or-replicate n i y 0 few)
 
 -- the lanes that show, for each of the n bytes xs, whether the test t is true of this byte and y
 abbrev pub tested : (ℕ → ℕ → Bool) → ℕ → List ℕ → ℕ → List ℕ
@@ -70,10 +60,7 @@ pub record Tells (n : ℕ) (xs : List ℕ) (i : ℕ) (b : Bool) : Type 0 where
 
 pub Tells-tested : (t : ℕ → ℕ → Bool) (n : ℕ) (xs : List ℕ) (y i : ℕ) → length xs ≡ n → i < n
     → Tells n (tested t n xs y) i (t (get_or xs i 0) y)
-Tells-tested t n xs y i l few = record {
-  size = length-with (λ a b. lane (t a b)) n xs y l;
-  is = get_or-with (λ a b. lane (t a b)) n xs y i l few;
-}
+Tells-tested t n xs y i l few = grind (arith, length-with, get_or-with)
 
 pub Tells-hits : (n : ℕ) (xs : List ℕ) (y i : ℕ) → length xs ≡ n → i < n
     → Tells n (hits n xs y) i (eqb (get_or xs i 0) y)
@@ -82,11 +69,7 @@ Tells-hits = Tells-tested eqb
 Tells-zip2 : (f : ℕ → ℕ → ℕ) (t : Bool → Bool → Bool)
     → ((a b : Bool) → f (lane a) (lane b) ≡ lane (t a b)) → (n : ℕ) (xs ys : List ℕ) (i : ℕ)
     (a b : Bool) → i < n → Tells n xs i a → Tells n ys i b → Tells n (zip2 f xs ys) i (t a b)
-Tells-zip2 f t same n xs ys i a b few h k = record {
-  size = length-zip2 f xs ys (h.size ∙ sym k.size) ∙ h.size;
-  is = get_or-zip2 f xs ys i 0 0 0 (omega (arith, h.size)) (omega (arith, k.size))
-      ∙ ap₂ f h.is k.is ∙ same a b;
-}
+Tells-zip2 f t same n xs ys i a b few h k = grind (arith, length-zip2, get_or-zip2)
 
 pub Tells-both : {n : ℕ} {xs ys : List ℕ} {i : ℕ} {a b : Bool} → i < n → Tells n xs i a
     → Tells n ys i b → Tells n (both xs ys) i (a && b)
@@ -102,9 +85,7 @@ Tells-either {n} {xs} {ys} {i} {a} {b} =
 -- these n bytes is the byte of s at index k; d, the default past the end of s, doesn't matter
 pub lane_at : (n d : ℕ) (s : List ℕ) (at i k : ℕ) → at + n ≤ length s → i < n → at + i ≡ k
     → get_or (chunk at n s) i 0 ≡ get_or s k d
-lane_at n d s at i k l few e =
-    get_or-chunk at n s i 0 few ∙ ap (λ k. get_or s k 0) e
-    ∙ get_or_default s k 0 d (omega arith)
+lane_at n d s at i k l few e = grind (arith, common_steps)
 
 -- the mask that the code computes from the lanes xs
 abbrev pub mask_of : List ℕ → ℕ
@@ -164,9 +145,7 @@ none_set {n} {xs} h none =
 lowest : {n : ℕ} {xs : List ℕ} {test : ℕ → Bool} {at : ℕ} → TellFrom n xs test at
     → (mask_of xs ≡ 0 → ⊥)
     → count_trailing_zeros 64 (mask_of xs) ≡ prefix_len (λ x. not (top 7 x)) xs
-lowest {n} {xs} h some =
-    sym (ap (λ c. cond c n (count_trailing_zeros 64 (mask_of xs))) (ne_eqb (mask_of xs) 0 some))
-    ∙ first_set h
+lowest {n} {xs} h some = grind (arith, first_set h)
 
 -- if the n lanes xs show the test from index `at` on (`TellFrom`), and a bit of their mask is set,
 -- the test is false from `at` up to `at` plus the index of the lowest bit set, exclusive
@@ -190,13 +169,4 @@ found_set {n} {xs} {test} {at} h some =
     let p = λ (x : ℕ). not (top 7 x) in
     let size = (h.each 0 h.some).size in
     let is : k ≡ prefix_len p xs = lowest h some in
-    let few : length (map (top 7) xs) ≤ 64 = omega (arith, length-map xs (top 7), size, h.few) in
-    let inside : k < n = ⊎_elim (λ (less : k < n). less)
-    (λ (all : n ≤ k). absurd (some (mask_l-mod (map (top 7) xs) 64 few
-    ∙ no_bit (top 7) xs (omega (arith, is, size, all, prefix_len-le-length p xs)))))
-    (cases_lt k n) in (
-      inside,
-      sym (top_lane (test (at + k))) ∙ ap (top 7) (sym (h.each k inside).is)
-          ∙ not-false (top 7 (get_or xs k 0)) (ap (λ k. not (top 7 (get_or xs k 0))) is
-          ∙ prefix_len_stops p xs 0 (omega (arith, is, size, inside))),
-    )
+    grind (arith, prefix_len_stops, no_bit, prefix_len-le-length)

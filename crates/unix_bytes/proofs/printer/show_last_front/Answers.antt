@@ -1,3 +1,4 @@
+use Rattle.std.proofs.lemmas.Grind.{common_steps}
 use Rattle.std.proofs.Common.{◌≡◌, ◌+◌, length, take, ap, sym, ◌∙◌, arith, length-take-le}
 use Rattle.unix_bytes.proofs.lemmas.prefixes.TextPrefixLemmas.{sequence_is_text}
 use Rattle.unix_bytes.proofs.lemmas.prefixes.PrinterLemmas.{shows_text, shows_broken}
@@ -5,14 +6,7 @@ use Rattle.unix_bytes.proofs.lemmas.prefixes.PrinterLemmas.{sequence_is_short}
 use Rattle.unix_bytes.proofs.printer.show_last_front.Goals as goal
 
 pub copy_at-requires : goal.copy_at-requires
-copy_at-requires c =
-    let s = c.args.source.now in
-    omega (
-      arith,
-      c.in-Ok.ensures.sequence,
-      sequence_is_short s,
-      length-take-le c.in-Ok.size s c.in-Ok.ensures.within,
-    )
+copy_at-requires c = grind (arith, common_steps, sequence_is_short, length-take-le)
 
 pub returns-in-Ok-clause-lossy : goal.returns-in-Ok-clause-lossy
 returns-in-Ok-clause-lossy c =

@@ -13,17 +13,6 @@ returns-then-common-lt16-clause-value c =
     (λ (more : len ≤ k). lanes.ensures.same k more l) (cases_lt k len))
     (λ _ _. lanes.ensures.differs c.if-common-lt16.true)
 
-pub loop-len-preserved : goal.loop-len-preserved
-loop-len-preserved c =
-    let len = c.loop-len.len in
-    let lanes = c.common_len_simd16-common in
-    record {
-      in_range = omega arith;
-      same = λ k l.
-          ⊎_elim (λ (less : k < len). c.loop-len.invariant.same k less)
-          (λ (more : len ≤ k). lanes.ensures.same k more (omega arith)) (cases_lt k len);
-    }
-
 pub returns-clause-value : goal.returns-clause-value
 returns-clause-value c =
     let len = c.loop-len.len in

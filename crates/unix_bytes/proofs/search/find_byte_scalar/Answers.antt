@@ -1,3 +1,4 @@
+use Rattle.std.proofs.lemmas.Grind.{common_steps}
 use Rattle.std.proofs.Common.{◌==◌, length, sym, arith, eq-eqb}
 use Rattle.std.proofs.lemmas.List.Sums.{position_or_len_is}
 use Rattle.unix_bytes.proofs.search.find_byte_scalar.Goals as goal
@@ -8,6 +9,4 @@ returns-clause-value c =
     (omega arith) (λ k l. c.loop-index.invariant k (omega arith)) (λ l. absurd (omega arith)))
 
 pub returns-then-b-byte-clause-value : goal.returns-then-b-byte-clause-value
-returns-then-b-byte-clause-value c =
-    sym (position_or_len_is (λ b. b == c.args.byte) c.args.bytes.now c.loop-index.index 0
-    (omega arith) c.loop-index.invariant (λ _. eq-eqb _ _ c.if-b-byte.true))
+returns-then-b-byte-clause-value c = grind (arith, common_steps, position_or_len_is, eq-eqb)

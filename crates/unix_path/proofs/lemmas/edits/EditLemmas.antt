@@ -1,11 +1,12 @@
 -- What a pop, and setting an extension, keep of a path.
+use Rattle.std.proofs.Common.{arith}
 use Rattle.std.proofs.Common.{◌≡◌, ℕ, List, [], ◌∷◌, ◌++◌, length, take, refl, Option, Some, None}
 use Rattle.std.proofs.Common.{is_some, option_map, unwrap_or, true, false, sym, ap, ◌∙◌}
 use Rattle.std.proofs.Math.Dec.{eqb-suc-zero}
 use Rattle.std.specs.Option.{option_map_or}
 use Rattle.unix_path.specs.Parts.{values}
 use Rattle.unix_path.specs.Parents.{parent_of}
-use Rattle.unix_path.specs.Names.{file_name_of, stem_of}
+use Rattle.unix_path.specs.Names.{file_name_of}
 use Rattle.unix_path.specs.Edits.{popped_of, stem_end_of, dot_before, with_extension_of}
 
 -- if s has no parent, a pop leaves s unchanged
@@ -41,9 +42,7 @@ pub with_extension_of-some : (s extension separator : List ℕ) (end : ℕ) → 
     → separator ≡ dot_before extension
     → with_extension_of s extension ≡ (take end s ++ separator) ++ extension
 unfolding with_extension_of
-with_extension_of-some s extension separator end e d =
-    ap (with_extension_at s extension) (sym e)
-    ∙ ap (λ separator. (take end s ++ separator) ++ extension) (sym d)
+with_extension_of-some s extension separator end e d = grind arith
 
 -- mapping f over the option o yields `Some` if and only if o is `Some`
 pub is_some-option_map : {A B : Type 0} (f : A → B) (o : Option A)
@@ -54,8 +53,7 @@ is_some-option_map f (Some x) = refl
 -- there is an index where the stem of s ends if and only if s has a file name
 is_some-stem_end_of : (s : List ℕ) → is_some (stem_end_of s) ≡ is_some (file_name_of (values s))
 unfolding stem_end_of
-is_some-stem_end_of s =
-    is_some-option_map _ (stem_of (values s)) ∙ is_some-option_map _ (file_name_of (values s))
+is_some-stem_end_of s = grind arith
 
 -- if there is an index `end` where the stem of s ends, s has a file name
 pub file_name_of-stem : (s : List ℕ) (end : ℕ) → Some end ≡ stem_end_of s

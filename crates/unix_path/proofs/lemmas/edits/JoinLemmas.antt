@@ -4,16 +4,13 @@ use Rattle.std.proofs.Common.{get_or, refl, sym, ap, ◌∙◌, arith, append_as
 use Rattle.std.proofs.Common.{append-nil, length-append, ◌+◌}
 use Rattle.unix_path.specs.Parts.{is_rooted}
 use Rattle.unix_path.specs.Joins.{needs_no_separator, join_of}
+use Rattle.std.proofs.lemmas.List.{get_or_default}
 
 -- a join to s needs no separator if and only if s is empty or its last byte is a slash
 pub needs_no_separator-at : (s : List ℕ) → needs_no_separator s
     ≡ eqb (get_or s (length s - 1) 47) 47
-needs_no_separator-at [] = refl
-needs_no_separator-at (b ∷ []) = refl
-needs_no_separator-at (b ∷ c ∷ s) =
-    needs_no_separator-at (c ∷ s)
-    ∙ ap (λ k. eqb (get_or (b ∷ c ∷ s) k 47) 47) {x = suc (length (c ∷ s) - 1)}
-    {y = length (b ∷ c ∷ s) - 1} (omega arith)
+needs_no_separator-at (b ∷ c ∷ s) = grind (arith, needs_no_separator-at (c ∷ s))
+needs_no_separator-at s = refl
 
 -- if b is rooted, the join of a and b is b
 pub join_of_rooted : (a b : List ℕ) → is_rooted b ≡ true → join_of a b ≡ b
@@ -45,13 +42,7 @@ length-join_of_no_separator a b r o = ap length (join_of_no_separator a b r o) �
 -- longer than a and b together
 pub length-join_of_separator : (a b : List ℕ) → is_rooted b ≡ false → needs_no_separator a ≡ false
     → length (join_of a b) ≡ length a + (1 + length b)
-length-join_of_separator a b r o =
-    omega (
-      arith,
-      ap length (join_of_separator a b r o),
-      length-append (a ++ 47 ∷ []) b,
-      length-append a (47 ∷ []),
-    )
+length-join_of_separator a b r o = grind (arith, join_of_separator, length-append)
 
 pub ruleset push_cases = (
   join_of_rooted,
@@ -60,3 +51,6 @@ pub ruleset push_cases = (
   length-join_of_no_separator,
   length-join_of_separator,
 )
+
+-- whether a string needs a separator after it
+pub ruleset separated = (needs_no_separator-at, get_or_default)

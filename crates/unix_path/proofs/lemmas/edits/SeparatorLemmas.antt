@@ -5,8 +5,7 @@ use Rattle.std.proofs.iter.runs.Made.{run, seen, to_item}
 use Rattle.std.specs.Iterator.{Yields}
 use Rattle.std.specs.Prelude.{fold}
 use Rattle.std.proofs.Math.Seq.{take-length}
-use Rattle.unix_path.specs.Joins.{needs_no_separator, join_of, join_all_of}
-use Rattle.unix_path.specs.Parts.{is_rooted}
+use Rattle.unix_path.specs.Joins.{join_of, join_all_of}
 use Rattle.unix_path.specs.Buffers.{bytes_of_each, ItemsFit, JoinsFit}
 use Rattle.unix_path.specs.declared.path.Path.{Path}
 use Rattle.unix_bytes.proofs.lemmas.lists.ListLemmas.{by_test, take-beginning}
@@ -28,11 +27,8 @@ join_all_of_snoc a (p ∷ paths) path = join_all_of_snoc (join_of a p.bytes.now)
 
 -- the length of the join of a and b is at most the sum of the lengths of a and b, plus 1
 length-join_of-max_len : (a b : List ℕ) → length (join_of a b) ≤ length a + (1 + length b)
-length-join_of-max_len a b = by_test (is_rooted b)
-    (λ r. omega (arith, ap length (join_of_rooted a b r)))
-    (λ r. by_test (needs_no_separator a)
-    (λ o. omega (arith, length-join_of_no_separator a b r o))
-    (λ o. omega (arith, length-join_of_separator a b r o)))
+length-join_of-max_len a b =
+    grind (arith, join_of_rooted, length-join_of_no_separator, length-join_of_separator)
 
 -- the sum of a number, of the lengths of these paths, and of 1 for each path
 abbrev pub sum_of_paths : ℕ → List Path → ℕ
@@ -46,9 +42,7 @@ length-join_all_of-max_len a n [] = omega arith
 length-join_all_of-max_len a n (p ∷ paths) =
     let one = join_of a p.bytes.now in
     let more = n + (1 + length p.bytes.now) in
-    let rest : length (join_all_of one (bytes_of_each paths)) + more
-    ≤ length one + sum_of_paths more paths = length-join_all_of-max_len one more paths in
-    omega (arith, rest, length-join_of-max_len a p.bytes.now)
+    grind (arith, length-join_of-max_len, length-join_all_of-max_len one more paths)
 
 -- if the lengths of any number of first items of the iterator `items`, plus 1 for each item, add up
 -- to at most `spare_capacity`, then joining these items to `old` adds at most `spare_capacity`

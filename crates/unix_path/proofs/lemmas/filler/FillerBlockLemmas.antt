@@ -43,8 +43,7 @@ filler_block s at l none k from to =
 pub inner_parts_filler_block : (at : ℕ) (s : List ℕ) (i n : ℕ) → i + n ≤ length s
     → ((k : ℕ) → i ≤ k → k < i + n → is_filler s k ≡ true)
     → inner_parts (at + i) (drop i s) ≡ inner_parts (at + (i + n)) (drop (i + n) s)
-inner_parts_filler_block at s i zero l all =
-    ap (λ k. inner_parts (at + k) (drop k s)) {x = i} {y = i + 0} (omega arith)
+inner_parts_filler_block at s i zero l all = grind arith
 inner_parts_filler_block at s i (suc n) l all =
     inner_parts_filler_block at s i n (omega arith) (λ k from to. all k from (omega arith))
     ∙ inner_parts_filler_at at s (i + n) (omega arith) (all (i + n) (omega arith) (omega arith))

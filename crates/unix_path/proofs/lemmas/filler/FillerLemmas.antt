@@ -1,39 +1,20 @@
 -- The filler between two components.
-use Rattle.std.proofs.Common.{◌≡◌, ℕ, suc, ◌+◌, ◌≤◌, ◌<◌, true, false, cond, ◌&&◌, ◌||◌, eqb, List}
-use Rattle.std.proofs.Common.{[], ◌∷◌, ◌++◌, length, get_or, drop, refl, sym, ap, ap₂, ◌∙◌, map}
-use Rattle.std.proofs.Common.{◌⊎◌, inl, inr, ⊎_elim, arith, eqb-true, get_or-drop, length-drop}
-use Rattle.std.proofs.Common.{drop-drop}
+use Rattle.std.proofs.Common.{◌≡◌, ℕ, suc, ◌+◌, ◌≤◌, ◌<◌, true, false, ◌&&◌, eqb, List}
+use Rattle.std.proofs.Common.{[], ◌∷◌, length, get_or, drop, refl, ap, ◌∙◌}
+use Rattle.std.proofs.Common.{arith, get_or-drop}
 use Rattle.std.specs.List.{position_or_len}
 use Rattle.std.specs.Str.{bytes_eq}
-use Rattle.std.proofs.lemmas.Bool.{or_cases, or_parts, and_parts}
+use Rattle.std.proofs.lemmas.Grind.{common_steps}
 use Rattle.unix_bytes.proofs.lemmas.lists.ListLemmas.{by_test}
-use Rattle.unix_path.proofs.lemmas.parts.PartLemmas.{leading_part-name, nonempty_first_piece}
 use Rattle.unix_path.proofs.lemmas.parts.PieceLemmas.{inner_parts-dot, inner_parts-dot_slash}
 use Rattle.unix_path.proofs.lemmas.parts.PieceLemmas.{inner_parts-first, inner_parts-nil}
 use Rattle.unix_path.proofs.lemmas.parts.PieceLemmas.{inner_parts-slash, first_piece}
-use Rattle.unix_path.proofs.lemmas.parts.PieceLemmas.{first_piece-other, first_piece-slash}
-use Rattle.unix_path.specs.Parts.{CurDir, inner_parts, cur_dir, is_slash, leading_part, parts, Part}
+use Rattle.unix_path.specs.Parts.{inner_parts, cur_dir, is_slash, leading_part, parts}
 use Rattle.unix_path.specs.Parts.{value_of_piece, values}
 use Rattle.unix_path.specs.Scan.{is_filler}
 use Rattle.unix_path.specs.CommonDir.{inner_values}
-
--- if the byte b, followed by s, is filler, b is a slash, or b is a `.` and s is empty or begins
--- with a slash
-pub filler_from : (b : ℕ) (s : List ℕ) → is_filler (b ∷ s) 0 ≡ true
-    → (b ≡ 47) ⊎ ((b ≡ 46) × (get_or s 0 47 ≡ 47))
-filler_from b s e =
-    ⊎_elim (λ slash. inl (eqb-true b 47 slash))
-    (λ dot. let both = and_parts (eqb b 46) (eqb (get_or s 0 47) 47) dot in
-    inr (eqb-true b 46 both.0, eqb-true (get_or s 0 47) 47 both.1))
-    (or_cases (eqb b 47) (eqb b 46 && eqb (get_or s 0 47) 47) e)
-
--- if s is empty or begins with a slash, a `.` put before s adds no inner component
-inner_parts-dot_cut : (at : ℕ) (s : List ℕ) → get_or s 0 47 ≡ 47
-    → inner_parts at (46 ∷ s) ≡ inner_parts (at + 1) s
-inner_parts-dot_cut at [] e = inner_parts-dot at ∙ sym (inner_parts-nil (at + 1))
-inner_parts-dot_cut at (b ∷ s) e = ap (λ b. inner_parts at (46 ∷ b ∷ s)) e
-    ∙ inner_parts-dot_slash at s
-    ∙ sym (ap (λ b. inner_parts (at + 1) (b ∷ s)) e)
+use Rattle.std.proofs.lemmas.List.{get_or_default}
+use Rattle.std.proofs.lemmas.List.{get_or_past}
 
 -- if the first byte of s is filler, removing it changes neither the inner components nor their
 -- positions
@@ -41,16 +22,18 @@ inner_parts_filler : (at : ℕ) (s : List ℕ) → 0 < length s → is_filler s 
     → inner_parts at s ≡ inner_parts (at + 1) (drop 1 s)
 inner_parts_filler at [] l e = absurd (omega arith)
 inner_parts_filler at (b ∷ s) l e =
-    ⊎_elim (λ is. ap (λ b. inner_parts at (b ∷ s)) is ∙ inner_parts-slash at s)
-    (λ is. ap (λ b. inner_parts at (b ∷ s)) is.0 ∙ inner_parts-dot_cut at s is.1)
-    (filler_from b s e)
+    grind (
+      arith,
+      common_steps,
+      inner_parts-slash,
+      inner_parts-dot,
+      inner_parts-nil,
+      inner_parts-dot_slash,
+    )
 
 -- whether the byte of s at i is filler doesn't depend on the bytes before it
 pub is_filler-drop : (s : List ℕ) (i : ℕ) → is_filler (drop i s) 0 ≡ is_filler s i
-is_filler-drop s i =
-    let here : get_or (drop i s) 0 0 ≡ get_or s i 0 = get_or-drop i s 0 0
-    ∙ ap (λ k. get_or s k 0) {x = i + 0} {y = i} (omega arith) in
-    ap₂ (λ b next. eqb b 47 || (eqb b 46 && eqb next 47)) here (get_or-drop i s 1 47)
+is_filler-drop s i = grind (arith, get_or-drop)
 
 -- if the byte of s at i is a slash, `is_filler` is true for it
 pub filler_slash : (s : List ℕ) (i : ℕ) → get_or s i 0 ≡ 47 → is_filler s i ≡ true
@@ -65,36 +48,18 @@ filler_dot s i e next = rw (e, next) refl
 -- components of s from i + 1 on, at the same positions
 pub inner_parts_filler_at : (at : ℕ) (s : List ℕ) (i : ℕ) → i < length s → is_filler s i ≡ true
     → inner_parts (at + i) (drop i s) ≡ inner_parts (at + (i + 1)) (drop (i + 1) s)
-inner_parts_filler_at at s i l e =
-    let some : 0 < length (drop i s) = omega (arith, length-drop i s) in
-    inner_parts_filler (at + i) (drop i s) some (is_filler-drop s i ∙ e)
-    ∙ ap₂ inner_parts {x = at + i + 1} {y = at + (i + 1)} (omega arith) (drop-drop 1 i s)
+inner_parts_filler_at at s i l e = grind (arith, common_steps, inner_parts_filler)
 
 -- the first piece of s is empty if and only if s is empty or begins with a slash
 pub first_piece_empty : (s : List ℕ) → bytes_eq (first_piece s) [] ≡ eqb (get_or s 0 47) 47
 first_piece_empty [] = refl
-first_piece_empty (b ∷ s) = by_test (eqb b 47)
-    (λ e. ap (λ p. bytes_eq p []) (first_piece-slash b s e) ∙ sym e)
-    (λ e. ap (λ p. bytes_eq p []) (first_piece-other b s e) ∙ sym e)
+first_piece_empty (b ∷ s) = grind (arith, common_steps)
 
 -- the first piece of s is `.` if and only if s is `.` or begins with `./`
 pub first_piece_dot : (s : List ℕ)
     → bytes_eq (first_piece s) cur_dir ≡ (eqb (get_or s 0 0) 46 && eqb (get_or s 1 47) 47)
 first_piece_dot [] = refl
-first_piece_dot (b ∷ s) = by_test (eqb b 47)
-    (λ e. ap (λ p. bytes_eq p cur_dir) (first_piece-slash b s e)
-    ∙ sym (ap (λ b. eqb b 46 && eqb (get_or s 0 47) 47) (eqb-true b 47 e)))
-    (λ e. ap (λ p. bytes_eq p cur_dir) (first_piece-other b s e)
-    ∙ ap (λ t. eqb b 46 && t) (first_piece_empty s))
-
--- if s is not empty and doesn't begin with filler, its first byte isn't a slash, and its first
--- piece isn't `.`
-pub not_filler_parts : (s : List ℕ) → 0 < length s → is_filler s 0 ≡ false
-    → (eqb (get_or s 0 0) 47 ≡ false) × (bytes_eq (first_piece s) cur_dir ≡ false)
-not_filler_parts [] l e = absurd (omega arith)
-not_filler_parts (b ∷ s) l e =
-    let neither = or_parts (eqb b 47) (eqb b 46 && eqb (get_or s 0 47) 47) e in
-    (neither.0, first_piece_dot (b ∷ s) ∙ neither.1)
+first_piece_dot (b ∷ s) = grind (arith, common_steps)
 
 -- if s is not empty and doesn't begin with filler, its inner components are the component of its
 -- first piece, and then the inner components of the bytes after this piece
@@ -102,9 +67,7 @@ pub inner_parts_not_filler : (at : ℕ) (s : List ℕ) → 0 < length s → is_f
     → inner_parts at s ≡ record
     { start = at; end = at + length (first_piece s); value = value_of_piece (first_piece s) }
     ∷ inner_parts (at + position_or_len is_slash s) (drop (position_or_len is_slash s) s)
-inner_parts_not_filler at s l e =
-    let is = not_filler_parts s l e in
-    inner_parts-first at s ∙ rw (nonempty_first_piece s l is.0, is.1) refl
+inner_parts_not_filler at s l e = grind (arith, common_steps, inner_parts-first at s)
 
 -- if s is empty or doesn't begin with filler, it has neither a root nor a leading `.`, so its
 -- components are its inner components
@@ -112,18 +75,13 @@ pub parts-not_filler : (s : List ℕ) → (0 < length s → is_filler s 0 ≡ fa
     ≡ inner_parts 0 s
 unfolding parts leading_part
 parts-not_filler [] h = refl
-parts-not_filler (b ∷ s) h =
-    let is = not_filler_parts (b ∷ s) (omega arith) (h (omega arith)) in
-    let none : leading_part (b ∷ s) ≡ [] = leading_part-name (b ∷ s) is.0
-    ∙ ap (λ t. cond t (record { start = 0; end = 1; value = CurDir } ∷ []) []) is.1 in
-    ap (λ ps. ps ++ inner_parts 0 (b ∷ s)) none
+parts-not_filler (b ∷ s) h = grind (arith, common_steps)
 
 -- if s doesn't begin with filler, it has the same components at the beginning of a path as after a
 -- slash
 pub values-not_filler : (s : List ℕ) → is_filler s 0 ≡ false → values s ≡ inner_values s
 unfolding values
-values-not_filler s not_filler =
-    ap (map (λ (p : Part). p.value)) (parts-not_filler s (λ _. not_filler))
+values-not_filler s not_filler = grind (arith, parts-not_filler)
 
 -- the first `len` bytes of s are filler, and a component or the end of s follows them
 pub record SkipsFiller (s : List ℕ) : Type 0 where
@@ -134,12 +92,7 @@ pub record SkipsFiller (s : List ℕ) : Type 0 where
 
 -- every string s begins with filler, possibly none, which a component or the end of s follows
 pub skips_filler : (s : List ℕ) → SkipsFiller s
-skips_filler [] = record {
-  len = 0;
-  in_range = omega arith;
-  same = λ at. ap (λ n. inner_parts n []) {x = at} {y = at + 0} (omega arith);
-  not_filler = λ l. absurd (omega arith);
-}
+skips_filler [] = grind arith
 skips_filler (b ∷ s) = by_test (is_filler (b ∷ s) 0)
     (λ e. let next = skips_filler s in record {
       len = suc next.len;
@@ -156,3 +109,7 @@ skips_filler (b ∷ s) = by_test (is_filler (b ∷ s) 0)
       same = λ at. ap (λ n. inner_parts n (b ∷ s)) {x = at} {y = at + 0} (omega arith);
       not_filler = λ _. e;
     })
+
+-- a slash, or a dot at the end or before a slash, is filler
+pub ruleset filler_steps =
+    (filler_dot, filler_slash, inner_parts_filler_at, get_or_default, get_or_past)

@@ -1,6 +1,6 @@
 -- Testing at once whether 16 bytes are slashes, or dots after slashes.
-use Rattle.std.proofs.Common.{◌≡◌, ℕ, zero, suc, ◌+◌, ◌-◌, ◌<◌, ◌≤◌, true, eqb, ◌&&◌, ◌||◌, List}
-use Rattle.std.proofs.Common.{length, take, get_or, refl, sym, ap, ap₂, subst, ◌∙◌, arith, lt-ltb}
+use Rattle.std.proofs.Common.{◌≡◌, ℕ, zero, suc, ◌+◌, ◌-◌, ◌<◌, ◌≤◌, true, List}
+use Rattle.std.proofs.Common.{length, take, get_or, sym, ap, ap₂, subst, ◌∙◌, arith}
 use Rattle.std.specs.Simd.Lanes.{chunk}
 use Rattle.std.proofs.lemmas.Simd.{length-chunk}
 use Rattle.unix_bytes.proofs.lemmas.vectors.TestLaneLemmas.{Tells, TellFrom, lane_at, mask_of}
@@ -36,19 +36,18 @@ pub trailing_block : (s : List ℕ) (at : ℕ) → 0 < at → at + 16 ≤ length
     → mask_of (stop_lanes (chunk at 16 s) (chunk (at - 1) 16 s)) ≡ 0
     → (k : ℕ) → at ≤ k → k < at + 16 → is_trailing s k ≡ true
 trailing_block s at some l none k from to =
-    let one : (eqb (get_or s k 0) 47 || (eqb (get_or s k 0) 46 && eqb (get_or s (k - 1) 0) 47))
-    ≡ true =
-    goes_on (get_or s k 0) (get_or s (k - 1) 0)
-    ((none_set (ends_shown s at some l) none).none_before k from to) in
-    rw (lt-ltb 0 k (omega arith), one) refl
+    grind (
+      arith,
+      goes_on (get_or s k 0) (get_or s (k - 1) 0)
+          ((none_set (ends_shown s at some l) none).none_before k from to),
+    )
 
 -- if `is_trailing` is true for the n bytes of s from `at` on, the first `at` bytes of s have the
 -- same components as its first `at` + n bytes
 pub parts_trailing_block : (s : List ℕ) (at n : ℕ) → at + n ≤ length s
     → ((k : ℕ) → at ≤ k → k < at + n → is_trailing s k ≡ true)
     → parts (take at s) ≡ parts (take (at + n) s)
-parts_trailing_block s at zero l all =
-    ap (λ k. parts (take k s)) {x = at} {y = at + 0} (omega arith)
+parts_trailing_block s at zero l all = grind arith
 parts_trailing_block s at (suc n) l all =
     parts_trailing_block s at n (omega arith) (λ k from to. all k from (omega arith))
     ∙ sym (parts_trailing s (at + n) (omega arith) (all (at + n) (omega arith) (omega arith)))

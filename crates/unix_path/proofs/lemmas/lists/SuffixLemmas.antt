@@ -1,4 +1,5 @@
 -- Lists that are suffixes of other lists.
+use Rattle.std.proofs.Common.{arith}
 use Rattle.std.proofs.Common.{◌≡◌, List, [], ◌∷◌, ◌++◌, sym, ap, ◌∙◌, append_assoc}
 use Rattle.std.proofs.lemmas.List.{append_cancel_right, same_from_push}
 use Rattle.unix_path.specs.Parts.{Value}
@@ -9,21 +10,13 @@ use Rattle.unix_path.specs.Steps.{SharesSuffix}
 -- v
 pub ends_with_shared : {v w x y : List Value} → SharesSuffix v w x y → IsSuffixOf y x
     → IsSuffixOf w v
-ends_with_shared {y = y} h e = (
-  e.0,
-  ap (λ z. e.0 ++ z) h.second ∙ sym (append_assoc e.0 y h.last) ∙ ap (λ z. z ++ h.last) e.1
-      ∙ sym h.first,
-)
+ends_with_shared {y = y} h e = grind (arith, append_assoc)
 
 -- if v and w are x and y with the same list appended, and w is a suffix of v, then y is a suffix of
 -- x
 pub ends_without_shared : {v w x y : List Value} → SharesSuffix v w x y → IsSuffixOf w v
     → IsSuffixOf y x
-ends_without_shared {x = x} {y = y} h e = (
-  e.0,
-  append_cancel_right (e.0 ++ y) x h.last (append_assoc e.0 y h.last
-      ∙ ap (λ z. e.0 ++ z) (sym h.second) ∙ e.1 ∙ h.first),
-)
+ends_without_shared {x = x} {y = y} h e = grind (arith, append_cancel_right, append_assoc)
 
 -- the two lemmas above, as rules for both directions
 pub ruleset shared_ends = (ends_with_shared, ends_without_shared)

@@ -2,13 +2,13 @@
 -- before the dot p.
 use Rattle.std.proofs.Common.{◌≡◌, ℕ, ◌+◌, ◌<◌, ◌≤◌, Bool, true, false, not, eqb, ◌&&◌, ◌||◌, List}
 use Rattle.std.proofs.Common.{length, get_or, bit_and, bit_or, refl, sym, ap, ap₂, subst, ◌∙◌}
-use Rattle.std.proofs.Common.{arith, eq-eqb, eqb-true}
+use Rattle.std.proofs.Common.{arith, eqb-true}
 use Rattle.std.specs.Int.Bits.{bit_xor, xor_assoc, xor_self, xor_zero_r}
-use Rattle.std.specs.Int.Count.{count_trailing_zeros}
 use Rattle.std.specs.Simd.Lanes.{chunk, zip2}
 use Rattle.std.proofs.lemmas.Bool.{eqb-false}
 use Rattle.std.proofs.lemmas.Nat.{le_or_l, le_or_r}
 use Rattle.std.proofs.lemmas.Simd.{length-zip2, get_or-zip2, length-chunk}
+use Rattle.std.proofs.lemmas.Grind.{common_steps}
 use Rattle.unix_bytes.proofs.lemmas.vectors.TestLaneLemmas.{with, length-with, get_or-with, hits}
 use Rattle.unix_bytes.proofs.lemmas.vectors.TestLaneLemmas.{Tells, Tells-hits, TellFrom, lane_at}
 use Rattle.unix_bytes.proofs.lemmas.vectors.TestLaneLemmas.{mask_of, found_set, none_set}
@@ -20,10 +20,7 @@ odd n m here next = zip2 (λ a b. bit_or a b) (with (λ a b. bit_xor a b) n here
 
 length-odd : (n m : ℕ) (here next : List ℕ) → length here ≡ n → length next ≡ n
     → length (odd n m here next) ≡ n
-length-odd n m here next l k =
-    let xs = length-with (λ a b. bit_xor a b) n here m l in
-    let ys = length-with (λ a b. bit_and a b) n next 208 k in
-    length-zip2 (λ a b. bit_or a b) _ _ (xs ∙ sym ys) ∙ xs
+length-odd n m here next l k = grind (arith, length-with, length-zip2)
 
 get_or-odd : (n m : ℕ) (here next : List ℕ) (i : ℕ) → length here ≡ n → length next ≡ n → i < n
     → get_or (odd n m here next) i 0
@@ -35,35 +32,12 @@ get_or-odd n m here next i l k few =
     ∙ ap₂ bit_or (get_or-with (λ a b. bit_xor a b) n here m i l few)
     (get_or-with (λ a b. bit_and a b) n next 208 i k few)
 
--- if m and p have none of the bits of 208, x is m, and y is m or p, then `(x ^ m) | (y & 208)` is 0
-zero_at : (m p x y : ℕ) → BothLackBits m p → (eqb x m && (eqb y m || eqb y p)) ≡ true
-    → bit_or (bit_xor x m) (bit_and y 208) ≡ 0
-zero_at m p x y h e = by (eqb x m) (eqb y m) (eqb y p) refl refl refl e
-  where
-    same : x ≡ m → bit_xor x m ≡ 0
-    same k = ap (λ x. bit_xor x m) k ∙ xor_self m
-
-    by : (a b c : Bool) → eqb x m ≡ a → eqb y m ≡ b → eqb y p ≡ c → (a && (b || c)) ≡ true
-        → bit_or (bit_xor x m) (bit_and y 208) ≡ 0
-    by false b c i j k e = absurd (cc)
-    by true true c i j k e =
-        ap₂ bit_or (same (eqb-true x m i)) (ap (λ y. bit_and y 208) (eqb-true y m j) ∙ h.0)
-    by true false true i j k e =
-        ap₂ bit_or (same (eqb-true x m i)) (ap (λ y. bit_and y 208) (eqb-true y p k) ∙ h.1)
-    by true false false i j k e = absurd (cc)
-
 -- if m and p have none of the bits of 208, and `(x ^ m) | (y & 208)` is not 0, then x followed by y
 -- is no end candidate: x isn't m, or y is neither m nor p
 other_at : (m p x y : ℕ) → BothLackBits m p
     → eqb (bit_or (bit_xor x m) (bit_and y 208)) 0 ≡ false
     → (eqb x m && (eqb y m || eqb y p)) ≡ false
-other_at m p x y h none = by (eqb x m && (eqb y m || eqb y p)) refl
-  where
-    by : (b : Bool) → (eqb x m && (eqb y m || eqb y p)) ≡ b
-        → (eqb x m && (eqb y m || eqb y p)) ≡ false
-    by false e = e
-    by true e = absurd (let k : false ≡ true =
-        sym none ∙ eq-eqb (bit_or (bit_xor x m) (bit_and y 208)) 0 (zero_at m p x y h e) in cc)
+other_at m p x y h none = grind (arith, common_steps)
 
 negated : (b : Bool) → not b ≡ false → b ≡ true
 negated true h = refl
@@ -127,10 +101,4 @@ pub one_told : (n m : ℕ) (s : List ℕ) (at : ℕ) → 0 < n → n ≤ 64 → 
 one_told n m s at some low l found =
     let told = may_end_shown n m s at some low l in
     let first = found_set told (eqb-false (mask_of (lanes n m s at)) 0 (unnegated _ found)) in
-    let i = at + count_trailing_zeros 64 (mask_of (lanes n m s at)) in (
-      i,
-      omega arith,
-      omega (arith, first.0),
-      near_at m (get_or s i 0) (get_or s (i + 1) m)
-          (eqb-true _ 0 first.1),
-    )
+    grind (arith, near_at)

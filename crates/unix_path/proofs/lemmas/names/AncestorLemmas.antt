@@ -1,7 +1,7 @@
 -- The ancestors of a path, which are the path and then its parent's ancestors, and how many there
 -- are.
 use Rattle.std.proofs.Common.{◌≡◌, ℕ, zero, suc, ◌+◌, ◌-◌, ◌≤◌, List, [], ◌∷◌, ◌++◌, length, map}
-use Rattle.std.proofs.Common.{Option, Some, None, option_map, refl, sym, ap, ap₂, ◌∙◌, arith}
+use Rattle.std.proofs.Common.{Option, Some, None, option_map, refl, sym, ap, ◌∙◌, arith}
 use Rattle.std.specs.List.{range_with_len}
 use Rattle.std.specs.Option.{option_map_or}
 use Rattle.std.proofs.lemmas.List.FromFn.{length-map-range_with_len}
@@ -26,17 +26,13 @@ ancestors_by parent = option_map_or ancestors_of parent []
 shift : (s : List ℕ) (a n : ℕ) → map (λ m. rest s 0 m) (range_with_len (a + 1) n)
     ≡ map (λ m. rest (rest s 0 1) 0 m) (range_with_len a n)
 shift s a zero = refl
-shift s a (suc n) =
-    let here : rest s 0 (a + 1) ≡ rest (rest s 0 1) 0 a =
-    ap (rest s 0) {x = a + 1} {y = 1 + a} (omega arith) ∙ sym (rest-rest s 0 1 0 a) in
-    ap₂ (λ x xs. x ∷ xs) here (shift s (a + 1) n)
+shift s a (suc n) = grind (arith, rest-rest, shift s (a + 1) n)
 
 -- if s has depth 0, its ancestors are s and then its parent's ancestors, if it has a parent
 ancestors_of-no_depth : (s : List ℕ) → depth_of s ≡ 0
     → ancestors_of s ≡ s ∷ ancestors_by (parent_of s)
 unfolding ancestors_of
-ancestors_of-no_depth s e = ap (λ n. s ∷ map (λ m. rest s 0 m) (range_with_len 1 n)) e
-    ∙ sym (ap (λ o. s ∷ ancestors_by o) (parent_of-alone s e))
+ancestors_of-no_depth s e = grind (arith, parent_of-alone)
 
 -- if the last component v of s is not the root, the ancestors of s are s and then its parent's
 -- ancestors, if it has a parent
@@ -83,25 +79,15 @@ ancestors_of-above s parent e = ancestors_of-parent s ∙ ap (λ o. s ∷ ancest
 -- s has at most one ancestor more than it has bytes, counting s itself as an ancestor
 pub length-ancestors_of : (s : List ℕ) → length (ancestors_of s) ≤ length s + 1
 unfolding ancestors_of
-length-ancestors_of s =
-    omega (arith, length-values s, length-map-range_with_len (λ m. rest s 0 m) 1 (depth_of s))
+length-ancestors_of s = grind (arith, length-values, length-map-range_with_len)
 
 -- the bytes of each path that a walk over ancestors yields if its next path is `next`
 abbrev ancestors_from : Option Path → List (List ℕ)
 ancestors_from next = option_map_or (λ path. ancestors_of path.bytes.now) next []
-
--- a walk over ancestors whose next path is o (if any) yields the ancestors of o, or nothing if o is
--- None
-ancestors_by-bytes : (o : Option Path)
-    → ancestors_by (option_map (λ path. path.bytes.now) o) ≡ ancestors_from o
-ancestors_by-bytes None = refl
-ancestors_by-bytes (Some path) = refl
 
 -- if o is `path`, and `parent` has the bytes of the parent of `path`, a walk over ancestors whose
 -- next path is o yields `path` and then what a walk whose next path is `parent` yields
 pub remaining_ancestors-step : (o : Option Path) (path : Path) (parent : Option Path)
     → o ≡ Some path → option_map (λ path. path.bytes.now) parent ≡ parent_of path.bytes.now
     → ancestors_from o ≡ path.bytes.now ∷ ancestors_from parent
-remaining_ancestors-step o path parent is e =
-    ap ancestors_from is ∙ ancestors_of-parent path.bytes.now
-    ∙ ap (λ ps. path.bytes.now ∷ ps) (ap ancestors_by (sym e) ∙ ancestors_by-bytes parent)
+remaining_ancestors-step o path parent is e = grind (arith, ancestors_of-parent)

@@ -1,15 +1,16 @@
 -- A path cut at its file name.
-use Rattle.std.proofs.Common.{◌≡◌, ℕ, zero, suc, ◌+◌, ◌-◌, ◌≤◌, ◌<◌, Bool, true, false, cond, eqb}
-use Rattle.std.proofs.Common.{ltb, ap₂, take_all, List, [], ◌∷◌, ◌++◌, length, take, drop, get_or}
+use Rattle.std.proofs.Common.{◌≡◌, ℕ, zero, suc, ◌+◌, ◌-◌, ◌≤◌, ◌<◌, Bool, true, false, cond}
+use Rattle.std.proofs.Common.{ltb, List, [], ◌∷◌, ◌++◌, length, take, drop, get_or}
 use Rattle.std.proofs.Common.{map, Some, refl, sym, ap, subst, ◌∙◌, arith, length-append}
-use Rattle.std.proofs.Common.{length-take-le, take-append-drop, get_or-take, eq-eqb, ltb-true}
+use Rattle.std.proofs.Common.{take-append-drop, ltb-true}
 use Rattle.std.proofs.Common.{ltb-false, length-drop}
 use Rattle.std.specs.List.{position_or_len}
 use Rattle.std.specs.Str.{bytes_eq}
-use Rattle.std.proofs.lemmas.List.{map-append, get_or_default, nil_from_length, drop_all}
+use Rattle.std.proofs.lemmas.List.{map-append, nil_from_length}
 use Rattle.std.proofs.lemmas.Option.{none-some}
+use Rattle.std.proofs.lemmas.Grind.{common_steps}
 use Rattle.unix_path.specs.Parts.{is_slash, cur_dir, parent_dir, Part, Value, RootDir, CurDir}
-use Rattle.unix_path.specs.Parts.{ParentDir, Normal, parts, values, inner_parts}
+use Rattle.unix_path.specs.Parts.{ParentDir, Normal, parts, values}
 use Rattle.unix_path.specs.Rest.{rest}
 use Rattle.unix_path.specs.Joins.{needs_no_separator}
 use Rattle.unix_path.specs.Names.{file_name_of}
@@ -22,7 +23,7 @@ use Rattle.unix_path.proofs.lemmas.parts.PartLemmas.{values-nil, parts-name}
 use Rattle.unix_path.proofs.lemmas.steps.SpanLemmas.{TrimsEnd, trims_end, length-rest_whole}
 use Rattle.unix_path.proofs.lemmas.steps.SpanLemmas.{parts_end-whole}
 use Rattle.unix_path.proofs.lemmas.names.StemLemmas.{last_start_of-name}
-use Rattle.unix_path.proofs.lemmas.parts.ValueLemmas.{first_value, name_of-some}
+use Rattle.unix_path.proofs.lemmas.parts.ValueLemmas.{first_value}
 use Rattle.unix_path.proofs.lemmas.parts.PlaceLemmas.{parts_end}
 use Rattle.unix_path.proofs.lemmas.parts.PieceLemmas.{inner_parts-nil, no_slash_head}
 
@@ -47,8 +48,7 @@ pub record NameCut (s name : List ℕ) : Type 0 where
 -- if the last component of s is v, and s has the file name `name`, then v is the component `name`
 name_of_push : (s name : List ℕ) (vs : List Value) (v : Value) → values s ≡ vs ++ v ∷ []
     → file_name_of (values s) ≡ Some name → v ≡ Normal name
-name_of_push s name vs v is e =
-    name_of-some v name (sym (ap file_name_of is ∙ file_name_of-last vs v) ∙ e)
+name_of_push s name vs v is e = grind (arith, file_name_of-last)
 
 -- if s has no components, it has no file name
 no_name : (s name : List ℕ) → values s ≡ [] → file_name_of (values s) ≡ Some name → ⊥
@@ -77,11 +77,7 @@ name_piece y name h = by (bytes_eq y cur_dir) refl (bytes_eq y parent_dir) refl 
 needs_no_separator-take : (t : List ℕ) (a : ℕ) → a ≤ length t → (0 < a → get_or t (a - 1) 0 ≡ 47)
     → needs_no_separator (take a t) ≡ true
 needs_no_separator-take t zero l h = refl
-needs_no_separator-take t (suc k) l h =
-    needs_no_separator-at (take (suc k) t)
-    ∙ ap (λ j. eqb (get_or (take (suc k) t) (j - 1) 47) 47) (length-take-le (suc k) t l)
-    ∙ eq-eqb _ 47 (get_or-take (suc k) t (suc k - 1) 47 (omega arith)
-    ∙ get_or_default t (suc k - 1) 47 0 (omega arith) ∙ h (omega arith))
+needs_no_separator-take t (suc k) l h = grind (arith, common_steps, needs_no_separator-at)
 
 -- if s has the file name `name`, and the last piece of s without its trailing filler starts at
 -- index `a` and isn't empty, then s is a prefix, `name` and filler (`NameCut`)
@@ -155,11 +151,9 @@ name_cut s name e =
 pub values-name : (s : List ℕ) → IsName s → values s ≡ Normal s ∷ []
 unfolding values
 values-name s h =
-    let n = position_or_len is_slash s in
-    let whole : take n s ≡ s = take_all n s (omega (arith, h.no_slash)) in
-    let none : drop n s ≡ [] = drop_all n s (omega (arith, h.no_slash)) in
-    let named : first_value s ≡ Normal s = rw (h.no_dot, h.no_dots) refl in
-    ap (map (λ (p : Part). p.value)) (parts-name s h.some (no_slash_head s h.no_slash h.some)
-    ∙ ap₂ (λ p r. record { start = 0; end = n; value = first_value p } ∷ inner_parts n r) whole none
-    ∙ ap (λ ps. record { start = 0; end = n; value = first_value s } ∷ ps) (inner_parts-nil n))
-    ∙ ap (λ v. v ∷ []) named
+    grind (
+      arith,
+      common_steps,
+      parts-name s h.some (no_slash_head s h.no_slash h.some),
+      inner_parts-nil,
+    )

@@ -1,5 +1,5 @@
 -- Where a file name ends, and an extension appended there.
-use Rattle.std.proofs.Common.{◌≡◌, ℕ, ◌+◌, List, [], ◌∷◌, ◌++◌, length, take, refl, eqb, cond}
+use Rattle.std.proofs.Common.{◌≡◌, ℕ, ◌+◌, List, [], ◌∷◌, ◌++◌, length, take, eqb, cond}
 use Rattle.std.proofs.Common.{Option, Some, None, is_some, option_map, true, false, sym, ap, ◌∙◌}
 use Rattle.std.proofs.Common.{arith, eq-eqb}
 use Rattle.std.specs.Option.{option_map_or}
@@ -9,7 +9,6 @@ use Rattle.unix_path.specs.Rest.{rest}
 use Rattle.unix_path.specs.Names.{file_name_of}
 use Rattle.unix_path.specs.Edits.{last_start_of}
 use Rattle.unix_path.specs.Extensions.{name_end_of, added_extension_of}
-use Rattle.unix_bytes.proofs.lemmas.lists.ListLemmas.{by_test}
 use Rattle.unix_path.proofs.lemmas.edits.EditLemmas.{is_some-option_map}
 use Rattle.unix_path.proofs.lemmas.names.StemLemmas.{last_start_of-name}
 
@@ -27,10 +26,7 @@ name_end_of-none s e = ap (name_end_by s) e
 pub name_end_of-some : (s name : List ℕ) (end : ℕ) → Some name ≡ file_name_of (values s)
     → end ≡ length (rest s 0 0) → Some end ≡ name_end_of s
 unfolding name_end_of
-name_end_of-some s name end e at =
-    let to : end ≡ last_start_of (parts s) + length name =
-    omega (arith, at, last_start_of-name s name e) in
-    ap Some to ∙ ap (name_end_by s) e
+name_end_of-some s name end e at = grind (arith, last_start_of-name)
 
 -- s up to index `end`, then a dot and the extension x; all of s if `end` is None or x is empty
 abbrev pub added_extension_at : List ℕ → List ℕ → Option ℕ → List ℕ
@@ -45,9 +41,7 @@ added_extension_of-nil s x e = cond-true _ _ _ (eq-eqb (length x) 0 e)
 -- if there is no index where the file name of s ends, adding an extension leaves s unchanged
 pub added_extension_of-none : (s x : List ℕ) → None ≡ name_end_of s → added_extension_of s x ≡ s
 unfolding added_extension_of
-added_extension_of-none s x e =
-    ap (added_extension_at s x) (sym e)
-    ∙ by_test (eqb (length x) 0) (λ e. rw e refl) (λ e. rw e refl)
+added_extension_of-none s x e = grind arith
 
 -- if the file name of s ends at `end`, and x is not empty, adding the extension x keeps the first
 -- `end` bytes of s, and appends a dot and x

@@ -1,13 +1,12 @@
 -- The last dot of a file name, and the stem before it.
 use Rattle.std.proofs.Common.{◌≡◌, ◌==◌, ℕ, ◌-◌, ◌≤◌, ◌<◌, Bool, true, false, not, List, length}
-use Rattle.std.proofs.Common.{ltb, take, drop, get_or, Some, None, refl, sym, ap, arith, le-ltb}
-use Rattle.std.proofs.Common.{lt-ltb, ◌+◌, ◌∙◌, eq-eqb, get_or-drop, length-drop}
+use Rattle.std.proofs.Common.{take, drop, get_or, Some, None, refl, sym, ap, arith, le-ltb}
+use Rattle.std.proofs.Common.{◌+◌, ◌∙◌, eq-eqb, get_or-drop, length-drop}
 use Rattle.std.specs.List.{position_or_len}
-use Rattle.std.proofs.Math.Seq.{take-length}
 use Rattle.std.proofs.lemmas.List.Sums.{fails_before_first, suffix_len_is}
+use Rattle.std.proofs.lemmas.Grind.{common_steps}
 use Rattle.unix_path.specs.Parts.{dot}
 use Rattle.unix_path.specs.Names.{after_last, split_name}
-use Rattle.unix_bytes.proofs.lemmas.lists.ListLemmas.{by_test, take-take_front}
 
 abbrev pub is_dot : ℕ → Bool
 is_dot b = b == dot
@@ -48,14 +47,10 @@ split_name-whole name n e l = rw (le-ltb 1 (after_last is_dot name) (omega arith
 pub split_name-cut : (name : List ℕ) (n : ℕ) → n ≡ after_last is_dot name → 1 < n
     → split_name name ≡ (take (n - 1) name, Some (drop n name))
 unfolding split_name
-split_name-cut name n e l =
-    rw (lt-ltb 1 (after_last is_dot name) (omega arith))
-    (ap (λ k. (take (k - 1) name, Some (drop k name))) (sym e))
+split_name-cut name n e l = grind arith
 
 -- the stem of `name` is a prefix of `name`
 pub split_name-stem : (name : List ℕ)
     → take (length (split_name name).0) name ≡ (split_name name).0
 unfolding split_name
-split_name-stem name = by_test (ltb 1 (after_last is_dot name))
-    (λ e. rw e (take-take_front (after_last is_dot name - 1) name))
-    (λ e. rw e (take-length name))
+split_name-stem name = grind (arith, common_steps)

@@ -4,22 +4,22 @@ use Rattle.std.proofs.Common.{Option, Some, None, ltb, refl, sym, ap, ap₂, ◌
 use Rattle.std.proofs.Common.{ltb-true, ltb-false, length-append, length-take-le}
 use Rattle.std.proofs.Math.Seq.{take-append_seam, drop-append_seam}
 use Rattle.std.proofs.lemmas.List.{drop-drop}
-use Rattle.std.proofs.lemmas.Option.{none-some, same_Some}
-use Rattle.std.specs.Option.{option_and_then}
+use Rattle.std.proofs.lemmas.Option.{same_Some}
 use Rattle.unix_path.specs.Parts.{parts, values}
-use Rattle.unix_path.specs.Rest.{rest}
 use Rattle.unix_path.specs.Names.{extension_of, file_name_of, after_last, split_name}
 use Rattle.unix_path.specs.Edits.{last_start_of, stem_end_of}
 use Rattle.unix_path.specs.Extensions.{name_end_of}
 use Rattle.unix_bytes.proofs.lemmas.lists.ListLemmas.{by_test}
 use Rattle.unix_path.proofs.lemmas.names.NameCutLemmas.{name_cut, values-name}
-use Rattle.unix_path.proofs.lemmas.names.NameEndLemmas.{name_end_by, name_end_of-some}
+use Rattle.unix_path.proofs.lemmas.names.NameEndLemmas.{name_end_of-some}
 use Rattle.unix_path.proofs.lemmas.names.NameLemmas.{is_dot, split_name-cut, split_name-stem}
 use Rattle.unix_path.proofs.lemmas.names.NameLemmas.{split_name-whole}
 use Rattle.unix_path.proofs.lemmas.names.NamedLemmas.{name_end}
 use Rattle.unix_path.proofs.lemmas.names.StemCutLemmas.{stem_end_of-take}
-use Rattle.unix_path.proofs.lemmas.names.StemLemmas.{last_start_of-name, stem_end_by}
+use Rattle.unix_path.proofs.lemmas.names.StemLemmas.{last_start_of-name}
 use Rattle.unix_path.proofs.lemmas.names.StemLemmas.{stem_end_of-some}
+use Rattle.unix_path.proofs.lemmas.names.NamedLemmas.{name_end_of-take}
+use Rattle.std.proofs.lemmas.List.{take_rest}
 
 -- y, taken as a path, has the file name y, which starts at index 0
 record IsOwnName (y : List ℕ) : Type 0 where
@@ -32,39 +32,21 @@ own_name s y e =
     let name : file_name_of (values y) ≡ Some y =
     ap file_name_of (values-name y (name_cut s y (sym e)).is_name) in
     let cut = name_cut y y name in
-    record {
-      name = name;
-      start = omega (
-        arith,
-        cut.start,
-        ap length cut.whole,
-        length-append (cut.prefix ++ y) cut.back,
-        length-append cut.prefix y,
-      );
-    }
+    grind (arith, length-append)
 
 -- if `name` is the file name of s, then `name`, taken as a path, has a file name that ends where
 -- `name` ends
 pub name_end_of-name : (s name : List ℕ) → Some name ≡ file_name_of (values s)
     → name_end_of name ≡ Some (length name)
 unfolding name_end_of
-name_end_of-name s name e =
-    let h = own_name s name e in
-    let to : last_start_of (parts name) + length name ≡ length name = omega (arith, h.start) in
-    ap (name_end_by name) h.name ∙ ap Some to
+name_end_of-name s name e = grind (arith, own_name)
 
 -- if `name` is the file name of s, and the stem of `name`, taken as a path, ends at `end`, then the
 -- first `end` bytes of `name` are its stem
 pub take-stem_end : (s name : List ℕ) (end : ℕ) → Some name ≡ file_name_of (values s)
     → stem_end_of name ≡ Some end → take end name ≡ (split_name name).0
 unfolding stem_end_of
-take-stem_end s name end e at =
-    let h = own_name s name e in
-    let n = length (split_name name).0 in
-    let to : last_start_of (parts name) + n ≡ end =
-    same_Some _ _ (sym (ap (stem_end_by name) h.name) ∙ at) in
-    let same : end ≡ n = omega (arith, h.start) in
-    ap (λ n. take n name) same ∙ split_name-stem name
+take-stem_end s name end e at = grind (arith, own_name s name e, split_name-stem name)
 
 -- if the stem of `name` is as long as `name`, `name` has no extension
 extension-none : (name : List ℕ) → length (split_name name).0 ≡ length name
@@ -116,33 +98,19 @@ ends_at : (s : List ℕ) (end stem : ℕ) → Some end ≡ name_end_of s
     → stem_end_of (take end s) ≡ Some stem → EndsAt s end stem
 ends_at s end stem e at =
     let h = name_end s end (sym e) in
-    let start = last_start_of-name s h.bytes h.name in
     let to : end - length h.bytes + length (split_name h.bytes).0 ≡ stem = same_Some _ _
     (stem_end_of-some s h.bytes end h.name h.is refl ∙ sym (stem_end_of-take s end (sym e)) ∙ at) in
-    record {
-      name = h.bytes;
-      is = h.name;
-      end_is = omega (arith, h.is);
-      stem_is = omega (arith, h.is);
-    }
+    grind (arith, last_start_of-name)
 
 -- if there is no index where the file name of s ends, s has no extension
 pub extension_of-nameless : (s : List ℕ) → None ≡ name_end_of s → None ≡ extension_of (values s)
-extension_of-nameless s e = by (file_name_of (values s)) refl
-  where
-    by : (o : Option (List ℕ)) → o ≡ file_name_of (values s) → None ≡ extension_of (values s)
-    by None is = ap (option_and_then (λ name. (split_name name).1)) is
-    by (Some name) is =
-        absurd (none-some _ (e ∙ sym (name_end_of-some s name (length (rest s 0 0)) is refl)))
+extension_of-nameless s e = grind (arith, name_end_of-some)
 
 -- if the file name of s ends at `end`, and the stem of the first `end` bytes of s ends at `stem`,
 -- which is `end`, then s has no extension
 pub extension_of-none : (s : List ℕ) (end stem : ℕ) → Some end ≡ name_end_of s
     → stem_end_of (take end s) ≡ Some stem → stem ≡ end → None ≡ extension_of (values s)
-extension_of-none s end stem e at same =
-    let h = ends_at s end stem e at in
-    sym (extension-none h.name (omega (arith, h.end_is, h.stem_is)))
-    ∙ ap (option_and_then (λ name. (split_name name).1)) h.is
+extension_of-none s end stem e at same = grind (arith, ends_at s end stem e at, extension-none)
 
 -- if the file name of s ends at `end`, and the stem of the first `end` bytes of s ends at `stem`,
 -- which is less than `end`, then the extension of s is the bytes of s from `stem + 1` up to `end`,
@@ -161,5 +129,17 @@ extension_of-some s end stem e at less =
     ap₂ drop {x = stem + 1} {y = length cut.prefix + k} (omega (arith, h.stem_is, cut.start)) named
     ∙ sym (drop-drop k (length cut.prefix) (cut.prefix ++ h.name))
     ∙ ap (drop k) (drop-append_seam cut.prefix h.name) in
-    ap Some there ∙ sym (extension-some h.name (omega (arith, h.end_is, h.stem_is)))
-    ∙ ap (option_and_then (λ name. (split_name name).1)) h.is
+    grind (arith, extension-some)
+
+-- the extension of a string that ends in a name, and of others
+pub ruleset extensions = (
+  extension_of-nameless,
+  extension_of-none,
+  extension_of-some,
+  name_end_of-take,
+  length-take-le,
+  take_rest,
+)
+
+-- the stem of a string that ends in a name
+pub ruleset stems = (name_end_of-name, take-stem_end)

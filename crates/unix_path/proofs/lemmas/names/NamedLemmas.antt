@@ -1,24 +1,24 @@
 -- Strings that end in a name, which is their file name.
-use Rattle.std.proofs.Common.{◌≡◌, ℕ, ◌+◌, ◌-◌, ◌<◌, ◌≤◌, true, false, eqb, ltb, List, [], ◌∷◌}
-use Rattle.std.proofs.Common.{◌++◌, length, get_or, take, drop, map, Option, Some, None, option_map}
-use Rattle.std.proofs.Common.{refl, sym, ap, ◌∙◌, arith, ltb-true, ltb-false, lt-ltb}
+use Rattle.std.proofs.Common.{◌≡◌, ℕ, ◌-◌, ◌<◌, ◌≤◌, true, false, eqb, ltb, List, [], ◌∷◌}
+use Rattle.std.proofs.Common.{◌++◌, length, get_or, take, drop, map, Option, Some, None}
+use Rattle.std.proofs.Common.{refl, sym, ap, ◌∙◌, arith, ltb-true, ltb-false}
 use Rattle.std.proofs.Common.{length-take-le, length-drop, get_or-drop, take_all}
 use Rattle.std.specs.Str.{bytes_eq}
 use Rattle.std.proofs.lemmas.Bool.{true≢false}
 use Rattle.std.proofs.lemmas.List.{map-append}
 use Rattle.std.proofs.lemmas.List.Sums.{fails_before_first}
-use Rattle.std.proofs.lemmas.Option.{none-some, same_Some}
+use Rattle.std.proofs.lemmas.Option.{none-some}
 use Rattle.std.proofs.lemmas.Slice.Eq.{bytes_eq-Decides}
-use Rattle.unix_path.specs.Parts.{CurDir, ParentDir, Normal, value_bytes, is_slash}
+use Rattle.std.proofs.lemmas.Grind.{common_steps}
+use Rattle.unix_path.specs.Parts.{Normal, value_bytes}
 use Rattle.unix_path.specs.Parts.{cur_dir, parts, values}
 use Rattle.unix_path.specs.Rest.{rest}
 use Rattle.unix_path.specs.Names.{name_of, file_name_of}
-use Rattle.unix_path.specs.Edits.{last_start_of}
 use Rattle.unix_path.specs.Extensions.{name_end_of}
 use Rattle.unix_path.specs.Scan.{is_trailing, ends_with_parent_dir, EndsInPart}
 use Rattle.unix_bytes.proofs.lemmas.lists.ListLemmas.{by_test}
 use Rattle.unix_path.proofs.lemmas.steps.LastLemmas.{last_part, last_start, root_alone, IsLastStart}
-use Rattle.unix_path.proofs.lemmas.steps.LastPieceLemmas.{last_name, starts_dot, starts_parent}
+use Rattle.unix_path.proofs.lemmas.steps.LastPieceLemmas.{last_name, starts_parent}
 use Rattle.unix_path.proofs.lemmas.names.NameEndLemmas.{name_end_of-none, name_end_of-some}
 use Rattle.unix_path.proofs.lemmas.names.ParentLemmas.{file_name_of-none, file_name_of-push}
 use Rattle.unix_path.proofs.lemmas.parts.PartLemmas.{parts-none}
@@ -48,11 +48,7 @@ pub record HasNameEnd (s : List ℕ) (end : ℕ) : Type 0 where
 has_name_end : (s : List ℕ) (end : ℕ) (o : Option (List ℕ)) → o ≡ file_name_of (values s)
     → name_end_of s ≡ Some end → HasNameEnd s end
 has_name_end s end None is e = absurd (none-some end (name_end_of-none s is ∙ e))
-has_name_end s end (Some bytes) is e = record {
-  bytes = bytes;
-  name = is;
-  is = sym (same_Some _ end (name_end_of-some s bytes (length (rest s 0 0)) is refl ∙ e));
-}
+has_name_end s end (Some bytes) is e = grind (arith, name_end_of-some)
 
 -- if the file name of s ends at `end`, s without its trailing filler has `end` bytes
 pub name_end : (s : List ℕ) (end : ℕ) → name_end_of s ≡ Some end → HasNameEnd s end
@@ -63,9 +59,7 @@ name_end s end e = has_name_end s end (file_name_of (values s)) refl e
 last_value : (s : List ℕ) (start : ℕ) → IsLastStart s start → start < length s → EndsInPart s
     → values s ≡ values (take start s) ++ first_value (drop start s) ∷ []
 unfolding values
-last_value s start h l ends =
-    let last = last_part s start h l ends in
-    ap (λ ps. map (λ p. p.value) ps) last.1 ∙ map-append (λ p. p.value) (parts (take start s)) _
+last_value s start h l ends = grind (arith, last_part s start h l ends, map-append)
 
 -- if s ends in a component, and its last piece, which begins at `start`, isn't empty and is a name,
 -- the piece is the file name of s
@@ -86,8 +80,7 @@ name_of_piece s start h l ends is = record {
 root_nameless : (s : List ℕ) → 0 < length s → EndsInPart s → get_or s (length s - 1) 0 ≡ 47
     → None ≡ file_name_of (values s)
 unfolding values file_name_of
-root_nameless s l ends e =
-    sym (ap (λ ps. file_name_of (map (λ p. p.value) ps)) (root_alone s l ends e))
+root_nameless s l ends e = grind (arith, root_alone)
 
 -- if s ends in a component and has the file name `name`, the last piece of s is its file name
 pub named_end : (s name : List ℕ) → EndsInPart s → Some name ≡ file_name_of (values s)
@@ -149,9 +142,7 @@ name_end_of-named s h = sym (name_end_of-some s (drop h.start s) (length s) h.na
 -- index, or neither has a file name
 pub name_end_of-same : (s t : List ℕ) → parts s ≡ parts t → name_end_of s ≡ name_end_of t
 unfolding name_end_of values
-name_end_of-same s t e =
-    ap (λ ps. option_map (λ name. last_start_of ps + length name)
-    (file_name_of (map (λ p. p.value) ps))) e
+name_end_of-same s t e = grind arith
 
 -- if the file name of s ends at `end`, the first `end` bytes of s have the same components as s
 pub parts-named : (s : List ℕ) (end : ℕ) → name_end_of s ≡ Some end
@@ -167,17 +158,13 @@ parts-named s end e =
 -- end
 pub name_end_of-take : (s : List ℕ) (end : ℕ) → name_end_of s ≡ Some end → end ≤ length s
     → name_end_of (take end s) ≡ Some (length (take end s))
-name_end_of-take s end e l = name_end_of-same (take end s) s (parts-named s end e) ∙ e
-    ∙ ap Some (sym (length-take-le end s l))
+name_end_of-take s end e l = grind (arith, name_end_of-same, parts-named, length-take-le)
 
 -- if the last piece of s begins at `start`, no byte of s at index `start` or later is a slash
 pub piece_slash : (s : List ℕ) (start i : ℕ) → IsLastStart s start → start ≤ i → i < length s
     → eqb (get_or s i 0) 47 ≡ false
 piece_slash s start i h from to =
-    ap (λ b. eqb b 47) (ap (λ k. get_or s k 0) {x = i} {y = start + (i - start)} (omega arith)
-    ∙ sym (get_or-drop start s (i - start) 0))
-    ∙ fails_before_first is_slash (drop start s) (i - start) 0
-    (omega (arith, h.no_slash, length-drop start s))
+    grind (arith, get_or-drop start s (i - start) 0, length-drop start s, fails_before_first)
 
 -- if the last piece of s begins at i and at j, i is at most j; so it begins at only one index
 pub last_start_same : (s : List ℕ) (i j : ℕ) → IsLastStart s i → IsLastStart s j → i ≤ j
@@ -197,21 +184,11 @@ nameless-nil s e is = let h = ends_in_name s is in let l = h.some in omega arith
 -- a string that ends in a name doesn't end in a slash
 pub nameless-slash : (s : List ℕ) → get_or s (length s - 1) 0 ≡ 47
     → name_end_of s ≡ Some (length s) → ⊥
-nameless-slash s e is =
-    let h = ends_in_name s is in
-    let l = h.some in
-    true≢false (sym (ap (λ b. eqb b 47) e)
-    ∙ piece_slash s h.start (length s - 1) h.last (omega arith) (omega arith))
+nameless-slash s e is = grind (arith, common_steps, ends_in_name s is, piece_slash)
 
 -- a string that ends in a name isn't `.`
 pub nameless-dot : (s : List ℕ) → bytes_eq s cur_dir ≡ true → name_end_of s ≡ Some (length s) → ⊥
-nameless-dot s e is =
-    let h = ends_in_name s is in
-    let dot = starts_dot s e in
-    let at : h.start ≡ 0 = omega (arith, last_start_same s h.start 0 h.last dot.0) in
-    let v : CurDir ≡ Normal (drop h.start s) = sym dot.1
-    ∙ ap (λ k. first_value (drop k s)) (sym at) ∙ h.value in
-    cc
+nameless-dot s e is = grind (arith, ends_in_name s is)
 
 -- the last piece of a string that ends in a name isn't `..`
 pub nameless-parent : (s : List ℕ) → ends_with_parent_dir s ≡ true
@@ -224,9 +201,7 @@ nameless-parent s e is =
       last_start_same s h.start (length s - 2) h.last two.0,
       last_start_same s (length s - 2) h.start two.0 h.last,
     ) in
-    let v : ParentDir ≡ Normal (drop h.start s) = sym two.1
-    ∙ ap (λ k. first_value (drop k s)) (sym at) ∙ h.value in
-    cc
+    grind arith
 
 -- a string that ends in a name has no trailing filler
 pub nameless-trailing : (s : List ℕ) → 0 < length s → is_trailing s (length s - 1) ≡ true
@@ -268,8 +243,7 @@ name_end_of-unnamed s end same ends none = by (file_name_of (values (take end s)
 -- s ends at `end`
 pub name_end_of-ended : (s : List ℕ) (end : ℕ) → end ≤ length s → parts (take end s) ≡ parts s
     → name_end_of (take end s) ≡ Some (length (take end s)) → Some end ≡ name_end_of s
-name_end_of-ended s end l same is = ap Some (sym (length-take-le end s l))
-    ∙ sym is ∙ name_end_of-same (take end s) s same
+name_end_of-ended s end l same is = grind (arith, length-take-le, name_end_of-same)
 
 -- if s isn't empty, and its last byte is neither a slash nor a dot, s ends in a name
 pub named-other : (s : List ℕ) → 0 < length s → eqb (get_or s (length s - 1) 0) 47 ≡ false
@@ -293,14 +267,7 @@ pub named-dot : (s : List ℕ) → 1 < length s → get_or s (length s - 1) 0 �
 named-dot s some dot before no_parent =
     let n = length s in
     let no_slash : eqb (get_or s (n - 1) 0) 47 ≡ false = rw dot refl in
-    let after : eqb (get_or s (n - 1 - 1) 0) 47 ≡ false =
-    ap (λ i. eqb (get_or s i 0) 47) {x = n - 1 - 1} {y = n - 2} (omega arith) ∙ before in
-    named-piece s (omega arith) no_slash
-    (rw (lt-ltb 0 (n - 1) (omega arith), no_slash, after, dot) refl)
-    (by_test (bytes_eq s cur_dir)
-    (λ e. absurd (omega (arith, ap length ((bytes_eq-Decides s cur_dir).0 e))))
-    (λ e. e))
-    no_parent
+    grind (arith, common_steps, named-piece)
 
 -- a string that is a single dot doesn't end in a name
 pub nameless-one : (s : List ℕ) → length s ≡ 1 → get_or s (length s - 1) 0 ≡ 46
@@ -312,12 +279,19 @@ nameless-one (b ∷ c ∷ s) e dot = absurd (omega (arith, e))
 -- a string that ends in a slash and a dot doesn't end in a name
 pub nameless-after : (s : List ℕ) → 1 < length s → get_or s (length s - 1) 0 ≡ 46
     → get_or s (length s - 2) 0 ≡ 47 → name_end_of s ≡ Some (length s) → ⊥
-nameless-after s some dot slash =
-    let n = length s in
-    let after : get_or s (n - 1 - 1) 0 ≡ 47 =
-    ap (λ i. get_or s i 0) {x = n - 1 - 1} {y = n - 2} (omega arith) ∙ slash in
-    nameless-trailing s (omega arith) (rw (lt-ltb 0 (n - 1) (omega arith), dot, after) refl)
+nameless-after s some dot slash = grind (arith, nameless-trailing)
 
 -- if the file name of s ends at `end`, the first `end` bytes of s are s without its trailing filler
 pub take-name_end : (s : List ℕ) (end : ℕ) → name_end_of s ≡ Some end → take end s ≡ rest s 0 0
 take-name_end s end e = ap (λ n. take n s) (name_end s end e).is ∙ take-rest s 0
+
+-- which last bytes a string that ends in a name has
+pub ruleset name_endings = (
+  nameless-nil,
+  nameless-slash,
+  nameless-one,
+  nameless-after,
+  nameless-parent,
+  named-other,
+  named-dot,
+)

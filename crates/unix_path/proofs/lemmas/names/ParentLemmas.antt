@@ -1,10 +1,9 @@
 -- What the last component determines: the parent, the file name, and the path before the file name.
-use Rattle.std.proofs.Common.{◌≡◌, ℕ, suc, ◌+◌, ◌-◌, Bool, true, false, cond, eqb, List, [], ◌∷◌}
-use Rattle.std.proofs.Common.{◌++◌, length, Some, None, is_some, refl, sym, ap, ◌∙◌}
+use Rattle.std.proofs.Common.{◌≡◌, ℕ, suc, cond, eqb, List, [], ◌∷◌}
+use Rattle.std.proofs.Common.{◌++◌, Some, None, is_some, refl, sym, ap, ◌∙◌}
 use Rattle.std.proofs.Common.{arith, take_all}
 use Rattle.std.proofs.Math.Dec.{eqb-suc-zero}
 use Rattle.std.specs.Option.{option_and_then}
-use Rattle.std.proofs.lemmas.Option.{same_Some, none-some}
 use Rattle.unix_path.specs.Parts.{Value, RootDir, values}
 use Rattle.unix_path.specs.Rest.{rest}
 use Rattle.unix_path.specs.Parents.{depth_of, parent_of}
@@ -16,8 +15,7 @@ use Rattle.unix_path.proofs.lemmas.names.DepthLemmas.{depth_of-none, depth_of-ro
 
 -- s without its trailing filler, `rest s 0 0`, has the same components as s
 pub values-whole : (s u : List ℕ) → u ≡ rest s 0 0 → values u ≡ values s
-values-whole s u e = ap values e ∙ values-rest s 0 0
-    ∙ take_all (length (values s) - (0 + 0)) (values s) (omega arith)
+values-whole s u e = grind (arith, values-rest, take_all)
 
 -- if u is s without trailing filler, the rest of u before its last component is the rest of s
 -- before its last component
@@ -35,11 +33,7 @@ parent_of-deep s n e = rw (e, eqb-suc-zero n) refl
 -- if s has a parent, the parent is the rest of s before its last component
 pub parent_of-some : (s parent : List ℕ) → parent_of s ≡ Some parent → parent ≡ rest s 0 1
 unfolding parent_of
-parent_of-some s parent e = by (eqb (depth_of s) 0) e
-  where
-    by : (c : Bool) → cond c None (Some (rest s 0 1)) ≡ Some parent → parent ≡ rest s 0 1
-    by true h = absurd (none-some parent h)
-    by false h = sym (same_Some (rest s 0 1) parent h)
+parent_of-some s parent e = grind arith
 
 pub parent_of-none : (s : List ℕ) → values s ≡ [] → None ≡ parent_of s
 parent_of-none s is = sym (parent_of-alone s (depth_of-none s is))

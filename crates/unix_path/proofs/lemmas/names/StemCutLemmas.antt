@@ -1,17 +1,18 @@
 -- For a string that ends in a name: the index where the stem ends, found from the last dot or slash
 -- of the string.
 use Rattle.std.proofs.Common.{◌≡◌, ℕ, zero, suc, ◌+◌, ◌-◌, ◌<◌, ◌≤◌, true, false, not, eqb, ltb}
-use Rattle.std.proofs.Common.{◌||◌, List, length, get_or, take, drop, map, Option, Some, None}
-use Rattle.std.proofs.Common.{option_map, refl, sym, ap, ◌∙◌, arith, ltb-true, ltb-false}
-use Rattle.std.proofs.Common.{length-take-le, length-drop, get_or-drop, eqb-true, subst, ⊎_elim}
-use Rattle.std.proofs.lemmas.Bool.{true≢false, or_cases}
+use Rattle.std.proofs.Common.{◌||◌, List, length, get_or, take, drop, Option, Some, None}
+use Rattle.std.proofs.Common.{refl, sym, ap, ◌∙◌, arith, ltb-true, ltb-false}
+use Rattle.std.proofs.Common.{length-take-le, length-drop, get_or-drop, subst}
+use Rattle.std.proofs.lemmas.Bool.{true≢false}
 use Rattle.std.proofs.lemmas.List.{get_or-take, length-take}
 use Rattle.std.proofs.lemmas.List.Sums.{position_or_len_is}
 use Rattle.std.proofs.lemmas.Option.{none-some, same_Some}
+use Rattle.std.proofs.lemmas.Grind.{common_steps}
 use Rattle.unix_path.specs.Parts.{is_slash, values}
 use Rattle.unix_path.specs.Rest.{rest}
-use Rattle.unix_path.specs.Names.{file_name_of, after_last, split_name, stem_of}
-use Rattle.unix_path.specs.Edits.{last_start_of, stem_end_of}
+use Rattle.unix_path.specs.Names.{file_name_of, after_last, split_name}
+use Rattle.unix_path.specs.Edits.{stem_end_of}
 use Rattle.unix_path.specs.Extensions.{name_end_of}
 use Rattle.unix_path.proofs.lemmas.steps.LastLemmas.{IsLastStart}
 use Rattle.unix_bytes.proofs.lemmas.lists.ListLemmas.{by_test}
@@ -22,6 +23,7 @@ use Rattle.unix_path.proofs.lemmas.names.NamedLemmas.{EndsInName, ends_in_name, 
 use Rattle.unix_path.proofs.lemmas.names.NamedLemmas.{parts-named, piece_slash}
 use Rattle.unix_path.proofs.lemmas.names.StemLemmas.{length-name, length-rest_whole-le}
 use Rattle.unix_path.proofs.lemmas.names.StemLemmas.{stem_end_of-none, stem_end_of-some}
+use Rattle.unix_path.proofs.lemmas.names.NamedLemmas.{name_end_of-take}
 
 -- each byte of s at index n or later is ordinary: neither a dot nor a slash
 abbrev pub OrdinaryFrom : List ℕ → ℕ → Type 0
@@ -50,11 +52,7 @@ Dotless-ordinary s n m ordinary l i from to = no_dot (get_or s i 0) (ordinary i 
 pub ordinary_behind : (s : List ℕ) (n past : ℕ) → n ≤ length s → OrdinaryFrom (drop n s) past
     → OrdinaryFrom s (n + past)
 ordinary_behind s n past l ordinary i from to =
-    let here : get_or s i 0 ≡ get_or (drop n s) (i - n) 0 =
-    ap (λ k. get_or s k 0) {x = i} {y = n + (i - n)} (omega arith)
-    ∙ sym (get_or-drop n s (i - n) 0) in
-    ap (λ b. eqb b 46 || eqb b 47) here
-    ∙ ordinary (i - n) (omega arith) (omega (arith, length-drop n s))
+    grind (arith, get_or-drop n s (i - n) 0, length-drop)
 
 -- if t, which is s without its first n bytes, has no dot and no slash at index `past` or later, and
 -- `place` is `n + past`, then s has neither at index `place` or later
@@ -69,13 +67,7 @@ ordinary_from s t n past place l is ordinary e i from to =
 pub dot_at : (s t : List ℕ) (n past place : ℕ) → t ≡ drop n s → 0 < past → place ≡ n + past - 1
     → (eqb (get_or t (past - 1) 0) 46 || eqb (get_or t (past - 1) 0) 47) ≡ true
     → (get_or s place 0 ≡ 47 → ⊥) → get_or s place 0 ≡ 46
-dot_at s t n past place is some e stops no_slash =
-    let here : get_or s place 0 ≡ get_or t (past - 1) 0 =
-    ap (λ k. get_or s k 0) {x = place} {y = n + (past - 1)} (omega arith)
-    ∙ sym (get_or-drop n s (past - 1) 0) ∙ ap (λ t. get_or t (past - 1) 0) (sym is) in
-    ⊎_elim (λ dot. here ∙ eqb-true _ 46 dot)
-    (λ slash. absurd (no_slash (here ∙ eqb-true _ 47 slash)))
-    (or_cases (eqb (get_or t (past - 1) 0) 46) (eqb (get_or t (past - 1) 0) 47) stops)
+dot_at s t n past place is some e stops no_slash = grind (arith, common_steps)
 
 -- if the last piece of s is its file name, the stem ends at the start of this piece plus the length
 -- of the stem
@@ -83,10 +75,9 @@ stem_end-named : (s : List ℕ) → (h : EndsInName s)
     → stem_end_of s ≡ Some (h.start + length (split_name (drop h.start s)).0)
 stem_end-named s h =
     let y = drop h.start s in
-    let l = h.some in
     let to : h.start + length (split_name y).0 ≡ length s - length y + length (split_name y).0 =
     omega (arith, length-drop h.start s) in
-    sym (stem_end_of-some s y (length s) h.name h.end refl) ∙ ap Some (sym to)
+    grind (arith, stem_end_of-some)
 
 -- if s ends in a name, the byte of s at d is a dot, neither at index 0 nor after a slash, and no
 -- dot and no slash follows it, then the stem ends at d
@@ -165,12 +156,7 @@ record LastDot (s : List ℕ) (m : ℕ) : Type 0 where
   dot : 0 < past → eqb (get_or s (past - 1) 0) 46 ≡ true
 
 last_dot : (s : List ℕ) (m : ℕ) → LastDot s m
-last_dot s zero = record {
-  past = 0;
-  in_range = omega arith;
-  none = λ i from to. absurd (omega arith);
-  dot = λ l. absurd (omega arith);
-}
+last_dot s zero = grind arith
 last_dot s (suc m) = by_test (eqb (get_or s m 0) 46)
     (λ t. record {
       past = suc m;
@@ -196,16 +182,7 @@ whole_dotless y e =
     let l = h.in_range in
     let past : h.past ≡ after_last is_dot y = after_last-is is_dot y h.past l
     (λ i from to. ap not (h.none i from to)) (λ some. ap not (h.dot some)) in
-    by_test (ltb 1 h.past)
-    (λ t.
-    let more : 1 < h.past = ltb-true 1 h.past t in
-    absurd (omega (
-      arith,
-      e,
-      ap (λ r. length r.0) (split_name-cut y h.past past more),
-      length-take-le (h.past - 1) y (omega arith),
-    )))
-    (λ f i from to. h.none i (omega (arith, ltb-false _ _ f)) to)
+    grind (arith, common_steps, split_name-cut)
 
 -- s ends in a name that has no dot after its first byte
 pub record EndsInStem (s : List ℕ) : Type 0 where
@@ -327,15 +304,11 @@ stem_end-lead s d h l ordinary before =
 pub stem_end_of-take : (s : List ℕ) (end : ℕ) → name_end_of s ≡ Some end
     → stem_end_of (take end s) ≡ stem_end_of s
 unfolding stem_end_of values
-stem_end_of-take s end e =
-    ap (λ ps. option_map (λ stem. last_start_of ps + length stem)
-    (stem_of (map (λ p. p.value) ps))) (parts-named s end e)
+stem_end_of-take s end e = grind (arith, parts-named)
 
 -- if there is no index where the file name of s ends, there is none where its stem ends
 pub stem_end_of-nameless : (s : List ℕ) → name_end_of s ≡ None → None ≡ stem_end_of s
-stem_end_of-nameless s e = by (file_name_of (values s)) refl
-  where
-    by : (o : Option (List ℕ)) → o ≡ file_name_of (values s) → None ≡ stem_end_of s
-    by None is = stem_end_of-none s is
-    by (Some name) is =
-        absurd (none-some _ (sym e ∙ sym (name_end_of-some s name (length (rest s 0 0)) is refl)))
+stem_end_of-nameless s e = grind (arith, stem_end_of-none, name_end_of-some)
+
+-- where the stem of a string ends
+pub ruleset stem_ends = (stem_end_of-nameless, stem_end_of-take, name_end_of-take)

@@ -1,19 +1,17 @@
 -- Where the stem of a file name ends.
 use Rattle.std.proofs.Common.{◌≡◌, ℕ, ◌+◌, ◌-◌, ◌≤◌, List, [], ◌∷◌, ◌++◌, length, map, Option, Some}
-use Rattle.std.proofs.Common.{None, option_map, refl, sym, ap, subst, ◌∙◌, arith}
+use Rattle.std.proofs.Common.{None, option_map, sym, ap, subst, ◌∙◌, arith}
 use Rattle.std.specs.Option.{option_map_or}
-use Rattle.std.specs.List.{AllByRecursion, before_first, slice_split}
-use Rattle.std.specs.Str.{bytes_eq}
+use Rattle.std.specs.List.{AllByRecursion}
 use Rattle.std.proofs.lemmas.List.{map-append, length-take}
 use Rattle.std.proofs.lemmas.Option.{none-some}
-use Rattle.unix_path.specs.Parts.{Part, Normal, value_bytes, is_slash, cur_dir, counts}
+use Rattle.unix_path.specs.Parts.{Part, Normal, value_bytes}
 use Rattle.unix_path.specs.Parts.{parts_of_pieces, inner_parts, leading_part, parts, values}
-use Rattle.unix_path.specs.Parts.{is_rooted}
 use Rattle.unix_path.specs.Rest.{rest}
 use Rattle.unix_path.proofs.lemmas.parts.PlaceLemmas.{parts_end}
 use Rattle.unix_path.specs.Names.{name_of, file_name_of, split_name}
 use Rattle.unix_path.specs.Edits.{last_start_of, stem_end_of}
-use Rattle.unix_bytes.proofs.lemmas.lists.ListLemmas.{by_test, Snoc, Empty, Push, snoc}
+use Rattle.unix_bytes.proofs.lemmas.lists.ListLemmas.{Snoc, Empty, Push, snoc}
 use Rattle.unix_bytes.proofs.lemmas.lists.ListLemmas.{last_or-push}
 use Rattle.unix_path.proofs.lemmas.names.ParentLemmas.{file_name_of-last}
 use Rattle.unix_path.proofs.lemmas.rests.RestLemmas.{take-rest}
@@ -29,10 +27,7 @@ SpansValue-parts_of_pieces : (at : ℕ) (ps : List (List ℕ))
     → AllByRecursion SpansValue (parts_of_pieces at ps)
 SpansValue-parts_of_pieces at [] = tt
 SpansValue-parts_of_pieces at (p ∷ ps) =
-    let next = SpansValue-parts_of_pieces (at + length p + 1) ps in
-    by_test (counts p)
-    (λ e. rw e (ap (λ b. at + length b) (sym (value_bytes-piece p)), next))
-    (λ e. rw e next)
+    grind (arith, value_bytes-piece, SpansValue-parts_of_pieces (at + length p + 1) ps)
 
 SpansValue-append : (ps qs : List Part) → AllByRecursion SpansValue ps
     → AllByRecursion SpansValue qs → AllByRecursion SpansValue (ps ++ qs)
@@ -41,16 +36,13 @@ SpansValue-append (p ∷ ps) qs h k = (h.0, SpansValue-append ps qs h.1 k)
 
 SpansValue-leading_part : (s : List ℕ) → AllByRecursion SpansValue (leading_part s)
 unfolding leading_part
-SpansValue-leading_part s = by_test (is_rooted s) (λ e. rw e (refl, tt))
-    (λ e. rw e (by_test (bytes_eq (before_first is_slash s) cur_dir) (λ d. rw d (refl, tt))
-    (λ d. rw d tt)))
+SpansValue-leading_part s = grind arith
 
 -- each component of a path spans as many bytes as its value has
 SpansValue-parts : (s : List ℕ) → AllByRecursion SpansValue (parts s)
 unfolding parts inner_parts
 SpansValue-parts s =
-    SpansValue-append (leading_part s) (inner_parts 0 s) (SpansValue-leading_part s)
-    (SpansValue-parts_of_pieces 0 (slice_split is_slash s))
+    grind (arith, SpansValue-append, SpansValue-leading_part, SpansValue-parts_of_pieces)
 
 SpansValue-last : (ps : List Part) (p : Part) → AllByRecursion SpansValue (ps ++ p ∷ [])
     → SpansValue p
@@ -110,12 +102,7 @@ pub stem_end_of-some : {stem : List ℕ} (s name : List ℕ) (end : ℕ)
     → Some name ≡ file_name_of (values s) → end ≡ length (rest s 0 0)
     → stem ≡ (split_name name).0 → Some (end - length name + length stem) ≡ stem_end_of s
 unfolding stem_end_of
-stem_end_of-some {stem} s name end e at is =
-    let start = last_start_of-name s name e in
-    let to : end - length name + length stem
-    ≡ last_start_of (parts s) + length (split_name name).0 =
-    omega (arith, at, ap length is) in
-    ap Some to ∙ ap (stem_end_by s) e
+stem_end_of-some {stem} s name end e at is = grind (arith, last_start_of-name)
 
 -- s without its trailing filler, `rest s 0 0`, is no longer than s
 pub length-rest_whole-le : (s : List ℕ) → length (rest s 0 0) ≤ length s

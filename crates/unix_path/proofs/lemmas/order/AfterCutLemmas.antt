@@ -7,7 +7,6 @@ use Rattle.unix_path.proofs.lemmas.order.CommonPrefixLemmas.{inner_values-nil, v
 use Rattle.unix_path.proofs.lemmas.order.ComparisonLemmas.{some_value}
 use Rattle.unix_path.proofs.lemmas.filler.FillerLemmas.{parts-not_filler, values-not_filler}
 use Rattle.unix_path.proofs.lemmas.rests.MiddleLemmas.{rest-middle}
-use Rattle.unix_path.proofs.lemmas.parts.PieceLemmas.{inner_parts-nil}
 use Rattle.unix_path.proofs.lemmas.parts.PlaceLemmas.{inner_parts-add, part_at, values-inner_parts}
 use Rattle.unix_path.proofs.lemmas.parts.PlaceLemmas.{values-part_at}
 use Rattle.unix_path.proofs.lemmas.lists.PrefixLemmas.{begins_tail}
@@ -18,6 +17,9 @@ use Rattle.unix_path.specs.Prefixes.{IsPrefixOf}
 use Rattle.unix_path.specs.Rest.{rest}
 use Rattle.unix_path.specs.Scan.{is_filler, EndsInPart}
 use Rattle.unix_path.specs.Steps.{AreApart, HasMore, AfterFiller, SharesPrefix}
+use Rattle.unix_path.proofs.lemmas.order.CommonPrefixLemmas.{values_cmp-equal_strings}
+use Rattle.unix_path.proofs.lemmas.order.CommonPrefixLemmas.{common_prefix_len-whole}
+use Rattle.std.proofs.lemmas.List.{nil_from_length}
 
 -- the components, without their positions
 abbrev values_of : List Part → List Value
@@ -26,18 +28,14 @@ values_of = map (λ p. p.value)
 -- if t is s without its leading filler (`AfterFiller`), the inner components of s are the
 -- components of t
 pub values-past : (s t : List ℕ) → AfterFiller s t → inner_values s ≡ values t
-values-past s t h =
-    ap values_of (h.filler 0) ∙ values-inner_parts (0 + h.len) t
-    ∙ sym (values-not_filler t h.not_filler)
+values-past s t h = grind (arith, values-inner_parts, values-not_filler)
 
 -- if x is the rest of a after components that a and b share, the components of a are the shared
 -- ones and then the inner components of x
 values-first : {a b x y : List ℕ} (h : SharesPrefix a b x y)
     → values a ≡ values_of h.shared ++ inner_values x
 unfolding values
-values-first {x = x} h =
-    ap values_of h.first ∙ map-append (λ (p : Part). p.value) h.shared (inner_parts h.at x)
-    ∙ ap (λ vs. values_of h.shared ++ vs) (values-inner_parts h.at x)
+values-first {x = x} h = grind (arith, map-append, values-inner_parts)
 
 -- if x and y are the rests of a and b after the same components, the inner components of x and y
 -- are in the same order as a and b
@@ -51,24 +49,17 @@ values_cmp-shared {x = x} {y = y} h =
 -- without their leading filler
 pub shares-past : {a b x y t u : List ℕ} → SharesPrefix a b x y → AfterFiller x t → AfterFiller y u
     → SharesPrefix a b t u
-shares-past {a} {y = y} {t = t} {u = u} h past_x past_y = record {
-  shared = h.shared;
-  at = h.at + past_x.len;
-  is = past_x.is ∙ ap (drop past_x.len) h.is ∙ drop-drop past_x.len h.at a;
-  first = h.first ∙ ap (λ ps. h.shared ++ ps) (past_x.filler h.at);
-  second = h.second
-      ∙ ap (λ vs. values_of h.shared ++ vs)
-      (values-past y u past_y ∙ values-not_filler u past_y.not_filler);
-}
+shares-past {a} {y = y} {t = t} {u = u} h past_x past_y =
+    grind (
+      arith,
+      drop-drop past_x.len h.at a,
+      values-past y u past_y,
+      values-not_filler u past_y.not_filler,
+    )
 
 -- the empty string without its leading filler is empty
 pub past-nil : AfterFiller [] []
-past-nil = record {
-  len = 0;
-  is = refl;
-  filler = λ at. inner_parts-nil at ∙ sym (inner_parts-nil (at + 0));
-  not_filler = refl;
-}
+past-nil = grind arith
 
 -- if t and u are the rests of a and b after the same components, and begin with no filler, and x
 -- and y are the rests of t and u after the same components, then x and y are such rests of a and b
@@ -124,18 +115,12 @@ apart-shared {a} {b} {t} {u} h busy_t busy_u apart = record {
 -- components of `base`
 shared_is : {s base rest_bytes : List ℕ} (h : SharesPrefix s base rest_bytes [])
     → values base ≡ values_of h.shared
-shared_is h =
-    h.second ∙ ap (λ vs. values_of h.shared ++ vs) inner_values-nil
-    ∙ append-nil (values_of h.shared)
+shared_is h = grind (arith, inner_values-nil, append-nil)
 
 -- if the rest of `base` after the components that s and `base` share is empty, s starts with `base`
 pub begins-rest_bytes : {s base rest_bytes : List ℕ} → SharesPrefix s base rest_bytes []
     → IsPrefixOf (values base) (values s)
-begins-rest_bytes {rest_bytes = rest_bytes} h = (
-  inner_values rest_bytes,
-  ap (λ vs. vs ++ inner_values rest_bytes) (shared_is h)
-      ∙ sym (values-first h),
-)
+begins-rest_bytes {rest_bytes = rest_bytes} h = grind (arith, shared_is h, values-first h)
 
 -- if the rest of `base` after the components that s and `base` share is empty, and the rest
 -- `rest_bytes` of s has no leading and no trailing filler, then `rest_bytes` is s without as many
@@ -174,11 +159,7 @@ more-rest_bytes {a} {b} {u} h not_filler some =
     sym (values-first h ∙ ap (λ vs. values_of h.shared ++ vs) inner_values-nil
     ∙ append-nil (values_of h.shared)) in
     let value = some_value u some in
-    record {
-      more = values u;
-      some = omega (arith, ap length value.is);
-      is = h.second ∙ ap₂ (λ vs ws. vs ++ ws) shared (sym (values-not_filler u not_filler));
-    }
+    grind (arith, values-not_filler)
 
 -- if b has all components of a and then more, a comes before b, and doesn't start with b
 pub more-apart : {a b : List ℕ} → HasMore a b → AreApart a b Less
@@ -199,3 +180,12 @@ more-apart {a} {b} h = record {
     before : (vs : List Value) → 0 < length vs → Less ≡ values_cmp [] vs
     before [] some = absurd (omega arith)
     before (v ∷ vs) some = refl
+
+-- the order of two strings that are equal, or whose rests are compared
+pub ruleset comparisons = (
+  values_cmp-equal_strings,
+  common_prefix_len-whole,
+  inner_values-nil,
+  nil_from_length,
+  values_cmp-shared,
+)

@@ -11,6 +11,7 @@ use Rattle.std.specs.Str.{bytes_eq}
 use Rattle.std.proofs.lemmas.Cmp.{tied_itself}
 use Rattle.std.proofs.lemmas.List.{get_or-take, get_or_default}
 use Rattle.std.proofs.lemmas.List.Sums.{common_prefix_len-le}
+use Rattle.std.proofs.lemmas.Grind.{common_steps}
 use Rattle.unix_path.specs.CommonDir.{inner_values}
 use Rattle.unix_path.specs.Order.{value_cmp}
 use Rattle.unix_path.specs.OrderLaws.{value_cmp-total}
@@ -57,8 +58,7 @@ apart-values v s t ss ts x y first second order differs = record {
 pub first_piece-after : (p x : List ℕ) → position_or_len is_slash p ≡ length p
     → first_piece (p ++ x) ≡ p ++ first_piece x
 first_piece-after [] x none = refl
-first_piece-after (b ∷ p) x none =
-    grind (arith, first_piece-other b (p ++ x), first_piece-after p x)
+first_piece-after (b ∷ p) x none = grind (arith, first_piece-other, first_piece-after p x)
 
 -- the components of s after its first piece
 abbrev later_values : List ℕ → List Value
@@ -75,12 +75,7 @@ values-first [] p is h = absurd (grind arith)
 values-first (b ∷ s) p is h =
     let not_filler : is_filler (b ∷ s) 0 ≡ false =
     grind (arith, first_piece_empty (b ∷ s), first_piece_dot (b ∷ s)) in
-    let whole = ap (map (λ (p : Part). p.value)) (parts-not_filler (b ∷ s) (λ _. not_filler)) in (
-      whole ∙ ap (map (λ (p : Part). p.value))
-          (inner_parts_not_filler 0 (b ∷ s) (omega arith) not_filler)
-          ∙ ap (λ p. value_of_piece p ∷ later_values (b ∷ s)) is,
-      whole,
-    )
+    grind (arith, inner_parts_not_filler, parts-not_filler)
 
 -- if the last piece of w, which begins at k, and the first piece of x together are a piece for
 -- which `Counts` holds, the components of w followed by x are those of the first k bytes of w, then
@@ -149,9 +144,7 @@ pub apart-here : (a b : List ℕ) (n : ℕ) → n ≡ common_prefix_len eqb a b
     → (piece_rank a n ≡ 0 → ⊥) → (piece_rank a n ≡ 47 → ⊥)
     → (piece_rank b n ≡ 0 → ⊥) → (piece_rank b n ≡ 47 → ⊥)
     → AreApart a b (nat_cmp (piece_rank a n) (piece_rank b n))
-apart-here a b n is end_a dot_a end_b dot_b =
-    apart-after a b n is (λ e. end_a (ranks_end a b n is e))
-    (λ k _ _ _ _. ((end_a, dot_a), (end_b, dot_b)))
+apart-here a b n is end_a dot_a end_b dot_b = grind (arith, common_steps, apart-after, ranks_end)
 
 -- if a and b have different `piece_rank`s at their first difference n, and the bytes of the piece
 -- before n are neither none nor a single dot, then a doesn't start with b, and these ranks decide

@@ -23,8 +23,7 @@ pub common_dir_of-is : (a b : List ℕ) (common n : ℕ) → common ≡ common_p
     → n ≡ common_dir_of a b
 unfolding common_dir_of
 common_dir_of-is a b common n is l after none =
-    after_last-byte slash (take common a) n l after none
-    ∙ ap (λ m. after_last is_slash (take m a)) is
+    grind (arith, after_last-byte slash (take common a) n l after none)
 
 -- if `after_last is_slash s` is not 0, the byte of s before this index is a slash
 after_last-slash : (s : List ℕ) → 0 < after_last is_slash s

@@ -1,6 +1,6 @@
 -- The order of two strings of which at least one is empty.
 use Rattle.std.proofs.Common.{◌≡◌, ℕ, ◌<◌, List, [], ◌∷◌, length, map, sym, ap, ap₂, ◌∙◌, arith}
-use Rattle.std.proofs.Common.{Less, Greater}
+use Rattle.std.proofs.Common.{Less}
 use Rattle.std.proofs.lemmas.List.{nil_from_length}
 use Rattle.std.specs.Cmp.{nat_cmp_is}
 use Rattle.std.specs.Ordering.{nat_cmp}
@@ -34,7 +34,5 @@ values_cmp-end [] (y ∷ t) h =
     let some = some_value (y ∷ t) (omega arith) in
     sym (nat_cmp_is 0 (length (y ∷ t)) Less (omega arith)) ∙ sym (ap₂ values_cmp values-nil some.is)
 values_cmp-end (x ∷ s) t h =
-    let none : t ≡ [] = nil_from_length t (h (omega arith)) in
     let some = some_value (x ∷ s) (omega arith) in
-    sym (nat_cmp_is (length (x ∷ s)) (length t) Greater (omega (arith, ap length none)))
-    ∙ sym (ap₂ values_cmp some.is (ap values none ∙ values-nil))
+    grind (arith, values-nil, nil_from_length)

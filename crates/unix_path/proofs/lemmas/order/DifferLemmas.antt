@@ -12,10 +12,6 @@ use Rattle.unix_path.proofs.lemmas.order.CommonPrefixLemmas.{slice_cmp-common}
 use Rattle.unix_path.proofs.lemmas.parts.PieceLemmas.{first_piece, first_piece-other}
 use Rattle.unix_path.proofs.lemmas.parts.PieceLemmas.{first_piece-slash}
 
--- if `piece_rank s i` is 0, a piece of s ends at i
-pub rank_end : (s : List ℕ) (i : ℕ) → piece_rank s i ≡ 0 → get_or s i 47 ≡ 47
-rank_end s i e = grind arith
-
 -- the first byte of a piece, plus 1; or 0 if the piece is empty
 abbrev pub head_rank : List ℕ → ℕ
 head_rank [] = 0
@@ -33,9 +29,7 @@ head_rank-drop (b ∷ s) (suc n) = head_rank-drop s n
 pub slice_cmp-heads : (q r : List ℕ) → (head_rank q ≡ head_rank r → ⊥)
     → slice_cmp nat_cmp q r ≡ nat_cmp (head_rank q) (head_rank r)
 slice_cmp-heads [] [] differs = absurd (differs refl)
-slice_cmp-heads [] (y ∷ r) differs = grind arith
-slice_cmp-heads (x ∷ q) [] differs = grind arith
-slice_cmp-heads (x ∷ q) (y ∷ r) differs = grind arith
+slice_cmp-heads q r differs = grind arith
 
 -- the piece p ++ q is neither empty nor `.`, and if it is `..`, q is empty
 pub record Counts (p q : List ℕ) : Type 0 where
@@ -50,9 +44,7 @@ counts_from [] [] h = absurd ((h (omega arith) refl).0 refl)
 counts_from [] (b ∷ q) h =
     let no_dot = (h (omega arith) refl).1 in
     record { counts = grind arith; parent = λ e. grind arith }
-counts_from (c ∷ []) [] h =
-    let some : c ≡ 46 → ⊥ = λ e. (h (omega arith) e).0 refl in
-    record { counts = grind arith; parent = λ e. refl }
+counts_from (c ∷ []) [] h = grind arith
 counts_from (c ∷ []) (b ∷ q) h =
     let no_dot : c ≡ 46 → 1 + b ≡ 47 → ⊥ = λ e. (h (omega arith) e).1 in
     record { counts = grind arith; parent = λ e. grind arith }

@@ -1,13 +1,12 @@
 -- The writes of eight bytes with which a component is fed to a hasher: first its bytes, and in the
 -- last write the beginning of the terminator.
-use Rattle.std.proofs.Common.{◌≡◌, ℕ, suc, ◌/◌, ◌<◌, ◌≤◌, List, [], ◌∷◌, ◌++◌}
-use Rattle.std.proofs.Common.{length, get_or, take, drop, map, refl, sym, ap, ap₂, ◌∙◌, arith}
-use Rattle.std.proofs.Common.{length-append, length-drop, zero, rules, Fits, w8, w64}
+use Rattle.std.proofs.Common.{◌≡◌, ℕ, suc, ◌<◌, ◌≤◌, List, [], ◌∷◌, ◌++◌}
+use Rattle.std.proofs.Common.{length, get_or, take, drop, map, refl, sym, ap, ◌∙◌, arith}
+use Rattle.std.proofs.Common.{length-append, zero, rules, Fits, w8, w64}
 use Rattle.std.specs.Hash.{le_bytes}
 use Rattle.std.specs.Int.{from_le_bytes}
 use Rattle.std.specs.List.{range_with_len}
-use Rattle.std.specs.Simd.{first_chunks}
-use Rattle.std.proofs.lemmas.List.{take-append-le, drop-append-le, length-take-le}
+use Rattle.std.proofs.lemmas.List.{length-take-le}
 use Rattle.std.proofs.lemmas.List.FromFn.{fill_by_all}
 use Rattle.std.proofs.lemmas.Nat.{le_bytes_8}
 use Rattle.unix_path.specs.Hashed.{terminator, in_eights}
@@ -17,25 +16,14 @@ use Rattle.unix_path.specs.Hashed.{terminator, in_eights}
 pub in_eights-more : (s : List ℕ) → 8 ≤ length s
     → in_eights (s ++ terminator) ≡ take 8 s ∷ in_eights (drop 8 s ++ terminator)
 unfolding in_eights
-in_eights-more s h =
-    let t = s ++ terminator in
-    let rest = drop 8 s ++ terminator in
-    let count : length t / 8 ≡ suc (length rest / 8) =
-    omega (arith, length-append s terminator, length-append (drop 8 s) terminator, length-drop 8 s)
-    in
-    ap (λ n. first_chunks 8 n t) count
-    ∙ ap₂ (λ p r. p ∷ first_chunks 8 (length rest / 8) r) (take-append-le 8 s terminator h)
-    (drop-append-le 8 s terminator h)
+in_eights-more s h = grind arith
 
 -- if s has fewer than eight bytes, s and the terminator are fed in one write, of their first eight
 -- bytes
 pub in_eights-last : (s : List ℕ) → length s < 8
     → in_eights (s ++ terminator) ≡ take 8 (s ++ terminator) ∷ []
 unfolding in_eights
-in_eights-last s h =
-    let t = s ++ terminator in
-    let count : length t / 8 ≡ 1 = omega (arith, length-append s terminator) in
-    ap (λ n. first_chunks 8 n t) count
+in_eights-last s h = grind (arith, length-append)
 
 -- each number of s is a byte
 abbrev pub AreBytes : List ℕ → Type 0
@@ -49,10 +37,9 @@ AreBytes-append (x ∷ s) t h k (suc i) = AreBytes-append s t (λ i. h (suc i)) 
 
 -- if s consists of bytes, each of its first n numbers is less than 256
 AreBytes-take : (n : ℕ) (s : List ℕ) → AreBytes s → (i : ℕ) → get_or (take n s) i 0 < 256
-AreBytes-take zero s h i = omega arith
-AreBytes-take (suc n) [] h i = omega arith
 AreBytes-take (suc n) (x ∷ s) h zero = omega (arith, h 0)
 AreBytes-take (suc n) (x ∷ s) h (suc i) = AreBytes-take n s (λ i. h (suc i)) i
+AreBytes-take n s h i = omega arith
 
 -- if s consists of k bytes, and n is the number that is read, in little-endian order, from the
 -- first eight bytes of s and the terminator, then the eight little-endian bytes of n are these

@@ -1,10 +1,10 @@
 -- The last bytes of two strings show whether both end in the same component.
 use Rattle.std.proofs.Common.{◌≡◌, ℕ, ◌-◌, ◌<◌, ◌≤◌, true, List, [], ◌∷◌, ◌++◌, length, get_or}
-use Rattle.std.proofs.Common.{take, drop, map, sym, ap, ◌∙◌, subst, arith, get_or-drop, length-drop}
+use Rattle.std.proofs.Common.{take, drop, sym, ap, ◌∙◌, arith, get_or-drop, length-drop}
 use Rattle.std.specs.List.{position_or_len}
-use Rattle.std.proofs.lemmas.List.{map-append}
 use Rattle.std.proofs.lemmas.List.Sums.{fails_before_first}
-use Rattle.unix_path.specs.Parts.{Part, is_slash, parts, value_bytes, values}
+use Rattle.std.proofs.lemmas.Grind.{common_steps}
+use Rattle.unix_path.specs.Parts.{is_slash, value_bytes, values}
 use Rattle.unix_path.specs.Prefixes.{IsSuffixOf}
 use Rattle.unix_path.specs.Steps.{is_piece_start, EndsInPiece, HasCommonSuffix, SharesSuffix}
 use Rattle.unix_path.proofs.lemmas.steps.LastLemmas.{last_part, last_start, IsLastStart}
@@ -22,8 +22,7 @@ from_end s n k more inside = grind (arith, get_or-drop)
 pub same_end_byte : (a b : List ℕ) (n k : ℕ) → HasCommonSuffix a b k → n < k
     → get_or a (length a - 1 - n) 0 ≡ get_or b (length b - 1 - n) 0
 same_end_byte a b n k h more =
-    from_end a n k more h.in_first ∙ ap (λ w. get_or w (k - 1 - n) 0) h.same
-    ∙ sym (from_end b n k more h.in_second)
+    grind (arith, from_end a n k more h.in_first, from_end b n k more h.in_second)
 
 -- if a and b have a common suffix of k bytes without a slash, and n is less than k, the byte just
 -- before the last n bytes of a is not a slash
@@ -64,9 +63,7 @@ last_is : (s : List ℕ) (start : ℕ) → IsLastStart s start → EndsInPiece s
     → values s ≡ values (take start s) ++ first_value (drop start s) ∷ []
 unfolding values
 last_is s start h ends =
-    let all = (last_part s start h (starts_inside s start h ends) ends.part).1 in
-    ap (map (λ (p : Part). p.value)) all
-    ∙ map-append (λ (p : Part). p.value) (parts (take start s)) _
+    grind (arith, common_steps, last_part s start h (starts_inside s start h ends) ends.part)
 
 -- if a and b end in their last components, have a common suffix of k bytes without a slash, and a
 -- piece of each begins where this suffix begins, then the components of a and b are those of the
@@ -76,13 +73,12 @@ pub shares_last : (a b : List ℕ) (k : ℕ) → EndsInPiece a → EndsInPiece b
     → SharesSuffix (values a) (values b) (values (take (length a - k) a))
     (values (take (length b - k) b))
 shares_last a b k first second h begins_a begins_b =
-    let none_b = ap (position_or_len is_slash) (sym h.same) ∙ h.no_slash in
-    record {
-      last = first_value (drop (length a - k) a) ∷ [];
-      first = last_is a (length a - k) (last_at a k h.in_first h.no_slash begins_a) first;
-      second = last_is b (length b - k) (last_at b k h.in_second none_b begins_b) second
-          ∙ ap (λ p. values (take (length b - k) b) ++ first_value p ∷ []) (sym h.same);
-    }
+    grind (
+      arith,
+      last_is a (length a - k) (last_at a k h.in_first h.no_slash begins_a) first,
+      last_is,
+      last_at,
+    )
 
 -- if a and b end in their last components, k is the length of their longest common suffix without a
 -- slash, and the components of a end with the components of b, then a piece of each begins where
@@ -112,10 +108,8 @@ ends_longest a b k first second h longest ends =
     (grind (arith, at_a.after_slash, at_a.in_range, more, h.in_first)) in
     let is : n ≡ k = omega (arith, longest n same, none) in
     let start_a : d ≡ length a - k = omega (arith, is, at_a.in_range) in
-    let start_b : e ≡ length b - k = omega (arith, is, size, at_b.in_range) in (
-      subst (λ i. is_piece_start a i ≡ true) start_a (begins_last a d at_a),
-      subst (λ i. is_piece_start b i ≡ true) start_b (begins_last b e at_b),
-    )
+    let start_b : e ≡ length b - k = omega (arith, is, size, at_b.in_range) in
+    grind (arith, begins_last)
 
 -- the two lemmas above: the byte before the longest common suffix shows whether the last components
 -- are the same

@@ -6,6 +6,7 @@ use Rattle.std.specs.List.{common_prefix_len}
 use Rattle.std.specs.Ordering.{is_ne, nat_cmp}
 use Rattle.std.proofs.lemmas.Bool.{false≢true}
 use Rattle.std.proofs.lemmas.Cmp.{tied_itself, nat_cmp_total}
+use Rattle.std.proofs.lemmas.Grind.{common_steps}
 use Rattle.unix_path.specs.Order.{rank, value_cmp, values_cmp}
 use Rattle.unix_path.specs.Pairs.{first_rank}
 use Rattle.unix_path.specs.Parts.{Part, Value, value_bytes, values}
@@ -13,9 +14,6 @@ use Rattle.unix_path.specs.Prefixes.{IsPrefixOf}
 use Rattle.unix_path.specs.Scan.{starts_with_parent_dir, is_filler}
 use Rattle.unix_path.specs.Steps.{piece_rank, AreApart, DiffersAtStart}
 use Rattle.unix_path.proofs.lemmas.order.ApartLemmas.{apart-values, ranks_end}
-use Rattle.unix_path.proofs.lemmas.order.DifferLemmas.{head_rank-drop, slice_cmp-heads}
-use Rattle.unix_path.proofs.lemmas.steps.LeadLemmas.{first_value-name, parts-dot_first}
-use Rattle.unix_path.proofs.lemmas.steps.LeadLemmas.{parts-parent_first}
 use Rattle.unix_path.proofs.lemmas.parts.PartLemmas.{parts-name, parts-root, values-nil}
 use Rattle.unix_path.proofs.lemmas.parts.PieceLemmas.{first_piece, first_piece-other}
 use Rattle.unix_path.proofs.lemmas.lists.PrefixLemmas.{begins_tail}
@@ -27,24 +25,14 @@ pub first_rank_of : (s : List ℕ) → first_rank (values s) ≡ cond (eqb (leng
     (cond (eqb (get_or s 0 0) 47) 1 (cond (is_filler s 0) 2 (cond (starts_with_parent_dir s) 3 4)))
 unfolding values
 first_rank_of [] = ap first_rank values-nil
-first_rank_of (b ∷ s) =
-    grind (
-      arith,
-      parts-root (b ∷ s),
-      parts-dot_first (b ∷ s),
-      parts-parent_first (b ∷ s),
-      parts-name (b ∷ s),
-      first_value-name (b ∷ s),
-    )
+first_rank_of (b ∷ s) = grind (arith, common_steps, parts-root, parts-name)
 
 -- if the first components of v and w are of different kinds, or only one of v and w is empty, then
 -- v and w are in the order of their `first_rank`s
 pub values_cmp-ranks : (v w : List Value) → is_ne (nat_cmp (first_rank v) (first_rank w)) ≡ true
     → nat_cmp (first_rank v) (first_rank w) ≡ values_cmp v w
 values_cmp-ranks [] [] differs = absurd (false≢true differs)
-values_cmp-ranks [] (w ∷ ws) differs = grind arith
-values_cmp-ranks (v ∷ vs) [] differs = grind arith
-values_cmp-ranks (v ∷ vs) (w ∷ ws) differs = grind arith
+values_cmp-ranks v w differs = grind arith
 
 -- if the components v and w are of the same kind, they are in the order of their bytes
 same_kind : (v w : Value) → rank v ≡ rank w
@@ -65,17 +53,9 @@ first_piece-cmp : (x y : ℕ) (a b : List ℕ) (n : ℕ) → n ≤ 1 → (0 < n 
     → (piece_rank (x ∷ a) n ≡ piece_rank (y ∷ b) n → ⊥)
     → slice_cmp nat_cmp (first_piece (x ∷ a)) (first_piece (y ∷ b))
     ≡ nat_cmp (piece_rank (x ∷ a) n) (piece_rank (y ∷ b) n)
-first_piece-cmp x y a b zero l same first second differs =
-    grind (arith, first_piece-other x a, first_piece-other y b)
+first_piece-cmp x y a b zero l same first second differs = grind (arith, first_piece-other)
 first_piece-cmp x y a b (suc zero) l same first second differs =
-    grind (
-      arith,
-      first_piece-other x a,
-      first_piece-other y b,
-      head_rank-drop a 0,
-      head_rank-drop b 0,
-      slice_cmp-heads (first_piece a) (first_piece b),
-    )
+    grind (arith, common_steps, first_piece-other)
 first_piece-cmp x y a b (suc (suc n)) l same first second differs = absurd (omega arith)
 
 -- if two strings begin with the bytes x and y, which are different or both a dot, and their first
@@ -83,9 +63,7 @@ first_piece-cmp x y a b (suc (suc n)) l same first second differs = absurd (omeg
 no_root : (x y : ℕ) (a b : List ℕ) (n : ℕ) → n ≡ common_prefix_len eqb (x ∷ a) (y ∷ b)
     → (0 < n → x ≡ 46) → first_rank (values (x ∷ a)) ≡ first_rank (values (y ∷ b))
     → (eqb x 47 ≡ false) × (eqb y 47 ≡ false)
-no_root x y a b n is dot same =
-    let first : eqb x 47 ≡ false = grind (arith, first_rank_of (x ∷ a), first_rank_of (y ∷ b)) in
-    (first, grind (arith, first_rank_of (x ∷ a), first_rank_of (y ∷ b)))
+no_root x y a b n is dot same = grind (arith, first_rank_of)
 
 -- if a and b differ at their start, at byte n, their first components are of the same kind, and b
 -- isn't empty, then a doesn't start with b, and the `piece_rank`s of a and b at n decide their
@@ -94,8 +72,7 @@ first_parts-same : (a b : List ℕ) (n : ℕ) → n ≡ common_prefix_len eqb a 
     → first_rank (values a) ≡ first_rank (values b) → 0 < length b
     → AreApart a b (nat_cmp (piece_rank a n) (piece_rank b n))
 first_parts-same a [] n is start same some = absurd (omega arith)
-first_parts-same [] (y ∷ b) n is start same some =
-    absurd (grind (arith, first_rank_of (y ∷ b), first_rank_of []))
+first_parts-same [] (y ∷ b) n is start same some = grind (arith, first_rank_of)
 first_parts-same (x ∷ a) (y ∷ b) n is start same some =
     let other = no_root x y a b n is start.dot same in
     let differs : piece_rank (x ∷ a) n ≡ piece_rank (y ∷ b) n → ⊥ =
@@ -117,8 +94,7 @@ pub first_parts-cmp : (a b : List ℕ) (n : ℕ) → n ≡ common_prefix_len eqb
     → is_ne (nat_cmp (first_rank (values a)) (first_rank (values b))) ≡ false
     → nat_cmp (piece_rank a n) (piece_rank b n) ≡ values_cmp (values a) (values b)
 first_parts-cmp [] [] n is start same = sym (ap₂ values_cmp values-nil values-nil)
-first_parts-cmp (x ∷ a) [] n is start same =
-    absurd (grind (arith, first_rank_of (x ∷ a), first_rank_of []))
+first_parts-cmp (x ∷ a) [] n is start same = grind (arith, first_rank_of)
 first_parts-cmp a (y ∷ b) n is start same =
     (first_parts-same a (y ∷ b) n is start (grind arith) (omega arith)).order_is
 

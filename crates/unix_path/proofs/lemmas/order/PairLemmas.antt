@@ -1,20 +1,19 @@
 -- Where two paths can be cut, and what that shows about them.
-use Rattle.std.proofs.Common.{◌≡◌, ℕ, suc, ◌+◌, ◌-◌, ◌≤◌, ◌<◌, ◌⊎◌, true, false, eqb, ltb, List, []}
-use Rattle.std.proofs.Common.{◌∷◌, ◌++◌, length, get_or, take, drop, map, refl, sym, ap, ap₂, arith}
-use Rattle.std.proofs.Common.{◌∙◌, subst, ⊎_elim, append-nil, eqb-true, length-take-le, ltb-false}
-use Rattle.std.proofs.Common.{ltb-true, inl, inr, nat_cmp, ne_eqb, take-append-drop, take_all}
+use Rattle.std.proofs.Common.{◌≡◌, ℕ, ◌-◌, ◌≤◌, ◌<◌, ◌⊎◌, true, false, eqb, List, []}
+use Rattle.std.proofs.Common.{◌++◌, length, get_or, take, drop, map, refl, sym, ap, ap₂, arith}
+use Rattle.std.proofs.Common.{◌∙◌, subst}
+use Rattle.std.proofs.Common.{inl, inr, nat_cmp, take-append-drop}
 use Rattle.std.specs.Borrow.{Bor}
-use Rattle.std.proofs.Math.Seq.{drop-cons, drop-length}
+use Rattle.std.proofs.Math.Seq.{drop-length}
 use Rattle.std.proofs.lemmas.Bool.{eqb-false, or_parts}
-use Rattle.std.proofs.lemmas.List.{drop_all, get_or_past, map-append}
+use Rattle.std.proofs.lemmas.List.{get_or_past, map-append}
 use Rattle.std.proofs.lemmas.List.Sums.{common_prefix_len-le}
+use Rattle.std.proofs.lemmas.Grind.{common_steps}
 use Rattle.unix_bytes.proofs.lemmas.vectors.CommonLemmas.{common_prefix_len-same}
 use Rattle.unix_path.proofs.lemmas.order.ApartLemmas.{ranks_end}
 use Rattle.unix_path.proofs.lemmas.order.AfterCutLemmas.{more-apart}
 use Rattle.unix_bytes.proofs.lemmas.lists.ListLemmas.{by_test}
 use Rattle.unix_path.proofs.lemmas.order.CommonPrefixLemmas.{parts-past_slash, take-common}
-use Rattle.unix_path.proofs.lemmas.order.CommonPrefixLemmas.{take-past_slash}
-use Rattle.unix_path.proofs.lemmas.order.DifferLemmas.{rank_end}
 use Rattle.unix_path.proofs.lemmas.order.KindLemmas.{first_parts-apart}
 use Rattle.unix_path.proofs.lemmas.parts.PieceLemmas.{inner_parts-nil, inner_parts-slash}
 use Rattle.unix_path.proofs.lemmas.parts.PlaceLemmas.{values-inner_parts}
@@ -32,6 +31,8 @@ use Rattle.unix_path.specs.declared.pair.Difference.TheVariants.{CutBefore}
 use Rattle.unix_path.specs.declared.pair.Kind.{Kind}
 use Rattle.unix_path.specs.declared.pair.Kind.TheVariants.{Nothing, RootDir, CurDir, ParentDir}
 use Rattle.unix_path.specs.declared.pair.Kind.TheVariants.{Name}
+use Rattle.unix_path.proofs.lemmas.order.KindLemmas.{first_parts-cmp}
+use Rattle.unix_path.proofs.lemmas.order.KindLemmas.{values_cmp-ranks}
 
 -- if no piece of s begins at i, i is not 0
 pub inside_piece : (s : List ℕ) (i : ℕ) → is_piece_start s i ≡ false → 0 < i
@@ -45,44 +46,20 @@ CanCut s n = (is_piece_start s n ≡ true) ⊎ (piece_rank s n ≡ 0)
 -- and then the inner components of the bytes from n on
 parts-after : (s : List ℕ) (n : ℕ) → 0 < n → n ≤ length s → get_or s (n - 1) 0 ≡ slash
     → parts s ≡ parts (take n s) ++ inner_parts n (drop n s)
-parts-after s n some l is =
-    let f = take (n - 1) s in
-    let common = take-past_slash s n some l is in
-    ap parts (sym (take-append-drop n s) ∙ ap (λ t. t ++ drop n s) common)
-    ∙ parts-past_slash f (drop n s)
-    ∙ ap (λ t. parts t ++ inner_parts (length t) (drop n s)) (sym common)
-    ∙ ap (λ k. parts (take n s) ++ inner_parts k (drop n s)) (length-take-le n s l)
+parts-after s n some l is = grind (arith, common_steps, take-append-drop n s, parts-past_slash)
 
 -- if n isn't 0, and the byte of s at n is a slash, the components of s are those of its first n
 -- bytes, and then the inner components of the bytes from n on
 parts-before : (s : List ℕ) (n : ℕ) → 0 < n → n < length s → get_or s n slash ≡ slash
     → parts s ≡ parts (take n s) ++ inner_parts n (drop n s)
 parts-before s n some l is =
-    let f = take n s in
-    let t = drop (suc n) s in
-    let size = length-take-le n s (omega arith) in
-    let after : drop n s ≡ slash ∷ t = drop-cons s n slash l ∙ ap (λ b. b ∷ t) is in
-    ap parts (sym (ap (λ u. f ++ u) (sym after) ∙ take-append-drop n s))
-    ∙ parts-append f t
-    ∙ ap (λ ps. ps ++ inner_parts (0 + length f + 1) t) (parts-slash f (omega (arith, size)))
-    ∙ ap (λ k. parts f ++ inner_parts k t) {x = 0 + length f + 1} {y = n + 1}
-    (omega (arith, size))
-    ∙ ap (λ ps. parts f ++ ps) (sym (ap (inner_parts n) after ∙ inner_parts-slash n t))
+    grind (arith, common_steps, take-append-drop n s, parts-append, parts-slash, inner_parts-slash)
 
 -- if n isn't 0, and s can be cut at n, the components of s are those of its first n bytes, and then
 -- the inner components of the bytes from n on
 parts-cut : (s : List ℕ) (n : ℕ) → 0 < n → n ≤ length s → CanCut s n
     → parts s ≡ parts (take n s) ++ inner_parts n (drop n s)
-parts-cut s n some inside = ⊎_elim
-    (λ begins.
-    let no : eqb n 0 ≡ false = ne_eqb n 0 (λ e. omega (arith, some, e)) in
-    parts-after s n some inside (eqb-true (get_or s (n - 1) 0) 47 (rw no at begins)))
-    (λ ends. by_test (ltb n (length s))
-    (λ e. parts-before s n some (ltb-true n (length s) e) (rank_end s n ends))
-    (λ e.
-    let end : length s ≤ n = ltb-false n (length s) e in
-    sym (ap₂ (λ t u. parts t ++ inner_parts n u) (take_all n s end) (drop_all n s end)
-    ∙ ap (λ ps. parts s ++ ps) (inner_parts-nil n) ∙ append-nil (parts s))))
+parts-cut s n some inside = grind (arith, common_steps, parts-after, parts-before, inner_parts-nil)
 
 -- a and b have at least k bytes, and if k is not 0, the bytes of a and b from k on are their rests
 -- after the same components
@@ -153,8 +130,7 @@ pub apart-unless : (a : Bor (List ℕ)) (b : List ℕ) (n : ℕ) (said : Differe
     → DifferenceShows a b n said → ((x y : Bor (List ℕ)) → said ≡ CutBefore x y → ⊥) → 0 < length b
     → IsPrefixOf (values b) (values a.now) → ⊥
 apart-unless a b n (Decided order) alike h other some = h.no_prefix
-apart-unless a b n FirstComponents alike h other some =
-    first_parts-apart a.now b n alike h some
+apart-unless a b n FirstComponents alike h other some = grind (arith, first_parts-apart)
 apart-unless a b n (CutBefore x y) alike h other some = absurd (other x y refl)
 
 -- if a and b are the rests of s and t after the same components, and the result of comparing a and
@@ -176,3 +152,6 @@ kinds-cmp CurDir CurDir = refl
 kinds-cmp ParentDir ParentDir = refl
 kinds-cmp Name Name = refl
 kinds-cmp x y = refl
+
+-- the order of two strings whose first components differ
+pub ruleset first_orders = (kinds-cmp, first_parts-cmp, values_cmp-ranks)

@@ -3,7 +3,7 @@ use Rattle.std.proofs.Common.{◌≡◌, ℕ, ◌+◌, ◌-◌, ◌≤◌, ◌<�
 use Rattle.std.proofs.Common.{sym, ap, subst, ◌∙◌, arith, take_all}
 use Rattle.std.specs.Borrow.{Bor}
 use Rattle.std.proofs.lemmas.List.{nil_from_length}
-use Rattle.unix_path.specs.Parts.{Part, parts, values}
+use Rattle.unix_path.specs.Parts.{parts, values}
 use Rattle.unix_path.specs.Slices.{EndsAt, IsTail}
 use Rattle.unix_path.specs.Prefixes.{IsPrefixOf, stripped_of}
 use Rattle.unix_path.specs.Rest.{rest}
@@ -14,6 +14,7 @@ use Rattle.unix_path.proofs.lemmas.parts.PartLemmas.{values-nil}
 use Rattle.unix_path.proofs.lemmas.rests.RestLemmas.{rest-rest}
 use Rattle.unix_path.proofs.lemmas.steps.SpanLemmas.{rest-trimmed}
 use Rattle.unix_path.proofs.lemmas.filler.TrimLemmas.{EndsInPart-drop, EndsInPart-take}
+use Rattle.std.proofs.lemmas.List.{length-take}
 
 -- the first n bytes of s have the same components as s, and are empty or end in a component
 pub record Trims (s : List ℕ) (n : ℕ) : Type 0 where
@@ -32,8 +33,7 @@ rest-trims s n h =
 -- if `Trims s n` holds, the first n bytes of s have the same components as s, without positions
 pub values-trims : (s : List ℕ) (n : ℕ) → Trims s n → values (take n s) ≡ values s
 unfolding values
-values-trims s n h = ap (map (λ (p : Part). p.value))
-    (h.same ∙ ap parts (take_all (length s) s (omega arith)))
+values-trims s n h = grind (arith, take_all)
 
 -- if `base` is empty, s starts with `base`
 pub begins-empty : (s base : List ℕ) → length base ≡ 0 → IsPrefixOf (values base) (values s)
@@ -68,5 +68,10 @@ stripped-is s base n rest_bytes whole h is tail shares not_filler =
 pub stripped-end : (path rest_bytes whole : Bor (List ℕ)) (n : ℕ) → Trims path.now n
     → whole.now ≡ take n path.now → whole.ref_ptr.1 ≡ path.ref_ptr.1 → IsTail rest_bytes whole
     → EndsAt rest_bytes path (length (rest path.now 0 0))
-stripped-end path rest_bytes whole n h is begins tail =
-    omega (arith, tail.place, begins, ap length is, ap length (rest-trims path.now n h).0)
+stripped-end path rest_bytes whole n h is begins tail = grind (arith, rest-trims)
+
+-- each string starts with the empty string
+pub ruleset empty_begins = (begins-empty)
+
+-- a string without a prefix that is empty, or without its trailing filler
+pub ruleset stripped = (begins-empty, stripped-whole, rest-trims, values-trims, length-take)

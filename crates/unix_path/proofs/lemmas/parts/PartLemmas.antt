@@ -1,18 +1,17 @@
 -- The components of a whole string, by its first byte.
-use Rattle.std.proofs.Common.{◌≡◌, ℕ, ◌+◌, ◌-◌, ◌<◌, Bool, true, false, cond, eqb, List, [], ◌∷◌}
-use Rattle.std.proofs.Common.{◌++◌, length, get_or, take, drop, map, eqb-true, refl, sym, ap, ap₂}
-use Rattle.std.proofs.Common.{◌∙◌, arith, take_all, zero-add}
+use Rattle.std.proofs.Common.{◌≡◌, ℕ, ◌<◌, Bool, true, false, cond, eqb, List, [], ◌∷◌}
+use Rattle.std.proofs.Common.{length, get_or, drop, map, eqb-true, refl, sym, ap}
+use Rattle.std.proofs.Common.{◌∙◌, arith}
 use Rattle.std.specs.List.{position_or_len}
 use Rattle.std.specs.Str.{bytes_eq}
-use Rattle.std.proofs.lemmas.Slice.Eq.{bytes_eq-Decides}
-use Rattle.std.proofs.lemmas.List.{drop_all, nil_from_length}
+use Rattle.std.proofs.lemmas.List.{nil_from_length}
+use Rattle.std.proofs.lemmas.Grind.{common_steps}
 use Rattle.unix_bytes.proofs.lemmas.lists.ListLemmas.{by_test}
 use Rattle.unix_path.proofs.lemmas.parts.PieceLemmas.{inner_parts-first, inner_parts-slash}
-use Rattle.unix_path.proofs.lemmas.parts.PieceLemmas.{parts_of_piece, first_piece}
-use Rattle.unix_path.proofs.lemmas.parts.PieceLemmas.{first_piece-other, length-first_piece}
+use Rattle.unix_path.proofs.lemmas.parts.PieceLemmas.{first_piece}
 use Rattle.unix_path.specs.Parts.{Value, parent_dir, is_rooted, CurDir, Part, RootDir, inner_parts}
-use Rattle.unix_path.specs.Parts.{cur_dir, is_slash, leading_part, parts, value_of_piece, values}
-use Rattle.unix_path.specs.Rest.{rest, span_of}
+use Rattle.unix_path.specs.Parts.{cur_dir, is_slash, leading_part, parts, values}
+use Rattle.unix_path.specs.Rest.{rest}
 use Rattle.unix_path.proofs.lemmas.parts.ValueLemmas.{first_value}
 
 abbrev root : Part
@@ -36,14 +35,7 @@ pub leading_part-name : (s : List ℕ) → eqb (get_or s 0 0) 47 ≡ false
     → leading_part s ≡ cond (bytes_eq (first_piece s) cur_dir)
     (record { start = 0; end = 1; value = CurDir } ∷ []) []
 unfolding leading_part
-leading_part-name s e =
-    rw (is_rooted-at s ∙ e) refl
-
--- if s is not empty and doesn't begin with a slash, its first piece is not empty
-pub nonempty_first_piece : (s : List ℕ) → 0 < length s → eqb (get_or s 0 0) 47 ≡ false
-    → bytes_eq (first_piece s) [] ≡ false
-nonempty_first_piece [] l e = absurd (omega arith)
-nonempty_first_piece (b ∷ s) l e = ap (λ p. bytes_eq p []) (first_piece-other b s e)
+leading_part-name s e = grind (arith, is_rooted-at)
 
 -- if s begins with a byte other than a slash, the components of s are the component of its first
 -- piece, and then the inner components of the bytes after this piece
@@ -55,23 +47,7 @@ pub parts-name : (s : List ℕ) → 0 < length s → eqb (get_or s 0 0) 47 ≡ f
     } ∷ inner_parts (position_or_len is_slash s)
     (drop (position_or_len is_slash s) s)
 unfolding parts
-parts-name s l e =
-    let n = position_or_len is_slash s in
-    let p = first_piece s in
-    let tail = inner_parts n (drop n s) in
-    let all : parts s ≡ cond (bytes_eq p cur_dir)
-    (record { start = 0; end = 1; value = CurDir } ∷ []) [] ++ (parts_of_piece 0 p ++ tail) =
-    ap₂ ◌++◌ (leading_part-name s e)
-    (inner_parts-first 0 s
-    ∙ ap (λ k. parts_of_piece 0 p ++ inner_parts k (drop n s)) (zero-add n)) in
-    let some = nonempty_first_piece s l e in
-    by_test (bytes_eq p cur_dir)
-    (λ dot. all ∙ rw (some, dot)
-    (ap (λ k. record { start = 0; end = k; value = CurDir } ∷ tail)
-    (sym (ap length ((bytes_eq-Decides p cur_dir).0 dot)) ∙ length-first_piece s)))
-    (λ no. all ∙ rw (some, no)
-    (ap (λ k. record { start = 0; end = k; value = value_of_piece p } ∷ tail)
-    (zero-add (length p) ∙ length-first_piece s)))
+parts-name s l e = grind (arith, common_steps, leading_part-name, inner_parts-first)
 
 pub values-nil : values [] ≡ []
 unfolding values parts leading_part inner_parts
@@ -79,8 +55,7 @@ values-nil = refl
 
 pub rest-nil : (k m : ℕ) → rest [] k m ≡ []
 unfolding rest parts leading_part inner_parts
-rest-nil k m = ap (λ ps. span_of [] (take (0 - (k + m)) ps)) (drop_all k [] (omega arith))
-    ∙ ap (span_of []) (take_all (0 - (k + m)) [] (omega arith))
+rest-nil k m = grind arith
 
 pub parts-nil : parts [] ≡ []
 unfolding parts leading_part inner_parts

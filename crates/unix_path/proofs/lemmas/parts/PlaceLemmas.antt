@@ -1,11 +1,10 @@
 -- If a string is moved, the positions of its components move with it, and the components stay the
 -- same.
-use Rattle.std.proofs.Common.{◌≡◌, ℕ, ◌+◌, List, [], ◌∷◌, length, map, refl, ap, ap₂, ◌∙◌, arith}
+use Rattle.std.proofs.Common.{◌≡◌, ℕ, ◌+◌, List, [], ◌∷◌, length, map, refl, ap, arith}
 use Rattle.std.specs.List.{slice_split}
-use Rattle.unix_bytes.proofs.lemmas.lists.ListLemmas.{by_test}
-use Rattle.unix_path.specs.Parts.{Part, inner_parts, counts, is_slash, parts_of_pieces}
-use Rattle.unix_path.specs.Parts.{value_of_piece}
+use Rattle.unix_path.specs.Parts.{Part, inner_parts, is_slash, parts_of_pieces}
 use Rattle.unix_path.specs.Rest.{last_end}
+use Rattle.std.proofs.lemmas.List.{take_rest}
 
 -- the component p, moved by d bytes
 abbrev pub part_at : ℕ → Part → Part
@@ -15,14 +14,7 @@ part_at d p = record { start = p.start + d; end = p.end + d; value = p.value }
 parts_of_pieces-add : (at d : ℕ) (ps : List (List ℕ))
     → parts_of_pieces (at + d) ps ≡ map (part_at d) (parts_of_pieces at ps)
 parts_of_pieces-add at d [] = refl
-parts_of_pieces-add at d (p ∷ ps) =
-    let next = ap (λ n. parts_of_pieces n ps) {x = at + d + length p + 1}
-    {y = (at + length p + 1) + d} (omega arith) ∙ parts_of_pieces-add (at + length p + 1) d ps in
-    let first : at + d + length p ≡ (at + length p) + d = omega arith in
-    by_test (counts p)
-    (λ e. rw e (ap₂ (λ n ps. record { start = at + d; end = n; value = value_of_piece p } ∷ ps)
-    first next))
-    (λ e. rw e next)
+parts_of_pieces-add at d (p ∷ ps) = grind (arith, parts_of_pieces-add (at + length p + 1) d ps)
 
 -- if s is moved by d bytes, so are its inner components
 pub inner_parts-add : (at d : ℕ) (s : List ℕ)
@@ -39,9 +31,7 @@ values-part_at d (p ∷ ps) = ap (λ vs. p.value ∷ vs) (values-part_at d ps)
 -- without their positions, the inner components of s don't depend on the index `at` where s begins
 pub values-inner_parts : (at : ℕ) (s : List ℕ)
     → map (λ p. p.value) (inner_parts at s) ≡ map (λ p. p.value) (inner_parts 0 s)
-values-inner_parts at s =
-    ap (λ n. map (λ p. p.value) (inner_parts n s)) {x = at} {y = 0 + at} (omega arith)
-    ∙ ap (map (λ p. p.value)) (inner_parts-add 0 at s) ∙ values-part_at at (inner_parts 0 s)
+values-inner_parts at s = grind (arith, inner_parts-add 0 at s, values-part_at at (inner_parts 0 s))
 
 -- the index where the last of these components ends, or 0 if there is none
 abbrev pub parts_end : List Part → ℕ
@@ -58,18 +48,12 @@ last_end-part_at d p (q ∷ qs) = last_end-part_at d q qs
 pub part_at-part_at : (i j : ℕ) (ps : List Part)
     → map (part_at i) (map (part_at j) ps) ≡ map (part_at (i + j)) ps
 part_at-part_at i j [] = refl
-part_at-part_at i j (p ∷ ps) =
-    let start : p.start + j + i ≡ p.start + (i + j) = omega arith in
-    let end : p.end + j + i ≡ p.end + (i + j) = omega arith in
-    ap₂
-    (λ s e. record { start = s; end = e; value = p.value } ∷ map (part_at i) (map (part_at j) ps))
-    start end ∙ ap (λ ps. part_at (i + j) p ∷ ps) (part_at-part_at i j ps)
+part_at-part_at i j (p ∷ ps) = grind (arith, part_at-part_at i j ps)
 
 -- components that are moved by 0 are unchanged
 pub part_at-zero : (ps : List Part) → map (part_at 0) ps ≡ ps
 part_at-zero [] = refl
-part_at-zero (p ∷ ps) =
-    let start : p.start + 0 ≡ p.start = omega arith in
-    let end : p.end + 0 ≡ p.end = omega arith in
-    ap₂ (λ s e. record { start = s; end = e; value = p.value } ∷ map (part_at 0) ps) start end
-    ∙ ap (λ ps. p ∷ ps) (part_at-zero ps)
+part_at-zero (p ∷ ps) = grind (arith, part_at-zero ps)
+
+-- the components of a string without its leading filler
+pub ruleset inner_components = (values-inner_parts, take_rest)

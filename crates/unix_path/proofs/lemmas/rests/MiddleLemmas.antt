@@ -1,9 +1,10 @@
 -- The rest between the first components and the last.
 use Rattle.std.proofs.Common.{◌≡◌, ℕ, ◌+◌, ◌-◌, ◌≤◌, ltb, List, [], length, take, drop, map, sym}
 use Rattle.std.proofs.Common.{ap, ap₂, ◌∙◌, arith, take_all, length-drop, drop-drop, ltb-true, ◌∷◌}
-use Rattle.std.proofs.Common.{ltb-false, length-take-le, ◌++◌, length-append}
+use Rattle.std.proofs.Common.{ltb-false, length-take-le, ◌++◌}
 use Rattle.std.proofs.lemmas.List.{drop_all, drop-map, take-map, drop-take, length-map, length-take}
-use Rattle.std.proofs.lemmas.List.{take-take, take-append-le}
+use Rattle.std.proofs.lemmas.List.{take-take}
+use Rattle.std.proofs.lemmas.Grind.{common_steps}
 use Rattle.unix_bytes.proofs.lemmas.lists.ListLemmas.{by_test}
 use Rattle.unix_path.proofs.lemmas.parts.PlaceLemmas.{part_at}
 use Rattle.unix_path.proofs.lemmas.steps.SpanLemmas.{StandsAt, span_at, trims_end}
@@ -89,8 +90,7 @@ rest-middle s k m h = ap (span_of s) h.is ∙ span_at s h.rest_bytes h.at h.stan
 -- done in either order
 pub map-middle : {X Y : Type 0} (f : X → Y) (k m : ℕ) (xs : List X)
     → middle k m (map f xs) ≡ map f (middle k m xs)
-map-middle f k m xs = ap₂ (λ n ys. take (n - (k + m)) ys) (length-map xs f) (drop-map f k xs)
-    ∙ take-map f (length xs - (k + m)) (drop k xs)
+map-middle f k m xs = grind (arith, length-map, drop-map, take-map)
 
 -- removing k leading and m trailing elements, and then i leading and j trailing elements, is the
 -- same as removing k + i leading and m + j trailing elements
@@ -122,9 +122,4 @@ middle-middle k m i j xs =
 
 -- appending an element to a list and then removing the last element leaves the list
 pub middle-push : {X : Type 0} (xs : List X) (y : X) → middle 0 1 (xs ++ y ∷ []) ≡ xs
-middle-push xs y =
-    let n : length (xs ++ y ∷ []) - (0 + 1) ≡ length xs =
-    omega (arith, length-append xs (y ∷ [])) in
-    ap (λ k. take k (xs ++ y ∷ [])) n
-    ∙ take-append-le (length xs) xs (y ∷ []) (omega arith)
-    ∙ take_all (length xs) xs (omega arith)
+middle-push xs y = grind (arith, common_steps)

@@ -62,8 +62,7 @@ few_parts (suc n) t l = by_test (ltb 0 (length t))
 -- a path has no more components than bytes
 pub length-values : (s : List ℕ) → length (values s) ≤ length s
 unfolding values
-length-values s = omega
-    (arith, length-map (parts s) (λ p. p.value), few_parts (length s) s (omega arith))
+length-values s = grind (arith, length-map, few_parts)
 
 -- if no leading component of s is removed, the rest begins at index 0 of s
 pub middle_of-at : (s : List ℕ) (m : ℕ) → (middle_of s 0 m).at ≡ 0
@@ -75,6 +74,4 @@ pub take-rest : (s : List ℕ) (m : ℕ) → take (length (rest s 0 m)) s ≡ re
 take-rest s m =
     let h = middle_of s 0 m in
     let is = rest-middle s 0 m h in
-    ap (λ w. take (length w) s) is
-    ∙ ap (λ i. take (length h.rest_bytes) (drop i s)) (sym (middle_of-at s m))
-    ∙ h.stands ∙ sym is
+    grind (arith, middle_of-at)

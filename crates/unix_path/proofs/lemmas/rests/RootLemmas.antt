@@ -3,10 +3,9 @@ use Rattle.std.proofs.Common.{◌≡◌, ◌↔◌, ℕ, ◌+◌, ◌<◌, Bool,
 use Rattle.std.proofs.Common.{◌++◌, length, get_or, drop, map, cond, refl, sym, ap, subst, ◌∙◌}
 use Rattle.std.proofs.Common.{arith, eqb-true, length-append, ltb-true, ltb-false}
 use Rattle.std.specs.List.{position_or_len, slice_split}
-use Rattle.std.specs.Str.{bytes_eq}
 use Rattle.std.proofs.lemmas.List.{nil_from_length}
 use Rattle.unix_path.specs.Parts.{Value, RootDir, CurDir, ParentDir, Normal, is_slash}
-use Rattle.unix_path.specs.Parts.{parent_dir, counts, parts_of_pieces, value_of_piece}
+use Rattle.unix_path.specs.Parts.{parts_of_pieces}
 use Rattle.unix_path.specs.Parts.{inner_parts, values, is_rooted}
 use Rattle.unix_path.specs.Prefixes.{IsPrefixOf}
 use Rattle.unix_path.proofs.lemmas.parts.ValueLemmas.{first_value}
@@ -23,16 +22,10 @@ NoRoot (CurDir ∷ vs) = NoRoot vs
 NoRoot (ParentDir ∷ vs) = NoRoot vs
 NoRoot (Normal name ∷ vs) = NoRoot vs
 
--- prepending the component of a piece to a list without the root yields a list without the root
-no_root_cons : (p : List ℕ) (vs : List Value) → NoRoot vs → NoRoot (value_of_piece p ∷ vs)
-no_root_cons p vs h = by_test (bytes_eq p parent_dir) (λ e. rw e h) (λ e. rw e h)
-
 -- none of the components of the pieces ps is the root
 no_root_pieces : (at : ℕ) (ps : List (List ℕ)) → NoRoot (map (λ p. p.value) (parts_of_pieces at ps))
 no_root_pieces at [] = tt
-no_root_pieces at (p ∷ ps) =
-    let next = no_root_pieces (at + length p + 1) ps in
-    by_test (counts p) (λ e. rw e (no_root_cons p _ next)) (λ e. rw e next)
+no_root_pieces at (p ∷ ps) = grind (arith, no_root_pieces (at + length p + 1) ps)
 
 -- none of the inner components of s is the root
 no_root_inner : (at : ℕ) (s : List ℕ) → NoRoot (map (λ p. p.value) (inner_parts at s))
@@ -67,19 +60,10 @@ begins_by_name s l e =
       no_root = no_root_inner n (drop n s);
     }
 
--- if `root_first vs` is true, the list of only the root is a prefix of vs
-IsPrefixOf-root : (vs : List Value) → root_first vs ≡ true → IsPrefixOf (RootDir ∷ []) vs
-IsPrefixOf-root [] e = absurd (let d : false ≡ true = e in cc)
-IsPrefixOf-root (RootDir ∷ vs) e = (vs, refl)
-IsPrefixOf-root (v ∷ vs) e = absurd (let d : false ≡ true = e in cc)
-
 -- s is rooted if and only if the components of s begin with the root
 pub rooted-IsPrefixOf : (s : List ℕ) (r : Bool) → r ≡ is_rooted s
     → r ≡ true ↔ IsPrefixOf (RootDir ∷ []) (values s)
-rooted-IsPrefixOf s r e = (
-  λ rooted. IsPrefixOf-root (values s) (root_first-values s ∙ sym e ∙ rooted),
-  λ h. e ∙ sym (root_first-values s) ∙ sym (ap root_first h.1),
-)
+rooted-IsPrefixOf s r e = grind (arith, root_first-values s)
 
 -- 1 if the first component is the root, and otherwise 0
 abbrev pub root_count : List Value → ℕ
@@ -101,9 +85,7 @@ no_root_last (Normal name ∷ vs) v h r = no_root_last vs v h r
 before_last_root : (v w : Value) (more vs : List Value) → NoRoot more → v ∷ more ≡ vs ++ w ∷ []
     → w ≡ RootDir → length vs ≡ 0
 before_last_root v w more [] h e r = refl
-before_last_root v w more (x ∷ vs) h e r =
-    let tail : more ≡ vs ++ w ∷ [] = cc in
-    absurd (no_root_last vs w (subst NoRoot tail h) r)
+before_last_root v w more (x ∷ vs) h e r = grind (arith, no_root_last)
 
 -- if the last component of s is the root, it is the only component
 pub root_last : (s : List ℕ) (vs : List Value) → values s ≡ vs ++ RootDir ∷ [] → length vs ≡ 0

@@ -148,12 +148,7 @@ pub record TakesTo (t : List ℕ) (m : ℕ) : Type 0 where
 pub takes_to : (t : List ℕ) (m : ℕ) → EndsInPart t → TakesTo t m
 takes_to t zero ends =
     let all : take (length t) t ≡ t = take_all (length t) t (omega arith) in
-    record {
-      len = length t;
-      in_range = omega arith;
-      is = take_all (length (parts t) - 0) (parts t) (omega arith) ∙ ap parts (sym all);
-      ends = subst EndsInPart (sym all) ends;
-    }
+    grind (arith, take_all)
 takes_to t (suc m) ends = by_test (ltb 0 (length t))
     (λ some.
     let last = splits_last t (ltb-true _ _ some) ends in

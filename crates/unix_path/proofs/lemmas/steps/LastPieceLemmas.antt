@@ -1,64 +1,37 @@
 -- The last component of a string, by its last bytes.
 use Rattle.std.proofs.Common.{◌≡◌, ℕ, zero, suc, ◌+◌, ◌-◌, ◌<◌, true, false, ◌||◌, ◌≤◌, take, subst}
-use Rattle.std.proofs.Common.{eqb, ltb, List, [], ◌∷◌, length, get_or, drop, refl, sym, ap}
-use Rattle.std.proofs.Common.{ap₂, ◌∙◌, ⊎_elim, arith, eqb-true, lt-ltb, ltb-true}
-use Rattle.std.proofs.Common.{length-drop, get_or-drop}
+use Rattle.std.proofs.Common.{eqb, ltb, List, [], ◌∷◌, length, get_or, drop, refl, ap}
+use Rattle.std.proofs.Common.{ap₂, ◌∙◌, ⊎_elim, arith, eqb-true}
 use Rattle.std.specs.Str.{bytes_eq}
-use Rattle.std.proofs.lemmas.Bool.{or_cases, and_parts, both_ways}
+use Rattle.std.proofs.lemmas.Bool.{or_cases, and_parts}
 use Rattle.std.proofs.lemmas.List.{drop_all, drop_more}
 use Rattle.std.proofs.lemmas.Slice.Eq.{bytes_eq-Decides}
+use Rattle.std.proofs.lemmas.Grind.{common_steps}
 use Rattle.unix_path.proofs.lemmas.steps.LastLemmas.{last_counts}
 pub use Rattle.unix_path.proofs.lemmas.steps.LastLemmas.{IsLastStart}
-use Rattle.unix_bytes.proofs.lemmas.lists.ListLemmas.{by_test}
 use Rattle.unix_path.specs.Parts.{CurDir, ParentDir, Normal, cur_dir, parent_dir, parts}
 use Rattle.unix_path.specs.Scan.{ends_with_parent_dir, EndsInPart, is_trailing}
 use Rattle.unix_path.specs.Steps.{TakesLast}
 use Rattle.unix_path.proofs.lemmas.parts.ValueLemmas.{first_value}
 use Rattle.unix_path.proofs.lemmas.steps.StepLemmas.{takes_last}
 
--- if s ends in a component and isn't `.`, and the last piece of s isn't empty, then this piece
--- isn't `.`
-no_dot_piece : (s : List ℕ) (start : ℕ) → IsLastStart s start → start < length s → EndsInPart s
-    → bytes_eq s cur_dir ≡ false → bytes_eq (drop start s) cur_dir ≡ false
-no_dot_piece s zero h l ends no_dot = no_dot
-no_dot_piece s (suc k) h l ends no_dot = (last_counts s (suc k) h (omega arith) l ends).1
-
 -- if the last piece of s has two bytes, it is all of s or comes after a slash
 is_piece_start : (s : List ℕ) (start : ℕ) → IsLastStart s start → length s ≡ start + 2
     → (eqb (length s) 2 || eqb (get_or s (length s - 3) 0) 47) ≡ true
 is_piece_start s zero h n = rw n refl
-is_piece_start s (suc k) h n =
-    let slash : get_or s (length s - 3) 0 ≡ 47 =
-    ap (λ i. get_or s i 0) {x = length s - 3} {y = suc k - 1} (omega (arith, n))
-    ∙ h.after_slash (omega arith) in
-    by_test (eqb (length s) 2) (λ e. rw e refl) (λ e. rw (e, slash) refl)
+is_piece_start s (suc k) h n = grind arith
 
 -- if `ends_with_parent_dir s` is false, the last piece of s isn't `..`
 no_parent_piece : (s : List ℕ) (start : ℕ) → IsLastStart s start → start < length s
     → ends_with_parent_dir s ≡ false → bytes_eq (drop start s) parent_dir ≡ false
-no_parent_piece s start h l no_parent =
-    by_test (bytes_eq (drop start s) parent_dir)
-    (λ e.
-    let two = (bytes_eq-Decides (drop start s) parent_dir).0 e in
-    let n : length s ≡ start + 2 = omega (arith, ap length two, length-drop start s) in
-    let last : get_or s (length s - 1) 0 ≡ 46 =
-    ap (λ i. get_or s i 0) {x = length s - 1} {y = start + 1} (omega (arith, n))
-    ∙ sym (get_or-drop start s 1 0) ∙ ap (λ t. get_or t 1 0) two in
-    let before : get_or s (length s - 2) 0 ≡ 46 =
-    ap (λ i. get_or s i 0) {x = length s - 2} {y = start + 0} (omega (arith, n))
-    ∙ sym (get_or-drop start s 0 0) ∙ ap (λ t. get_or t 0 0) two in
-    let hit : ends_with_parent_dir s ≡ true =
-    rw (last, before, is_piece_start s start h n, lt-ltb 1 (length s) (omega (arith, n))) refl in
-    absurd (both_ways _ no_parent hit))
-    (λ e. e)
+no_parent_piece s start h l no_parent = grind (arith, common_steps)
 
 -- if s ends in a component and isn't `.`, and the last piece of s is neither empty nor `..`, then
 -- this piece is a name
 pub last_name : (s : List ℕ) (start : ℕ) → IsLastStart s start → start < length s → EndsInPart s
     → bytes_eq s cur_dir ≡ false → ends_with_parent_dir s ≡ false
     → first_value (drop start s) ≡ Normal (drop start s)
-last_name s start h l ends no_dot no_parent =
-    rw (no_dot_piece s start h l ends no_dot, no_parent_piece s start h l no_parent) refl
+last_name s start h l ends no_dot no_parent = grind (arith, no_parent_piece, last_counts)
 
 -- if s ends in a component, its last piece is neither empty nor `.` nor `..`, and the first n bytes
 -- of s are the bytes before this piece without trailing filler, then removing the last component of
@@ -73,9 +46,7 @@ takes_last_name s start n h l ends no_dot no_parent before same trimmed =
 
 -- if the last piece of s is `..`, s has at least two bytes
 pub length-with_parent : (s : List ℕ) → ends_with_parent_dir s ≡ true → 1 < length s
-length-with_parent s e =
-    let all = and_parts (eqb (get_or s (length s - 1) 0) 46) _ e in
-    ltb-true _ _ (and_parts (ltb 1 (length s)) _ all.1).0
+length-with_parent s e = grind arith
 
 -- if `ends_with_parent_dir s` is true, the last piece of s is `..`, and begins two bytes before the
 -- end of s

@@ -1,14 +1,14 @@
 -- Where the components of a string begin and end.
-use Rattle.std.proofs.Common.{◌≡◌, ℕ, ◌+◌, ◌-◌, ◌≤◌, ◌<◌, eqb, ltb, List, [], ◌∷◌, ◌++◌, length}
-use Rattle.std.proofs.Common.{get_or, take, drop, map, refl, sym, ap, ap₂, ◌∙◌, arith, eqb-true}
-use Rattle.std.proofs.Common.{take_all, ltb-true, ltb-false, length-take-le, subst, length-append}
-use Rattle.std.proofs.lemmas.List.{nil_from_length, take-append-le}
+use Rattle.std.proofs.Common.{◌≡◌, ℕ, ◌-◌, ◌≤◌, ◌<◌, ltb, List, [], ◌∷◌, ◌++◌, length}
+use Rattle.std.proofs.Common.{get_or, take, drop, map, refl, sym, ap, ◌∙◌, arith}
+use Rattle.std.proofs.Common.{take_all, ltb-true, ltb-false, length-take-le, subst}
+use Rattle.std.proofs.lemmas.Grind.{common_steps}
 use Rattle.unix_bytes.proofs.lemmas.lists.ListLemmas.{by_test}
 use Rattle.unix_path.proofs.lemmas.steps.LastLemmas.{last_part, last_start, root_alone}
 use Rattle.unix_path.proofs.lemmas.parts.PartLemmas.{parts-name, parts-none, parts-root}
 use Rattle.unix_path.proofs.lemmas.parts.PlaceLemmas.{last_end-part_at, part_at, parts_end}
-use Rattle.unix_path.proofs.lemmas.filler.TrimLemmas.{EndsInPart-take, trims_to}
-use Rattle.unix_path.specs.Parts.{Part, Value, parts}
+use Rattle.unix_path.proofs.lemmas.filler.TrimLemmas.{trims_to}
+use Rattle.unix_path.specs.Parts.{Part, parts}
 use Rattle.unix_path.specs.Rest.{last_end, rest, span_of}
 use Rattle.unix_path.specs.Scan.{EndsInPart}
 
@@ -39,51 +39,27 @@ parts_end-whole s ends =
     let size : length s ≡ 0 = omega (arith, ltb-false _ _ none) in
     ap parts_end (parts-none s size) ∙ sym size))
 
--- if the first of the components `all` begins at index 0, they span t up to the end of the last
-from_zero : (t : List ℕ) {all : List Part} {v : Value} {e : ℕ} {ps : List Part}
-    → all ≡ record { start = 0; end = e; value = v } ∷ ps → span_of t all ≡ take (parts_end all) t
-from_zero t {v = v} {e = e} {ps = ps} is =
-    ap (span_of t) is ∙ ap
-    (λ k. take k t) {x = last_end (record { start = 0; end = e; value = v }) ps - 0}
-    {y = last_end (record { start = 0; end = e; value = v }) ps} (omega arith)
-    ∙ ap (λ ps. take (parts_end ps) t) (sym is)
-
 -- in any string t, the components of s span the bytes from index 0 to the end of the last component
 -- of s
 pub span-parts : (t s : List ℕ) → span_of t (parts s) ≡ take (parts_end (parts s)) t
-span-parts t s = by_test (ltb 0 (length s))
-    (λ some. by_test (eqb (get_or s 0 0) 47)
-    (λ e. from_zero t (parts-root s (eqb-true _ 47 e)))
-    (λ e. from_zero t (parts-name s (ltb-true _ _ some) e)))
-    (λ none.
-    let is = parts-none s (omega (arith, ltb-false _ _ none)) in
-    ap (span_of t) is ∙ ap (λ ps. take (parts_end ps) t) (sym is))
+span-parts t s = grind (arith, parts-root, parts-name, parts-none)
 
 -- `rest s 0 0`, from which no component is removed, is s up to the end of its last component
 pub rest-whole : (s : List ℕ) → rest s 0 0 ≡ take (parts_end (parts s)) s
 unfolding rest
-rest-whole s = ap (span_of s) (take_all (length (parts s) - (0 + 0)) (parts s) (omega arith))
-    ∙ span-parts s s
+rest-whole s = grind (arith, take_all, span-parts)
 
 -- if the first n bytes of s have the same components as s, and are empty or end in a component,
 -- they are `rest s 0 0`
 pub rest-trimmed : (s : List ℕ) (n : ℕ) → n ≤ length s → parts (take n s) ≡ parts s
     → EndsInPart (take n s) → rest s 0 0 ≡ take n s
-rest-trimmed s n l same ends = rest-whole s
-    ∙ ap (λ k. take k s) (ap parts_end (sym same) ∙ parts_end-whole (take n s) ends
-    ∙ length-take-le n s l)
+rest-trimmed s n l same ends = grind (arith, rest-whole, parts_end-whole, length-take-le)
 
 -- if the components of s are ps and then p, the rest of s before p is what ps span
 pub rest-last : (s : List ℕ) (ps : List Part) (p : Part) → parts s ≡ ps ++ p ∷ []
     → rest s 0 1 ≡ span_of s ps
 unfolding rest
-rest-last s ps p e =
-    let n : length (ps ++ p ∷ []) - (0 + 1) ≡ length ps =
-    omega (arith, length-append ps (p ∷ [])) in
-    ap (λ all. span_of s (take (length all - (0 + 1)) all)) e
-    ∙ ap (λ k. span_of s (take k (ps ++ p ∷ []))) n
-    ∙ ap (span_of s) (take-append-le (length ps) ps (p ∷ []) (omega arith)
-    ∙ take_all (length ps) ps (omega arith))
+rest-last s ps p e = grind (arith, common_steps)
 
 -- if s is empty or ends in a component, `rest s 0 0`, from which no component is removed, is s
 pub rest-ended : (s : List ℕ) → EndsInPart s → rest s 0 0 ≡ s
@@ -102,33 +78,18 @@ span_of-part_at : (s : List ℕ) (at : ℕ) (ps : List Part) (w : List ℕ)
     → (ps ≡ [] → w ≡ []) → ((p : Part) (qs : List Part) → ps ≡ p ∷ qs → p.start ≡ 0)
     → span_of s (map (part_at at) ps) ≡ w
 span_of-part_at s at [] w span end stands none first = sym (none refl)
-span_of-part_at s at (p ∷ ps) w span end stands none first =
-    let start : p.start + at ≡ at = omega (arith, first p ps refl) in
-    let size : last_end (part_at at p) (map (part_at at) ps) - (p.start + at) ≡ length w =
-    omega (arith, last_end-part_at at p ps, first p ps refl) in
-    ap₂ (λ n i. take n (drop i s)) size start ∙ stands
+span_of-part_at s at (p ∷ ps) w span end stands none first = grind (arith, last_end-part_at)
 
 -- the first component of s begins at index 0
 first_start : (s : List ℕ) (p : Part) (qs : List Part) → parts s ≡ p ∷ qs → p.start ≡ 0
-first_start s p qs e = by_test (ltb 0 (length s))
-    (λ some. by_test (eqb (get_or s 0 0) 47)
-    (λ slash. let h = sym e ∙ parts-root s (eqb-true _ 47 slash) in start_of h)
-    (λ no. let h = sym e ∙ parts-name s (ltb-true _ _ some) no in start_of h))
-    (λ none.
-    let nil = parts-none s (omega (arith, ltb-false _ _ none)) in
-    absurd (let h = sym nil ∙ e in cc))
-  where
-    start_of : {p q : Part} {ps qs : List Part} → p ∷ ps ≡ q ∷ qs → p.start ≡ q.start
-    start_of h = cc
+first_start s p qs e = grind (arith, parts-root, parts-name, parts-none)
 
 -- if s contains w at index `at`, and w is empty or ends in a component, the components of w, moved
 -- by `at`, span w in s
 pub span_at : (s w : List ℕ) (at : ℕ) → StandsAt s at w → EndsInPart w
     → span_of s (map (part_at at) (parts w)) ≡ w
 span_at s w at stands ends =
-    let end = parts_end-whole w ends in
-    span_of-part_at s at (parts w) w (span-parts w w) end stands
-    (λ none. nil_from_length w (sym end ∙ ap parts_end none)) (first_start w)
+    grind (arith, parts_end-whole w ends, span-parts w w, first_start w, span_of-part_at)
 
 -- the first `len` bytes of s have the same components as s, and are empty or end in a component
 pub record TrimsEnd (s : List ℕ) : Type 0 where
@@ -141,13 +102,7 @@ pub record TrimsEnd (s : List ℕ) : Type 0 where
 pub trims_end : (s : List ℕ) → TrimsEnd s
 trims_end s =
     let trim = trims_to s (length s) (omega arith) in
-    record {
-      len = trim.len;
-      in_range = trim.in_range;
-      same = trim.same
-          ∙ ap parts (take_all (length s) s (omega arith));
-      ends = EndsInPart-take s trim.len trim.in_range trim.ends;
-    }
+    grind (arith, common_steps)
 
 -- the length of `rest s 0 0` is the index where the last component of s ends, or 0 if s has none
 pub length-rest_whole : (s : List ℕ) → length (rest s 0 0) ≡ parts_end (parts s)

@@ -1,8 +1,9 @@
 -- Removing one component, at either end.
 use Rattle.std.proofs.Common.{◌≡◌, ℕ, ◌-◌, ◌≤◌, ◌<◌, false, List, [], ◌∷◌, ◌++◌, length}
 use Rattle.std.proofs.Common.{get_or, take, drop, map, refl, sym, ap, ◌∙◌, arith, take_all}
-use Rattle.std.proofs.Common.{length-drop, length-take-le}
+use Rattle.std.proofs.Common.{length-take-le}
 use Rattle.std.proofs.lemmas.List.{map-append}
+use Rattle.std.proofs.lemmas.Grind.{common_steps}
 use Rattle.unix_path.proofs.lemmas.filler.FillerLemmas.{inner_parts_not_filler, parts-not_filler}
 use Rattle.unix_path.proofs.lemmas.steps.LastLemmas.{last_part, root_alone, IsLastStart}
 use Rattle.unix_path.proofs.lemmas.parts.PartLemmas.{parts-nil}
@@ -30,11 +31,7 @@ span_not_filler : (t u : List ℕ) (i : ℕ) → drop i t ≡ u → i ≤ length
     → span_of t (inner_parts i u) ≡ u
 span_not_filler t [] i is l not_filler end = ap (span_of t) (inner_parts-nil i)
 span_not_filler t (b ∷ u) i is l not_filler end =
-    let first = inner_parts_not_filler i (b ∷ u) (omega arith) (not_filler (omega arith)) in
-    let reaches = end (omega arith) in
-    let n : length (drop i t) ≡ length t - i = length-drop i t in
-    ap (span_of t) first ∙ ap (λ n. take (n - i) (drop i t)) (sym (ap parts_end first) ∙ reaches)
-    ∙ take_all (length t - i) (drop i t) (omega arith) ∙ is
+    grind (arith, common_steps, inner_parts_not_filler)
 
 -- if t is empty or ends in a component, its components are v and then the inner components of the
 -- bytes from n on, and the byte at n, if any, is not filler, then removing v leaves the bytes from

@@ -7,23 +7,23 @@ use Rattle.unix_path.specs.Parts as parts
 use Rattle.unix_path.specs.Names.{name_of, file_name_of}
 use Rattle.unix_path.proofs.lemmas.names.ParentLemmas.{file_name_of-push}
 use Rattle.unix_path.specs.declared.cursor.component.Component.{Component}
-use Rattle.unix_path.specs.declared.cursor.component.Component.TheVariants.{RootDir, CurDir}
-use Rattle.unix_path.specs.declared.cursor.component.Component.TheVariants.{ParentDir, Normal}
+use Rattle.unix_path.specs.declared.cursor.component.Component.TheVariants.{RootDir}
+use Rattle.unix_path.specs.declared.cursor.component.Component.TheVariants.{Normal}
+use Rattle.unix_path.proofs.lemmas.names.ParentLemmas.{file_name_of-none}
+use Rattle.unix_path.proofs.lemmas.names.ParentLemmas.{parent_of-none}
+use Rattle.unix_path.proofs.lemmas.names.ParentLemmas.{parent_of-root}
+use Rattle.unix_path.proofs.lemmas.names.ParentLemmas.{parent_of-push}
 
 -- a `Component` that is not `Normal` has no name
 name_of-other : (x : Component) → ((name : UnixStr) → x ≡ Normal name → ⊥)
     → None ≡ name_of (value_of x)
-name_of-other RootDir h = refl
-name_of-other CurDir h = refl
-name_of-other ParentDir h = refl
 name_of-other (Normal name) h = absurd (h name refl)
+name_of-other x h = refl
 
 -- if a `Component` isn't `RootDir`, its value isn't the root
 pub value_of-other : (x : Component) → (x ≡ RootDir → ⊥) → value_of x ≡ parts.RootDir → ⊥
 value_of-other RootDir h e = h refl
-value_of-other CurDir h e = cc
-value_of-other ParentDir h e = cc
-value_of-other (Normal name) h e = cc
+value_of-other x h e = cc
 
 -- if the last component of s is `Normal`, its name is the file name of s
 pub file_name_of-normal : {x : Component} {name : UnixStr} (s w : List ℕ)
@@ -38,3 +38,9 @@ pub file_name_of-other : (s w : List ℕ) (x : Component)
     → None ≡ file_name_of (values s)
 file_name_of-other s w x last differs =
     name_of-other x differs ∙ file_name_of-push s w (value_of x) last
+
+-- the file name of a string, found from its last component
+pub ruleset file_names = (file_name_of-none, file_name_of-normal, file_name_of-other)
+
+-- the parent of a string, found from its last component
+pub ruleset parents = (parent_of-none, parent_of-root, parent_of-push, value_of-other)

@@ -1,42 +1,33 @@
 -- The range between two indices of a string, from which components are removed at either end.
-use Rattle.std.proofs.Common.{◌≡◌, ℕ, ◌+◌, ◌-◌, ◌≤◌, ◌<◌, Bool, true, false, ◌&&◌, ◌||◌, eqb}
-use Rattle.std.proofs.Common.{ltb, List, [], ◌∷◌, ◌++◌, length, get_or, take, drop, map, refl, sym}
-use Rattle.std.proofs.Common.{ap, subst, ◌∙◌, arith, drop-drop, take-take, eqb-true}
+use Rattle.std.proofs.Common.{◌≡◌, ℕ, ◌+◌, ◌-◌, ◌≤◌, ◌<◌, Bool, true, false, ◌&&◌}
+use Rattle.std.proofs.Common.{ltb, List, [], ◌∷◌, ◌++◌, length, take, drop, map, refl, sym}
+use Rattle.std.proofs.Common.{ap, subst, ◌∙◌, arith, drop-drop, take-take}
 use Rattle.std.proofs.Common.{ltb-true, ltb-false}
 use Rattle.std.specs.Prelude.{slice_range}
-use Rattle.std.specs.Str.{bytes_eq}
-use Rattle.std.proofs.lemmas.List.{length-map, nil_from_length, drop-take}
+use Rattle.std.proofs.lemmas.List.{nil_from_length, drop-take}
+use Rattle.std.proofs.lemmas.Grind.{common_steps}
 use Rattle.unix_path.specs.Cursor.{cursor_rest}
 use Rattle.unix_path.specs.declared.cursor.walk.Components.{Components}
-use Rattle.unix_path.specs.Parts.{Value, RootDir, CurDir, ParentDir, Normal, parts, values}
-use Rattle.unix_path.specs.Parts.{cur_dir, parent_dir}
+use Rattle.unix_path.specs.Parts.{Value, RootDir, CurDir, parts, values}
 use Rattle.unix_path.specs.Scan.{is_filler, EndsInPart}
 use Rattle.unix_path.specs.Rest.{rest}
 use Rattle.unix_path.specs.Steps.{HasLast, IsWalk, TakesFirst, StepsFirst, TakesLast}
 use Rattle.unix_bytes.proofs.lemmas.lists.ListLemmas.{by_test, length-range}
-use Rattle.unix_path.proofs.lemmas.filler.FillerLemmas.{first_piece_dot}
 use Rattle.unix_path.proofs.lemmas.names.ParentLemmas.{rest-whole_last, values-whole}
 use Rattle.unix_path.proofs.lemmas.parts.PartLemmas.{parts-nil, parts-root, parts-name}
-use Rattle.unix_path.proofs.lemmas.parts.PieceLemmas.{first_piece}
 use Rattle.unix_path.proofs.lemmas.steps.SpanLemmas.{parts_end-whole}
-use Rattle.unix_path.proofs.lemmas.parts.ValueLemmas.{first_value}
-use Rattle.unix_path.proofs.lemmas.parts.PlaceLemmas.{parts_end}
 
 -- if n is at most b - a, the range of s from a to b, without its first n bytes, is the range from
 -- `a + n` to b
 range-drop : (s : List ℕ) (a b n : ℕ) → n ≤ b - a
     → drop n (slice_range s a b) ≡ slice_range s (a + n) b
-range-drop s a b n l =
-    ap (λ k. drop n (take k (drop a s))) {x = b - a} {y = n + (b - (a + n))} (omega arith)
-    ∙ drop-take n (b - (a + n)) (drop a s) ∙ ap (take (b - (a + n))) (drop-drop n a s)
+range-drop s a b n l = grind (arith, drop-take n (b - (a + n)) (drop a s), drop-drop n a s)
 
 -- if n is at most b - a, the first n bytes of the range of s from a to b are the range from a to
 -- `a + n`
 range-take : (s : List ℕ) (a b n : ℕ) → n ≤ b - a
     → take n (slice_range s a b) ≡ slice_range s a (a + n)
-range-take s a b n l =
-    take-take n (b - a) (drop a s) l
-    ∙ ap (λ k. take k (drop a s)) {x = n} {y = a + n - a} (omega arith)
+range-take s a b n l = grind (arith, take-take)
 
 -- the range of s from 0 to n is the first n bytes of s
 pub range-zero : (s : List ℕ) (n : ℕ) → slice_range s 0 n ≡ take n s
@@ -51,24 +42,13 @@ lead_first _ = false
 is_filler-first : (s : List ℕ) → is_filler s 0 ≡ lead_first (values s)
 unfolding values
 is_filler-first [] = ap (λ ps. lead_first (map (λ p. p.value) ps)) (sym parts-nil)
-is_filler-first (b ∷ s) = by_test (eqb b 47)
-    (λ e. rw (parts-root (b ∷ s) (eqb-true b 47 e), e) refl)
-    (λ e. ap (λ t. t || (eqb b 46 && eqb (get_or s 0 47) 47)) e ∙ sym (first_piece_dot (b ∷ s))
-    ∙ of_piece (first_piece (b ∷ s)) _
-    ∙ ap (λ ps. lead_first (map (λ p. p.value) ps)) (sym (parts-name (b ∷ s) (omega arith) e)))
-  where
-    of_piece : (p : List ℕ) (vs : List Value)
-        → bytes_eq p cur_dir ≡ lead_first (first_value p ∷ vs)
-    of_piece p vs = by_test (bytes_eq p cur_dir)
-        (λ e. rw e refl)
-        (λ e. by_test (bytes_eq p parent_dir) (λ f. rw (e, f) refl) (λ f. rw (e, f) refl))
+is_filler-first (b ∷ s) = grind (arith, common_steps, parts-root, parts-name)
 
 -- if s and t have the same components at the same positions, both begin with the root or a leading
 -- `.`, or neither does
 pub is_filler-same : (s t : List ℕ) → parts s ≡ parts t → is_filler s 0 ≡ is_filler t 0
 unfolding values
-is_filler-same s t e = is_filler-first s ∙ ap (λ ps. lead_first (map (λ p. p.value) ps)) e
-    ∙ sym (is_filler-first t)
+is_filler-same s t e = grind (arith, is_filler-first)
 
 pub first_not_filler : (u : List ℕ) → (0 < length u → is_filler u 0 ≡ false) → false ≡ is_filler u 0
 first_not_filler [] h = refl
@@ -115,18 +95,13 @@ pub record StepsBack (s : List ℕ) (a b n : ℕ) (v : Value) : Type 0 where
 -- if u has no trailing filler and no components, it is empty
 no_values : (u : List ℕ) → EndsInPart u → values u ≡ [] → length u ≡ 0
 unfolding values
-no_values u ends e =
-    let none : parts u ≡ [] =
-    nil_from_length (parts u) (sym (length-map (parts u) (λ p. p.value)) ∙ ap length e) in
-    sym (parts_end-whole u ends) ∙ ap parts_end none
+no_values u ends e = grind (arith, parts_end-whole)
 
 lead_first-push : (vs : List Value) (v : Value) → (vs ≡ [] → ⊥)
     → lead_first (vs ++ v ∷ []) ≡ lead_first vs
 lead_first-push [] v some = absurd (some refl)
 lead_first-push (RootDir ∷ vs) v some = refl
-lead_first-push (CurDir ∷ vs) v some = refl
-lead_first-push (ParentDir ∷ vs) v some = refl
-lead_first-push (Normal name ∷ vs) v some = refl
+lead_first-push (x ∷ vs) v some = refl
 
 -- if u is t without its last component v, then u begins with the root or a leading `.` if and only
 -- if t does and u isn't empty
@@ -150,32 +125,12 @@ lead_before_last t u v n h size = by_test (ltb 0 n)
     and_false true = refl
     and_false false = refl
 
--- if removing the last component v of the range of s from a to b leaves its first n bytes, a step
--- over v moves the end of the range to a + n
-pub steps_back : (s : List ℕ) (a b n : ℕ) (v : Value) → a ≤ b → b ≤ length s
-    → n ≤ length (slice_range s a b) → TakesLast (slice_range s a b) (take n (slice_range s a b)) v
-    → StepsBack s a b n v
-steps_back s a b n v in_order in_range l takes =
-    let size = length-range s a b in_range in
-    let is = range-take s a b n (omega arith) in
-    let moved : TakesLast (slice_range s a b) (slice_range s a (a + n)) v =
-    subst (λ u. TakesLast (slice_range s a b) u v) is takes in
-    let before : length (slice_range s a (a + n)) ≡ n =
-    omega (arith, length-range s a (a + n)) in
-    record {
-      in_order = omega arith;
-      takes = moved;
-      lead = lead_before_last (slice_range s a b) (slice_range s a (a + n)) v n moved before;
-    }
-
 -- if removing the last component v of the rest of the walk c leaves its first n bytes, a step over
 -- v moves the `end` of c to the `start` of c, plus n
 pub walks_back : {t : List ℕ} (c : Components) (n : ℕ) (v : Value) → t ≡ cursor_rest c
     → n ≤ length t → TakesLast t (take n t) v → StepsBack c.source.now c.start c.end n v
 unfolding cursor_rest IsWalk
-walks_back c n v e l takes =
-    steps_back c.source.now c.start c.end n v c.fields.in_order c.fields.in_range
-    (subst (λ t. n ≤ length t) e l) (subst (λ t. TakesLast t (take n t) v) e takes)
+walks_back c n v e l takes = grind (arith, length-range, range-take, lead_before_last)
 
 -- if u is s without trailing filler and has `end` bytes, its last component is v, and the rest of u
 -- before v is the first `before` bytes of s, then v is the last component of s, ends at `end`, and
@@ -183,9 +138,4 @@ walks_back c n v e l takes =
 pub has_last : {u w : List ℕ} (s : List ℕ) (before end : ℕ) (v : Value) → u ≡ rest s 0 0
     → values u ≡ values w ++ v ∷ [] → w ≡ rest u 0 1 → w ≡ take before s → length u ≡ end
     → before ≤ length s → HasLast s before end v
-has_last {u} {w} s before end v whole is left at n l = record {
-  in_range = l;
-  value = sym (values-whole s u whole) ∙ is ∙ ap (λ w. values w ++ v ∷ []) at;
-  before_is = sym at ∙ rest-whole_last s whole left;
-  end_is = sym n ∙ ap length whole;
-}
+has_last {u} {w} s before end v whole is left at n l = grind (arith, values-whole, rest-whole_last)

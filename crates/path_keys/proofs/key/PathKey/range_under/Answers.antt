@@ -4,34 +4,23 @@ use Rattle.std.proofs.Common.{ℕ, List, set}
 use Rattle.std.proofs.lemmas.Bool.Decides.{nat_tests}
 use Rattle.std.proofs.lemmas.List.{nil_from_length, get_or_read}
 use Rattle.path_keys.specs.Held.{key_bytes}
-use Rattle.path_keys.specs.Ranges.{end_of, IsRangeEnd}
+use Rattle.path_keys.specs.Ranges.{IsRangeEnd}
 use Rattle.path_keys.proofs.lemmas.values.LastLemmas.{last_low}
 use Rattle.path_keys.proofs.lemmas.values.RangeLemmas.{end_of-nil, end_of-some}
 use Rattle.path_keys.proofs.lemmas.values.RangeLemmas.{range_end-none, range_end-some}
 use Rattle.path_keys.proofs.key.PathKey.range_under.Goals as goal
 
 pub returns-then-is_empty-clause-covers : goal.returns-then-is_empty-clause-covers
-returns-then-is_empty-clause-covers c =
-    let none : length (key_bytes c.args.self.now) ≡ 0 = grind (arith, nat_tests) in
-    range_end-none (key_bytes c.args.self.now) none
+returns-then-is_empty-clause-covers c = grind (arith, range_end-none)
 
 -- if `items` are the bytes of the key, which is not empty and has n bytes, the byte at index n - 1
 -- of `items` is the last byte of the key
 last_is : (key items : List ℕ) (n b : ℕ) → items ≡ key → n ≡ length key → 0 < length key
     → b ≡ get_or items (n - 1) b → b ≡ get_or key (length key - 1) 0
-last_is key items n b same long some is =
-    get_or_read key (length key - 1) b (omega arith)
-    (is ∙ ap₂ (λ xs i. get_or xs (i - 1) b) same long) 0
+last_is key items n b same long some is = grind (arith, get_or_read)
 
 pub overflow_add-index_mut : goal.overflow_add-index_mut
-overflow_add-index_mut c =
-    let key = key_bytes c.args.self.now in
-    let same : c.in_ok-end.end.items ≡ key = c.in_ok-end.ensures.items ∙ c.as_bytes-first.ensures in
-    let some : 0 < length key = grind (arith, nat_tests) in
-    let long : c.len-last.result ≡ length key =
-    c.len-last.ensures ∙ c.in_ok-end.ensures.len ∙ ap length c.as_bytes-first.ensures in
-    let last = last_is key _ _ c.index_mut.result.now same long some c.index_mut.ensures.value in
-    omega (arith, last_low key c.args.self.now.is_key some, last)
+overflow_add-index_mut c = grind (arith, last_is, last_low)
 
 pub returns-clause-covers : goal.returns-clause-covers
 returns-clause-covers c =
@@ -47,18 +36,7 @@ returns-clause-covers c =
     (range_end-some key some)
 
 pub returns-then-is_empty-clause-end : goal.returns-then-is_empty-clause-end
-returns-then-is_empty-clause-end c =
-    let none : length (key_bytes c.args.self.now) ≡ 0 = grind (arith, nat_tests) in
-    sym (ap end_of (nil_from_length (key_bytes c.args.self.now) none) ∙ end_of-nil)
+returns-then-is_empty-clause-end c = grind (arith, nil_from_length, end_of-nil)
 
 pub returns-clause-end : goal.returns-clause-end
-returns-clause-end c =
-    let key = key_bytes c.args.self.now in
-    let same : c.in_ok-end.end.items ≡ key = c.in_ok-end.ensures.items ∙ c.as_bytes-first.ensures in
-    let some : 0 < length key = grind (arith, nat_tests) in
-    let long : c.len-last.result ≡ length key =
-    c.len-last.ensures ∙ c.in_ok-end.ensures.len ∙ ap length c.as_bytes-first.ensures in
-    let last = last_is key _ _ c.index_mut.result.now same long some c.index_mut.ensures.value in
-    ap₂ (λ xs b. Some (set xs (c.len-last.result - 1) (b + 1))) same last
-    ∙ ap (λ n. Some (set key (n - 1) (get_or key (length key - 1) 0 + 1))) long
-    ∙ sym (end_of-some key some)
+returns-clause-end c = grind (arith, last_is, end_of-some)

@@ -1,12 +1,13 @@
-use Rattle.std.proofs.Common.{refl, arith}
+use Rattle.std.proofs.Common.{arith}
 use Rattle.path_runs.proofs.lemmas.gaps.GaplessLemmas.{gap_or_end-length}
-use Rattle.path_runs.proofs.lemmas.gaps.GaplessRunLemmas.{spelling_of-single}
-use Rattle.path_runs.proofs.lemmas.gaps.GapSpellingLemmas.{spelling_of-run}
+use Rattle.path_runs.proofs.lemmas.gaps.GapSpellingLemmas.{spelling_of-run, spelling_of-short}
 use Rattle.path_runs.proofs.canonical.to_buffer.canonical_prefix_len.Goals as goal
+use Rattle.path_runs.proofs.lemmas.gaps.FirstGapLemmas.{no_parts_after_end}
+use Rattle.std.proofs.lemmas.Grind.{common_steps}
 
 pub returns-then-bytes-lt2-clause-spelling : goal.returns-then-bytes-lt2-clause-spelling
 returns-then-bytes-lt2-clause-spelling c =
-    spelling_of-single c.args.bytes.now _ c.if-bytes-lt2.true refl
+    grind (arith, common_steps, spelling_of-short, no_parts_after_end)
 
 pub returns-clause-spelling : goal.returns-clause-spelling
 returns-clause-spelling c =

@@ -1,16 +1,13 @@
-use Rattle.std.proofs.Common.{◌≡◌, length, sym, ap, ◌∙◌}
+use Rattle.std.proofs.Common.{◌≡◌, length, sym, ap, ◌∙◌, arith}
 use Rattle.unix_path.specs.Buffers.{path_bytes}
 use Rattle.unix_path.specs.Edits.{popped_of}
-use Rattle.unix_path.specs.Parents.{parent_of}
 use Rattle.unix_path.proofs.lemmas.edits.EditLemmas.{popped_of-none}
 use Rattle.path_runs.proofs.lemmas.edits.EditStepLemmas.{keeps-pop}
 use Rattle.path_runs.proofs.edits.step.pop_with_cache.Goals as goal
 
 pub returns-then-is_root_with_filler-clause-bytes :
     goal.returns-then-is_root_with_filler-clause-bytes
-returns-then-is_root_with_filler-clause-bytes c = sym (popped_of-none _
-    (c.is_root_with_filler.ensures.value c.if-is_root_with_filler.true
-    ∙ ap parent_of c.bytes_of.ensures))
+returns-then-is_root_with_filler-clause-bytes c = grind (arith, popped_of-none)
 
 pub returns-clause-cache : goal.returns-clause-cache
 returns-clause-cache c =

@@ -12,21 +12,17 @@ use Rattle.path_runs.proofs.lemmas.joins.SiblingLemmas.{values-with_name_of, res
 use Rattle.std.proofs.Common.{Some, None}
 use Rattle.path_runs.proofs.laws.edits.push_then_pop.Goals as goal
 
-pub returns-clause-answers : goal.returns-clause-answers
-returns-clause-answers c = λ s n name e. ap (λ b. Plain ∷ Flag b ∷ []) (pop-answer s n name e)
-
-pub returns-clause-values : goal.returns-clause-values
-returns-clause-values c = values-popped_of
-
-pub returns-clause-parent : goal.returns-clause-parent
-returns-clause-parent c = λ s old n name f e.
-    let t = with_name_of s n in
-    let cut = name_cut s old f in
-    parent_of-name t name (values (rest s 0 1)) (values-with_name_of s old n name f e)
-    ∙ ap Some (rest-with_name_of s old n name f e)
-    ∙ sym (parent_of-name s old (values cut.prefix) cut.before)
-
-pub returns-clause-last : goal.returns-clause-last
-returns-clause-last c = λ s old n name f e.
-    ap (last_or None) (values-with_name_of s old n name f e)
-    ∙ last_or-push None (values (rest s 0 1)) (Normal name)
+pub returns : goal.returns
+returns c = record {
+  answers = λ s n name e. ap (λ b. Plain ∷ Flag b ∷ []) (pop-answer s n name e);
+  values = values-popped_of;
+  parent = λ s old n name f e.
+      let t = with_name_of s n in
+      let cut = name_cut s old f in
+      parent_of-name t name (values (rest s 0 1)) (values-with_name_of s old n name f e)
+      ∙ ap Some (rest-with_name_of s old n name f e)
+      ∙ sym (parent_of-name s old (values cut.prefix) cut.before);
+  last = λ s old n name f e.
+      ap (last_or None) (values-with_name_of s old n name f e)
+      ∙ last_or-push None (values (rest s 0 1)) (Normal name);
+}

@@ -11,8 +11,7 @@ some_byte [] h = absurd (h refl)
 some_byte (b ∷ s) h = omega arith
 
 pub returns-clause-join : goal.returns-clause-join
-returns-clause-join c = λ a b some r. values-join_of a b (some_byte a some) r
-    ∙ ap (λ vs. values a ++ vs) (sym (drop_dot-values b r))
+returns-clause-join c = grind (arith, values-join_of, some_byte, drop_dot-values)
 
 pub returns-clause-slash : goal.returns-clause-slash
 returns-clause-slash c = λ a b. ap values (sym (append_assoc a (slash ∷ []) b))

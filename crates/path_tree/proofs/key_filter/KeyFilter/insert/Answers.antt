@@ -1,4 +1,4 @@
-use Rattle.std.proofs.Common.{◌≡◌, ◌<◌, ◌≤◌, arith, bit_and, get_or, length, set, subst, sym, true}
+use Rattle.std.proofs.Common.{◌≡◌, ◌<◌, arith, bit_and, get_or, length, set, subst, sym, true}
 use Rattle.std.proofs.lemmas.List.{get_or_read}
 use Rattle.path_tree.specs.Hashed.{has_bit, hash_of}
 use Rattle.path_tree.proofs.lemmas.keys.FilterLemmas.{has_bit-kept, has_bit-outside, has_bit-set}
@@ -6,13 +6,7 @@ use Rattle.path_tree.proofs.lemmas.keys.FilterLemmas.{word_with}
 use Rattle.path_tree.proofs.key_filter.KeyFilter.insert.Goals as goal
 
 pub returns-then-slot-len-clause-contained : goal.returns-then-slot-len-clause-contained
-returns-then-slot-len-clause-contained c =
-    let words = c.args.self.now.words.items in
-    let mask = c.args.self.now.mask in
-    let hash = c.key_hash-hash.result in
-    let out : length words ≤ bit_and hash mask = omega (arith, c.len.ensures) in
-    subst (λ h. has_bit mask words h ≡ true) c.key_hash-hash.ensures
-    (has_bit-outside mask hash words out)
+returns-then-slot-len-clause-contained c = grind (arith, has_bit-outside)
 
 pub returns-clause-contained : goal.returns-clause-contained
 returns-clause-contained c =

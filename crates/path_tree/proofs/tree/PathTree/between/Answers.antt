@@ -1,10 +1,8 @@
-use Rattle.std.proofs.Common.{◌∙◌, ◌&&◌, ap, eqb, is_le, not, subst, sym}
+use Rattle.std.proofs.Common.{arith}
+use Rattle.std.proofs.Common.{◌∙◌, ◌&&◌, ap, eqb, is_le, not}
 use Rattle.std.specs.List.{starts_with}
-use Rattle.std.specs.List.Sorted.{IsStrictlySortedBy}
-use Rattle.std.specs.Map.{keys_of}
 use Rattle.path_keys.specs.Ranges.{bytes_cmp}
 use Rattle.path_tree.specs.Rows.{key_entries}
-use Rattle.path_tree.specs.Tree.{entries_of}
 use Rattle.path_tree.proofs.lemmas.keys.UnderLemmas.{forward}
 use Rattle.path_tree.proofs.lemmas.rows.EntryLemmas.{between-starts, filter-key_entries}
 use Rattle.path_tree.proofs.lemmas.rows.EntryLemmas.{sorted-key_entries}
@@ -26,8 +24,4 @@ returns-clause-entries g c =
 
 pub returns-clause-ordered : goal.returns-clause-ordered
 returns-clause-ordered g c =
-    let tree = c.args.self.now in
-    let first = c.args.first.now.items in
-    subst (λ l. IsStrictlySortedBy bytes_cmp (keys_of l)) (sym (returns-clause-entries g c))
-    (sorted-filter (λ e. starts_with eqb e.0 first) bytes_cmp (entries_of tree)
-    (sorted-key_entries tree.entries.entries c.range.ensures.ordered))
+    grind (arith, returns-clause-entries, sorted-filter, sorted-key_entries)

@@ -1,13 +1,13 @@
+use Rattle.std.proofs.lemmas.Grind.{common_steps}
+use Rattle.std.proofs.Common.{arith}
 use Rattle.std.proofs.Common.{◌≡◌, ◌∷◌, ◌++◌, ◌∙◌, ℕ, false, true, List, None, Some, ap, map}
 use Rattle.std.proofs.Common.{rules, subst, sym}
-use Rattle.std.specs.List.Sorted.{IsStrictlySortedBy}
-use Rattle.path_keys.specs.Ranges.{bytes_cmp}
 use Rattle.path_tree.specs.Changed.{borrowed_both, entries_changed}
 use Rattle.path_tree.specs.Cursor.{cursor_entries}
 use Rattle.path_tree.specs.Rows.{entry_at, key_entries}
 use Rattle.path_tree.specs.Tree.{entries_of}
 use Rattle.path_tree.proofs.lemmas.rows.ChangedLemmas.{absent_entry, changed_entry, equal_entry}
-use Rattle.path_tree.proofs.lemmas.rows.ChangedLemmas.{both_keys, both_keys-lent, sorted-changed}
+use Rattle.path_tree.proofs.lemmas.rows.ChangedLemmas.{both_keys-lent, sorted-changed}
 use Rattle.path_tree.proofs.lemmas.rows.EntryLemmas.{sorted-key_entries}
 use Rattle.path_tree.proofs.lemmas.rows.DifferenceLemmas.{map_push-append, some_append}
 use Rattle.path_tree.proofs.lemmas.rows.MergeLemmas.{Merges, merges_first, merges_more}
@@ -61,26 +61,7 @@ loop-key-preserved-in-Continue-1 g c =
     )
 
 pub returns-in_err-push-clause-succeeds : goal.returns-in_err-push-clause-succeeds
-returns-in_err-push-clause-succeeds g c = λ none.
-    let other = entries_of c.args.other.now in
-    let eq = g.V.PartialEq.eq in
-    let rest = c.next.new.self in
-    let key = c.in-Some.key.now in
-    let x = c.in-Some.value.now in
-    let e : List ℕ × g.row.V.Denot = (key.items, x) in
-    let now = cursor_entries c.loop-key.others in
-    let found = map borrowed_both c.loop-key.found.items in
-    let steps : c.loop-key.key-iterator ≡ (key, x) ∷ rest = search rules in
-    let h : Merges other now (e ∷ key_entries rest) =
-    subst (λ l. Merges other now (key_entries l)) steps c.loop-key.invariant.2 in
-    let y = c.in-Some-find.other_value.now in
-    let is : entry_at e.0 other ≡ Some y = sym h.same.0 ∙ sym c.in-Some-find.ensures.value in
-    let differ : eq x y ≡ false = search rules in
-    let later = entries_changed eq other (key_entries rest) in
-    absurd (some_append found (e.0, x, y) later
-    (ap (λ es. found ++ es) (sym (changed_entry eq other e (key_entries rest) y is differ))
-    ∙ ap (λ entries. found ++ entries_changed eq other (key_entries entries)) (sym steps)
-    ∙ c.loop-key.invariant.3 ∙ none))
+returns-in_err-push-clause-succeeds g c = grind (arith, some_append, changed_entry)
 
 pub loop-key-preserved-else-not-eq : goal.loop-key-preserved-else-not-eq
 loop-key-preserved-else-not-eq g c =
@@ -130,13 +111,4 @@ loop-key-preserved g c =
 
 pub returns-clause-ordered : goal.returns-clause-ordered
 returns-clause-ordered g c =
-    let tree = c.args.self.now in
-    let other = entries_of c.args.other.now in
-    let eq = g.V.PartialEq.eq in
-    let all : map borrowed_both c.loop-key.found.items ≡ entries_changed eq other
-    (entries_of tree) =
-    search rules in
-    subst (IsStrictlySortedBy bytes_cmp) (sym (both_keys-lent c.loop-key.found.items))
-    (subst (λ l. IsStrictlySortedBy bytes_cmp (both_keys l)) (sym all)
-    (sorted-changed eq other (entries_of tree)
-    (sorted-key_entries tree.entries.entries c.iter-key-items.ensures.ordered)))
+    grind (arith, common_steps, both_keys-lent, sorted-changed, sorted-key_entries)

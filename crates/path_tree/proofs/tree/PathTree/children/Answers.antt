@@ -11,7 +11,7 @@ use Rattle.path_tree.proofs.lemmas.children.ChildWalkLemmas.{FindsChildren, begi
 use Rattle.path_tree.proofs.lemmas.children.ChildWalkLemmas.{found_all, found_at_end, longer}
 use Rattle.path_tree.proofs.lemmas.children.ChildWalkLemmas.{not_none, not_none_found, passed_fewer}
 use Rattle.path_tree.proofs.lemmas.children.ChildWalkLemmas.{passes, rest_own, starts}
-use Rattle.path_tree.proofs.lemmas.keys.ChildKeyLemmas.{ChildKey, child_begins, child_is_key}
+use Rattle.path_tree.proofs.lemmas.keys.ChildKeyLemmas.{child_begins, child_is_key}
 use Rattle.path_tree.proofs.lemmas.rows.DifferenceLemmas.{map_push-append}
 use Rattle.path_tree.proofs.tree.PathTree.children.Goals as goal
 use Rattle.path_tree.proofs.tree.PathTree.children.Goals.{
@@ -27,39 +27,15 @@ without None key k fails is = tt
 without (Some child) key k fails is = ap (λ k. starts_with eqb k child.now) (sym is) ∙ fails
 
 pub loop-key-init : goal.loop-key-init
-loop-key-init g c =
-    let tree = c.args.self.now in
-    let base = c.vec_of-base.result.now.items in
-    subst (λ l. FindsChildren base tree.entries.entries _ c.range-rest.result
-    (map borrowed_child l))
-    (sym c.new-found.ensures.items)
-    (starts base tree.entries.entries c.range-rest.ensures.ordered c.range-rest.result
-    (c.range-rest.ensures.between tt))
-
-pub set_end-requires-clause-own : goal.set_end-requires-clause-own
-set_end-requires-clause-own g c =
-    let is = c.in-Some-begun_by.ensures.some in
-    let base = c.vec_of-base.result.now.items in
-    let child : ChildKey base c.in-Some-begun_by.child.now =
-    subst (λ o. IfSome o (ChildKey base)) is.0 c.loop-key.invariant.last_is in
-    child.own
-
-pub set_end-requires-clause-some : goal.set_end-requires-clause-some
-set_end-requires-clause-some g c =
-    let is = c.in-Some-begun_by.ensures.some in
-    let base = c.vec_of-base.result.now.items in
-    let child : ChildKey base c.in-Some-begun_by.child.now =
-    subst (λ o. IfSome o (ChildKey base)) is.0 c.loop-key.invariant.last_is in
-    child.some
+loop-key-init g c = grind (arith, starts)
 
 pub returns-in_err-set_end-clause-succeeds : goal.returns-in_err-set_end-clause-succeeds
 returns-in_err-set_end-clause-succeeds g c = λ none.
     let tree = c.args.self.now in
     let base = c.vec_of-base.result.now.items in
     let is = c.in-Some-begun_by.ensures.some in
-    absurd (not_none_found base tree.entries.entries c.range-rest.ensures.ordered _
-    c.in-Some-begun_by.child.now c.loop-key.rest (map borrowed_child c.loop-key.found.items)
-    c.loop-key.invariant is.0
+    absurd (not_none_found base tree.entries.entries c.range-rest.ensures.ordered
+    c.loop-key.invariant c.in-Some-begun_by.child.now is.0
     (ap (λ b. children_of b (entries_of tree)) c.vec_of-base.ensures.bytes ∙ none))
 
 pub loop-key-smaller-in-Some-begun_by : goal.loop-key-smaller-in-Some-begun_by
@@ -68,18 +44,12 @@ loop-key-smaller-in-Some-begun_by g c =
     let base = c.vec_of-base.result.now.items in
     let e : Key × g.row.V.Denot = (c.in-Some.key.now, c.in-Some.value.now) in
     let es = c.next.new.self in
-    let found = map borrowed_child c.loop-key.found.items in
-    let last : Option (List ℕ) = option_map (λ (b : Bor (List ℕ)). b.now) c.loop-key.last in
     let is = c.in-Some-begun_by.ensures.some in
     let child = c.in-Some-begun_by.child.now in
     let steps : c.loop-key.rest ≡ e ∷ es = search rules in
-    let h : FindsChildren base entries (Some child) (e ∷ es) found =
-    subst (λ o. FindsChildren base entries o (e ∷ es) found) is.0
-    (subst (λ l. FindsChildren base entries last l found) steps c.loop-key.invariant) in
-    let fewer = passed_fewer base entries c.range-rest.ensures.ordered child _ e es found h
-    (subst (IsPrefixOf child) c.deref.ensures.value is.1) c.in_ok-set_end.ensures
-    c.range-rest-in-Some-begun_by.result (c.range-rest-in-Some-begun_by.ensures.between tt) in
-    omega (arith, fewer, ap length steps)
+    passed_fewer base entries c.range-rest.ensures.ordered c.loop-key.invariant child _ is.0 e es
+    steps (subst (IsPrefixOf child) c.deref.ensures.value is.1) c.in_ok-set_end.ensures
+    c.range-rest-in-Some-begun_by.result (c.range-rest-in-Some-begun_by.ensures.between tt)
 
 pub loop-key-preserved-in-Some-begun_by : goal.loop-key-preserved-in-Some-begun_by
 loop-key-preserved-in-Some-begun_by g c =
@@ -87,18 +57,12 @@ loop-key-preserved-in-Some-begun_by g c =
     let base = c.vec_of-base.result.now.items in
     let e : Key × g.row.V.Denot = (c.in-Some.key.now, c.in-Some.value.now) in
     let es = c.next.new.self in
-    let found = map borrowed_child c.loop-key.found.items in
-    let last : Option (List ℕ) = option_map (λ (b : Bor (List ℕ)). b.now) c.loop-key.last in
     let is = c.in-Some-begun_by.ensures.some in
     let child = c.in-Some-begun_by.child.now in
     let steps : c.loop-key.rest ≡ e ∷ es = search rules in
-    let h : FindsChildren base entries (Some child) (e ∷ es) found =
-    subst (λ o. FindsChildren base entries o (e ∷ es) found) is.0
-    (subst (λ l. FindsChildren base entries last l found) steps c.loop-key.invariant) in
-    subst (λ o. FindsChildren base entries o c.range-rest-in-Some-begun_by.result found) (sym is.0)
-    (passes base entries c.range-rest.ensures.ordered child _ e es found h
+    passes base entries c.range-rest.ensures.ordered c.loop-key.invariant child _ is.0 e es steps
     (subst (IsPrefixOf child) c.deref.ensures.value is.1) c.in_ok-set_end.ensures
-    c.range-rest-in-Some-begun_by.result (c.range-rest-in-Some-begun_by.ensures.between tt))
+    c.range-rest-in-Some-begun_by.result (c.range-rest-in-Some-begun_by.ensures.between tt)
 
 pub child_key-child-requires-clause-own : goal.child_key-child-requires-clause-own
 child_key-child-requires-clause-own g c =
@@ -107,20 +71,15 @@ child_key-child-requires-clause-own g c =
     let base = c.vec_of-base.result.now.items in
     let e : Key × g.row.V.Denot = (c.in-Some.key.now, c.in-Some.value.now) in
     let es = c.next.new.self in
-    let found = map borrowed_child c.loop-key.found.items in
-    let last : Option (List ℕ) = option_map (λ (b : Bor (List ℕ)). b.now) c.loop-key.last in
     let steps : c.loop-key.rest ≡ e ∷ es = search rules in
-    let h : FindsChildren base entries last (e ∷ es) found =
-    subst (λ l. FindsChildren base entries last l found) steps c.loop-key.invariant in
-    ap is_own c.deref-in-Some-2.ensures.value ∙ rest_own entries tree.own h.before e es h.suffix
+    ap is_own c.deref-in-Some-2.ensures.value ∙ rest_own tree.own c.loop-key.invariant e es steps
 
 pub child_key-child-requires-clause-below : goal.child_key-child-requires-clause-below
 child_key-child-requires-clause-below g c =
     let base = c.vec_of-base.result.now.items in
     let begins : IsPrefixOf base c.in-Some.key.now.items =
-    begins_by c.as_slice.result.now c.deref-in-Some.result.now c.in-Some.key.now.items base
-    c.starts_with.result c.starts_with.ensures.value c.as_slice.ensures.value
-    c.deref-in-Some.ensures.value (search rules) in
+    begins_by c.starts_with.ensures.value c.as_slice.ensures.value c.deref-in-Some.ensures.value
+    (search rules) in
     subst₂ IsPrefixOf (sym c.deref-in-Some-3.ensures.value) (sym c.deref-in-Some-2.ensures.value)
     begins
 
@@ -130,18 +89,13 @@ child_key-child-requires-clause-longer g c =
     let base = c.vec_of-base.result.now.items in
     let e : Key × g.row.V.Denot = (c.in-Some.key.now, c.in-Some.value.now) in
     let es = c.next.new.self in
-    let found = map borrowed_child c.loop-key.found.items in
-    let last : Option (List ℕ) = option_map (λ (b : Bor (List ℕ)). b.now) c.loop-key.last in
     let steps : c.loop-key.rest ≡ e ∷ es = search rules in
-    let h : FindsChildren base entries last (e ∷ es) found =
-    subst (λ l. FindsChildren base entries last l found) steps c.loop-key.invariant in
     let begins : IsPrefixOf base c.in-Some.key.now.items =
-    begins_by c.as_slice.result.now c.deref-in-Some.result.now c.in-Some.key.now.items base
-    c.starts_with.result c.starts_with.ensures.value c.as_slice.ensures.value
-    c.deref-in-Some.ensures.value (search rules) in
+    begins_by c.starts_with.ensures.value c.as_slice.ensures.value c.deref-in-Some.ensures.value
+    (search rules) in
     omega (
       arith,
-      longer base entries c.range-rest.ensures.ordered last e es found h begins,
+      longer base entries c.range-rest.ensures.ordered c.loop-key.invariant e es steps begins,
       ap length c.deref-in-Some-3.ensures.value,
       ap length c.deref-in-Some-2.ensures.value,
     )
@@ -153,19 +107,16 @@ returns-in_err-push-clause-succeeds g c = λ none.
     let base = c.vec_of-base.result.now.items in
     let e : Key × g.row.V.Denot = (c.in-Some.key.now, c.in-Some.value.now) in
     let es = c.next.new.self in
-    let found = map borrowed_child c.loop-key.found.items in
-    let last : Option (List ℕ) = option_map (λ (b : Bor (List ℕ)). b.now) c.loop-key.last in
     let steps : c.loop-key.rest ≡ e ∷ es = search rules in
-    let h : FindsChildren base entries last (e ∷ es) found =
-    subst (λ l. FindsChildren base entries last l found) steps c.loop-key.invariant in
     let begins : IsPrefixOf base c.in-Some.key.now.items =
-    begins_by c.as_slice.result.now c.deref-in-Some.result.now c.in-Some.key.now.items base
-    c.starts_with.result c.starts_with.ensures.value c.as_slice.ensures.value
-    c.deref-in-Some.ensures.value (search rules) in
+    begins_by c.starts_with.ensures.value c.as_slice.ensures.value c.deref-in-Some.ensures.value
+    (search rules) in
     let key = c.in-Some.key.now.items in
-    let own = rest_own entries tree.own h.before e es h.suffix in
-    let more = longer base entries c.range-rest.ensures.ordered last e es found h begins in
-    absurd (not_none base entries c.range-rest.ensures.ordered last e es found h begins
+    let own = rest_own tree.own c.loop-key.invariant e es steps in
+    let more = longer base entries c.range-rest.ensures.ordered c.loop-key.invariant e es steps
+    begins in
+    absurd (not_none base entries c.range-rest.ensures.ordered c.loop-key.invariant e es steps
+    begins
     (child_is_key base key own c.vec_of-base.ensures.own begins more)
     (child_begins base key own c.vec_of-base.ensures.own begins more)
     (without c.loop-key.last c.deref.result.now key (search rules) c.deref.ensures.value)
@@ -178,18 +129,14 @@ loop-key-preserved g c =
     let base = c.vec_of-base.result.now.items in
     let e : Key × g.row.V.Denot = (c.in-Some.key.now, c.in-Some.value.now) in
     let es = c.next.new.self in
-    let found = map borrowed_child c.loop-key.found.items in
-    let last : Option (List ℕ) = option_map (λ (b : Bor (List ℕ)). b.now) c.loop-key.last in
     let steps : c.loop-key.rest ≡ e ∷ es = search rules in
-    let h : FindsChildren base entries last (e ∷ es) found =
-    subst (λ l. FindsChildren base entries last l found) steps c.loop-key.invariant in
     let begins : IsPrefixOf base c.in-Some.key.now.items =
-    begins_by c.as_slice.result.now c.deref-in-Some.result.now c.in-Some.key.now.items base
-    c.starts_with.result c.starts_with.ensures.value c.as_slice.ensures.value
-    c.deref-in-Some.ensures.value (search rules) in
+    begins_by c.starts_with.ensures.value c.as_slice.ensures.value c.deref-in-Some.ensures.value
+    (search rules) in
     let key = c.in-Some.key.now.items in
-    let own = rest_own entries tree.own h.before e es h.suffix in
-    let more = longer base entries c.range-rest.ensures.ordered last e es found h begins in
+    let own = rest_own tree.own c.loop-key.invariant e es steps in
+    let more = longer base entries c.range-rest.ensures.ordered c.loop-key.invariant e es steps
+    begins in
     let is : c.child_key-child.result.now ≡ child_of base key =
     c.child_key-child.ensures
     ∙ ap₂ child_of c.deref-in-Some-3.ensures.value c.deref-in-Some-2.ensures.value in
@@ -200,7 +147,7 @@ loop-key-preserved g c =
     c.deref-in-Some-4.ensures.value in
     subst (λ k. FindsChildren base entries (Some k) es (map borrowed_child c.push.new.self.items))
     (sym is)
-    (finds base entries c.range-rest.ensures.ordered last e es found h begins
+    (finds base entries c.range-rest.ensures.ordered c.loop-key.invariant e es steps begins
     (child_is_key base key own c.vec_of-base.ensures.own begins more)
     (child_begins base key own c.vec_of-base.ensures.own begins more)
     (without c.loop-key.last c.deref.result.now key (search rules) c.deref.ensures.value)
@@ -208,33 +155,25 @@ loop-key-preserved g c =
     (ap (map borrowed_child) c.in_ok-push.ensures.items
     ∙ sym (append-nil _)
     ∙ map_push-append borrowed_child c.loop-key.found.items c.with_value.result []
-    ∙ ap (λ r. found ++ r ∷ []) entry))
+    ∙ ap (λ r. map borrowed_child c.loop-key.found.items ++ r ∷ []) entry))
 
 pub returns-clause-entries : goal.returns-clause-entries
 returns-clause-entries g c =
     let tree = c.args.self.now in
     let entries = tree.entries.entries in
     let base = c.vec_of-base.result.now.items in
-    let found = map borrowed_child c.loop-key.found.items in
-    let last : Option (List ℕ) = option_map (λ (b : Bor (List ℕ)). b.now) c.loop-key.last in
-    let all : found ≡ children_of base (entries_of tree) =
+    let all : map borrowed_child c.loop-key.found.items ≡ children_of base (entries_of tree) =
     elim c.match-next.branch [
       | in-Some+in_default-begun_by+then-not-starts_with w ↦
           let e : Key × g.row.V.Denot = (w.in-Some.key.now, w.in-Some.value.now) in
           let es = c.next.new.self in
           let steps : c.loop-key.rest ≡ e ∷ es = search rules in
-          let h : FindsChildren base entries last (e ∷ es) found =
-          subst (λ l. FindsChildren base entries last l found) steps c.loop-key.invariant in
           let fails : w.starts_with.result ≡ false = search rules in
-          found_all base entries c.range-rest.ensures.ordered last e es found h
+          found_all base entries c.range-rest.ensures.ordered c.loop-key.invariant e es steps
           (ap₂ (starts_with eqb) (sym w.as_slice.ensures.value) (sym w.deref-in-Some.ensures.value)
           ∙ sym w.starts_with.ensures.value ∙ fails)
       | in_default w ↦
           let none : c.loop-key.rest ≡ [] = search rules in
-          found_at_end base entries c.range-rest.ensures.ordered last found
-          (subst (λ l. FindsChildren base entries last l found) none c.loop-key.invariant)
+          found_at_end base entries c.range-rest.ensures.ordered c.loop-key.invariant none
     ] in
     all ∙ ap (λ b. children_of b (entries_of tree)) c.vec_of-base.ensures.bytes
-
-pub returns-clause-ordered : goal.returns-clause-ordered
-returns-clause-ordered g c = c.loop-key.invariant.sorted

@@ -1,9 +1,8 @@
-use Rattle.std.proofs.Common.{◌≡◌, ◌∷◌, ◌++◌, ◌∙◌, ℕ, false, true, List, ap, map, not, rules, subst}
+use Rattle.std.proofs.lemmas.Grind.{common_steps}
+use Rattle.std.proofs.Common.{arith}
+use Rattle.std.proofs.Common.{◌≡◌, ◌∷◌, ◌++◌, ◌∙◌, ℕ, false, true, List, ap, map, rules, subst}
 use Rattle.std.proofs.Common.{sym}
-use Rattle.std.specs.List.Sorted.{IsStrictlySortedBy}
-use Rattle.std.specs.Map.{keys_of}
 use Rattle.std.specs.Option.{is_some}
-use Rattle.path_keys.specs.Ranges.{bytes_cmp}
 use Rattle.path_tree.specs.Cursor.{cursor_entries}
 use Rattle.path_tree.specs.Difference.{borrowed_entry, entries_lacking}
 use Rattle.path_tree.specs.Rows.{entry_at, key_entries}
@@ -59,23 +58,7 @@ loop-key-preserved-in-Continue-1 g c =
     )
 
 pub returns-in_err-push-clause-succeeds : goal.returns-in_err-push-clause-succeeds
-returns-in_err-push-clause-succeeds g c = λ none.
-    let other = entries_of c.args.other.now in
-    let rest = c.next.new.self in
-    let key = c.in-Some.key.now in
-    let e : List ℕ × g.row.V.Denot = (key.items, c.in-Some.value.now) in
-    let now = cursor_entries c.loop-key.others in
-    let found = map borrowed_entry c.loop-key.found.items in
-    let later = entries_lacking other (key_entries rest) in
-    let steps : c.loop-key.key-iterator ≡ (key, c.in-Some.value.now) ∷ rest = search rules in
-    let h : Merges other now (e ∷ key_entries rest) =
-    subst (λ l. Merges other now (key_entries l)) steps c.loop-key.invariant.2 in
-    let is : entry_at e.0 now ≡ entry_at e.0 other = h.same.0 in
-    let lacks : is_some (entry_at e.0 other) ≡ false = search rules in
-    absurd (some_append found e later
-    (ap (λ es. found ++ es) (sym (lacks_entry other e (key_entries rest) lacks))
-    ∙ ap (λ entries. found ++ entries_lacking other (key_entries entries)) (sym steps)
-    ∙ c.loop-key.invariant.3 ∙ none))
+returns-in_err-push-clause-succeeds g c = grind (arith, some_append, lacks_entry)
 
 pub loop-key-preserved : goal.loop-key-preserved
 loop-key-preserved g c =
@@ -99,11 +82,4 @@ loop-key-preserved g c =
     )
 
 pub returns-clause-ordered : goal.returns-clause-ordered
-returns-clause-ordered g c =
-    let tree = c.args.self.now in
-    let other = entries_of c.args.other.now in
-    let all : map borrowed_entry c.loop-key.found.items ≡ entries_lacking other (entries_of tree) =
-    search rules in
-    subst (λ l. IsStrictlySortedBy bytes_cmp (keys_of l)) (sym all)
-    (sorted-filter (λ e. not (is_some (entry_at e.0 other))) bytes_cmp (entries_of tree)
-    (sorted-key_entries tree.entries.entries c.iter-key-items.ensures.ordered))
+returns-clause-ordered g c = grind (arith, common_steps, sorted-filter, sorted-key_entries)

@@ -1,6 +1,4 @@
 use Rattle.std.proofs.Common.{◌≡◌, ◌∷◌, ◌++◌, ◌∙◌, [], rules, subst, sym, true}
-use Rattle.path_tree.specs.KeyFilter.{may_contain}
-use Rattle.path_tree.proofs.lemmas.keys.PassLemmas.{AllKeys-always}
 use Rattle.path_tree.proofs.lemmas.rows.SortedWalkLemmas.{Listed, listed_more, listed_none}
 use Rattle.path_tree.proofs.lemmas.rows.SortedWalkLemmas.{made_own, made_rows, rise, stops}
 use Rattle.path_tree.proofs.tree.PathTree.from_sorted.Goals as goal
@@ -43,8 +41,7 @@ invariant_of-tree g c =
     record {
       own = made_own c.loop-path.entries.items c.loop-path.yielded c.loop-path.invariant
           made c.in_ok-map_of.ensures;
-      filtered = AllKeys-always (λ k. k.items) (may_contain c.accept_all.result)
-          c.accept_all.ensures made.entries;
+      filtered = λ k d l. c.accept_all.ensures _;
     }
 
 pub returns-clause-ok : goal.returns-clause-ok

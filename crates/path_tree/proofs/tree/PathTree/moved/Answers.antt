@@ -1,5 +1,7 @@
+use Rattle.std.proofs.Common.{arith}
 use Rattle.std.proofs.Common.{◌≡◌, ◌∷◌, ◌++◌, ◌∙◌, [], List, ap, append_assoc, drop, eqb, false}
 use Rattle.std.proofs.Common.{length, refl, rules, subst, sym, true}
+use Rattle.std.proofs.lemmas.List.{map_push}
 use Rattle.std.proofs.lemmas.List.Elements.{All-head, All-tail}
 use Rattle.std.specs.List.{starts_with}
 use Rattle.unix_path.specs.Parts.{Value}
@@ -11,25 +13,16 @@ use Rattle.path_tree.proofs.lemmas.children.ChildWalkLemmas.{begins_by}
 use Rattle.path_tree.proofs.lemmas.rows.ManyLemmas.{starts_with-under}
 use Rattle.path_tree.proofs.lemmas.rows.MovedLemmas.{leaves_row, moves_row}
 use Rattle.path_tree.proofs.lemmas.keys.RowLemmas.{Own}
-use Rattle.path_tree.proofs.lemmas.rows.SortedWalkLemmas.{own_put, rows_more}
+use Rattle.path_tree.proofs.lemmas.rows.SortedWalkLemmas.{own_put}
 use Rattle.path_tree.proofs.tree.PathTree.moved.Goals as goal
 
 pub moved_key-requires-clause-own : goal.moved_key-requires-clause-own
-moved_key-requires-clause-own g c =
-    let rest = c.next.new.self in
-    let key = c.in-Some.key.now in
-    let x = c.in-Some.value.now in
-    let row : List Value × g.row.V.Denot = (key_values key.items, x) in
-    let steps : c.loop-key.key-iterator ≡ (key, x) ∷ rest = search rules in
-    let all = subst (Own (λ (k : Key). k.items)) steps c.loop-key.invariant.2 in
-    let own = All-head (λ (k : Key). is_own k.items ≡ true) _ _ all in
-    ap is_own c.deref.ensures.value ∙ own
+moved_key-requires-clause-own g c = grind (arith, All-head)
 
 pub moved_key-requires-clause-begins : goal.moved_key-requires-clause-begins
 moved_key-requires-clause-begins g c =
-    begins_by c.as_slice.result.now c.args.from.now c.deref.result.now c.args.from.now
-    c.starts_with.result c.starts_with.ensures.value
-    (c.as_slice.ensures.value ∙ sym c.deref.ensures.value) refl c.if-starts_with.true
+    begins_by c.starts_with.ensures.value (c.as_slice.ensures.value ∙ sym c.deref.ensures.value)
+    refl c.if-starts_with.true
 
 pub loop-key-preserved-in-Continue-branch-2 : goal.loop-key-preserved-in-Continue-branch-2
 loop-key-preserved-in-Continue-branch-2 g c =
@@ -57,7 +50,7 @@ loop-key-preserved-in-Continue-branch-2 g c =
       subst (Own (λ (k : Key). k.items)) (sym c.in_ok-put_last.ensures)
           (own_put k x c.in_ok-key.ensures.own c.loop-key.moved.items c.loop-key.invariant.3),
       ap (λ es. key_rows es ++ later) c.in_ok-put_last.ensures
-          ∙ ap (λ l. l ++ later) (rows_more k x c.loop-key.moved.items)
+          ∙ ap (λ l. l ++ later) (map_push _ c.loop-key.moved.items (k, x))
           ∙ append_assoc (key_rows c.loop-key.moved.items) ((key_values k.items, x) ∷ []) later
           ∙ ap (λ r. key_rows c.loop-key.moved.items ++ r ∷ later) there
           ∙ ap (λ l. key_rows c.loop-key.moved.items ++ l)

@@ -1,7 +1,6 @@
-use Rattle.std.proofs.Common.{refl, sym, ap, ap₂, ◌∙◌, ◌-◌, subst, arith}
+use Rattle.std.proofs.lemmas.Grind.{common_steps}
+use Rattle.std.proofs.Common.{refl, sym, ap, ◌∙◌, ◌-◌, subst, arith}
 use Rattle.unix_path.specs.Cursor.{cursor_rest}
-use Rattle.unix_path.specs.Prefixes.{stripped_of}
-use Rattle.unix_path.specs.Rest.{rest}
 use Rattle.unix_path.specs.Views.{value_of}
 use Rattle.path_runs.specs.Rows.{value_at}
 use Rattle.path_tree.specs.Tree.{table_of}
@@ -17,45 +16,19 @@ loop-value-init g c =
     c.components-parts.ensures.values
 
 pub rest_after-requires-clause-trimmed : goal.rest_after-requires-clause-trimmed
-rest_after-requires-clause-trimmed g c =
-    let s = c.args.path.bytes.now in
-    let whole = c.as_path-whole.ensures.bytes ∙ c.components-parts.ensures.rest in
-    ap (λ w. rest w 0 0) whole ∙ prefix-trimmed s 0 ∙ sym whole
+rest_after-requires-clause-trimmed g c = grind (arith, prefix-trimmed)
 
 pub rest_after-requires-clause-base : goal.rest_after-requires-clause-base
-rest_after-requires-clause-base g c =
-    let s = c.args.path.bytes.now in
-    let whole = c.as_path-whole.ensures.bytes ∙ c.components-parts.ensures.rest in
-    let is = c.loop-value.invariant.prefix_is in (
-      is.0,
-      c.as_path.ensures.bytes ∙ is.1 ∙ sym (ap (λ w. rest w 0 is.0) whole
-          ∙ prefix-trimmed s is.0),
-    )
+rest_after-requires-clause-base g c = grind (arith, prefix-trimmed)
 
 pub find_filtered-requires : goal.find_filtered-requires
 find_filtered-requires g c = own-of _ (cursor_rest c.loop-value.parts) c.loop-value.invariant.key_is
 
 pub returns-in-Some-clause-nearest : goal.returns-in-Some-clause-nearest
-returns-in-Some-clause-nearest g c =
-    let rows = table_of c.args.self.now in
-    let prefix = cursor_rest c.loop-value.parts in
-    is_nearest c.args.path.bytes.now c.args.key.now rows c.loop-value.end prefix _ _
-    c.loop-value.invariant
-    (c.in-Some.ensures
-    ∙ ap (λ v. value_at v rows) (values-of _ prefix c.loop-value.invariant.key_is))
-    (c.rest_after.ensures.bytes
-    ∙ ap₂ stripped_of (c.as_path-whole.ensures.bytes ∙ c.components-parts.ensures.rest)
-    c.as_path.ensures.bytes ∙ stripped-trimmed c.args.path.bytes.now prefix)
+returns-in-Some-clause-nearest g c = grind (arith, is_nearest, values-of, stripped-trimmed)
 
 pub returns-in_default-next_back-clause-none : goal.returns-in_default-next_back-clause-none
-returns-in_default-next_back-clause-none g c = λ is.
-    let rows = table_of c.args.self.now in
-    let prefix = cursor_rest c.loop-value.parts in
-    none_nearer c.args.path.bytes.now c.args.key.now rows c.loop-value.end prefix
-    c.loop-value.invariant
-    (sym (c.in_default.ensures
-    ∙ ap (λ v. value_at v rows) (values-of _ prefix c.loop-value.invariant.key_is)))
-    c.in_default-next_back.ensures.steps.item_is.0
+returns-in_default-next_back-clause-none g c = grind (arith, common_steps, none_nearer, values-of)
 
 pub overflow_sub-end : goal.overflow_sub-end
 overflow_sub-end g c =

@@ -3,7 +3,7 @@ use Rattle.path_runs.proofs.lemmas.rows.UpdateLemmas.{elsewhere-insert_entry}
 use Rattle.path_runs.specs.Rows.{value_at}
 use Rattle.path_tree.specs.KeyFilter.{may_contain}
 use Rattle.path_tree.specs.Read.{is_own, key_values}
-use Rattle.path_tree.proofs.lemmas.keys.PassLemmas.{AllKeys-insert, AllKeys-wider}
+use Rattle.path_tree.proofs.lemmas.keys.PassLemmas.{AllKeys-insert}
 use Rattle.path_tree.proofs.lemmas.keys.ReadLemmas.{own-represents}
 use Rattle.path_tree.proofs.lemmas.keys.RowLemmas.{insert-rows_by, lookup-rows_by, rows_by}
 use Rattle.path_tree.proofs.tree.PathTree.put.Goals as goal
@@ -18,8 +18,7 @@ invariant_of-self g c =
           c.insert-2.result c.insert-2.ensures.entries c.insert-2.ensures.err;
       filtered = AllKeys-insert (λ k. k.items) (may_contain filter) tree.entries.entries
           c.insert-2.new.self.entries
-          (AllKeys-wider (λ k. k.items) (may_contain tree.key_filter) (may_contain filter)
-          c.insert.ensures.kept tree.entries.entries tree.filtered)
+          (λ k d l. c.insert.ensures.kept _ (tree.filtered k d l))
           _ c.args.key c.args.value
           (ap (may_contain filter) (sym c.as_slice.ensures.value) ∙ c.insert.ensures.contained)
           c.insert-2.result c.insert-2.ensures.entries c.insert-2.ensures.err;

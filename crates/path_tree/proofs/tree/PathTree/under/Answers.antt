@@ -1,11 +1,9 @@
-use Rattle.std.proofs.Common.{◌≡◌, ◌∙◌, None, ap, eqb, rules, subst, sym, true}
+use Rattle.std.proofs.Common.{arith}
+use Rattle.std.proofs.Common.{◌≡◌, ◌∙◌, None, ap, eqb, rules, true}
 use Rattle.std.specs.List.{starts_with}
-use Rattle.std.specs.List.Sorted.{IsStrictlySortedBy}
-use Rattle.std.specs.Map.{keys_of}
 use Rattle.path_keys.specs.Held.{key_bytes}
-use Rattle.path_keys.specs.Ranges.{bytes_cmp, end_of}
+use Rattle.path_keys.specs.Ranges.{end_of}
 use Rattle.path_tree.specs.Rows.{key_entries}
-use Rattle.path_tree.specs.Tree.{entries_of}
 use Rattle.path_tree.proofs.lemmas.rows.EntryLemmas.{endless-starts, filter-key_entries}
 use Rattle.path_tree.proofs.lemmas.rows.EntryLemmas.{sorted-key_entries}
 use Rattle.path_tree.proofs.lemmas.rows.WalkLemmas.{sorted-filter}
@@ -21,9 +19,4 @@ returns-in_default-clause-entries g c =
 
 pub returns-in_default-clause-ordered : goal.returns-in_default-clause-ordered
 returns-in_default-clause-ordered g c =
-    let tree = c.args.self.now in
-    let base = key_bytes c.args.base.now in
-    subst (λ l. IsStrictlySortedBy bytes_cmp (keys_of l))
-    (sym (returns-in_default-clause-entries g c))
-    (sorted-filter (λ e. starts_with eqb e.0 base) bytes_cmp (entries_of tree)
-    (sorted-key_entries tree.entries.entries c.range.ensures.ordered))
+    grind (arith, returns-in_default-clause-entries, sorted-filter, sorted-key_entries)

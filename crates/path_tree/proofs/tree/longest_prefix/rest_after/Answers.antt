@@ -7,11 +7,7 @@ use Rattle.path_tree.proofs.lemmas.keys.RestLemmas.{rest-after, rest-none, rest_
 use Rattle.path_tree.proofs.tree.longest_prefix.rest_after.Goals as goal
 
 pub returns-then-len-eq0-clause-bytes : goal.returns-then-len-eq0-clause-bytes
-returns-then-len-eq0-clause-bytes c =
-    let none : length c.args.base.bytes.now ≡ 0 =
-    omega (arith, c.len-len.ensures, c.if-len-eq0.true, ap length c.as_unix_str.ensures.bytes) in
-    sym (rest-none c.args.path.bytes.now c.args.base.bytes.now c.requires.trimmed
-    (nil_from_length c.args.base.bytes.now none))
+returns-then-len-eq0-clause-bytes c = grind (arith, rest-none, nil_from_length)
 
 pub slice_bounds-after_filler-count : goal.slice_bounds-after_filler-count
 slice_bounds-after_filler-count c = omega (

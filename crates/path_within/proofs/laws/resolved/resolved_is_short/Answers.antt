@@ -1,8 +1,7 @@
-use Rattle.path_within.proofs.lemmas.below.BoundLemmas.{length-resolved, length-resolved_join}
+use Rattle.path_within.proofs.lemmas.below.BoundLemmas.{length-resolved}
 use Rattle.path_within.proofs.laws.resolved.resolved_is_short.Goals as goal
+use Rattle.path_within.proofs.lemmas.below.BoundLemmas.{length-join_of}
+use Rattle.std.proofs.Common.{arith}
 
-pub returns-clause-path : goal.returns-clause-path
-returns-clause-path c = length-resolved
-
-pub returns-clause-join : goal.returns-clause-join
-returns-clause-join c = length-resolved_join
+pub returns : goal.returns
+returns c = grind (arith, length-resolved, length-join_of)

@@ -1,3 +1,5 @@
+use Rattle.std.proofs.Common.{arith}
+use Rattle.std.proofs.lemmas.Grind.{common_steps}
 use Rattle.std.proofs.Common.{true, refl, sym, ◌∙◌}
 use Rattle.std.specs.Fmt.{padded}
 use Rattle.std.proofs.lemmas.Bool.{eqb-true}
@@ -31,11 +33,8 @@ returns-then-valid-clause-styled g c = λ p q.
     (c.write_lossy.ensures.styled p q)
 
 pub returns-clause-writes : goal.returns-clause-writes
-returns-clause-writes g c = λ p q.
-    let took = g.W.Write.write_str_gives in
-    let first = c.in_ok-write_chunk.ensures.writes p (refl {a = true}) in
-    has_written_of_eq took _ _ _ _ (lossy_of-split c.split_text.ensures)
-    (has_written_append took _ _ _ _ _ first (c.write_lossy-2.ensures.writes first.plain q))
+returns-clause-writes g c =
+    grind (arith, common_steps, has_written_of_eq, lossy_of-split, has_written_append)
 
 pub returns-clause-styled : goal.returns-clause-styled
 returns-clause-styled g c = λ p q.

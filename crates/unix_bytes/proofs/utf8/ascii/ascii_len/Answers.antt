@@ -1,28 +1,20 @@
-use Rattle.std.proofs.Common.{◌≡◌, ◌+◌, ◌-◌, length, take, subst, arith}
-use Rattle.std.specs.Str.{IsAscii}
+use Rattle.std.proofs.lemmas.Grind.{common_steps}
+use Rattle.std.proofs.Common.{◌≡◌, ◌+◌, ◌-◌, length, arith}
 use Rattle.unix_bytes.proofs.lemmas.vectors.LaneLemmas.{fewer_ascii, ascii_window, ascii_prefix}
 use Rattle.unix_bytes.proofs.utf8.ascii.ascii_len.Goals as goal
 
 pub returns-then-non_ascii-ne0 : goal.returns-then-non_ascii-ne0
-returns-then-non_ascii-ne0 c =
-    let prefix = ascii_prefix c.args.source.now _ _ (omega arith) c.loop-at.invariant
-    c.non_ascii_bits-non_ascii.ensures c.if-non_ascii-ne0.true in
-    record { bound = prefix.0; ascii = prefix.1; some = prefix.2 }
+returns-then-non_ascii-ne0 c = grind (arith, common_steps, ascii_prefix)
 
 pub loop-at-preserved : goal.loop-at-preserved
-loop-at-preserved c =
-    ascii_window c.args.source.now _ _ (omega arith) c.loop-at.invariant
-    c.non_ascii_bits-non_ascii.ensures
-    c.if-non_ascii-ne0.false
+loop-at-preserved c = grind (arith, common_steps, ascii_window)
 
 pub returns-then-non_ascii-eq0-clause-ascii : goal.returns-then-non_ascii-eq0-clause-ascii
 returns-then-non_ascii-eq0-clause-ascii c =
     let s = c.args.source.now in
     let before = fewer_ascii s (length s - 16) _ (omega arith) c.loop-at.invariant in
     let end : length s - 16 + 16 ≡ length s = omega arith in
-    subst (λ n. IsAscii (take n s)) end
-    (ascii_window s _ _ (omega arith) before c.non_ascii_bits-non_ascii-2.ensures
-    c.if-non_ascii-eq0.true)
+    grind (arith, common_steps, fewer_ascii, ascii_window)
 
 pub returns : goal.returns
 returns c =

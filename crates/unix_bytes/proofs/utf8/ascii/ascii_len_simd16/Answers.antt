@@ -1,3 +1,4 @@
+use Rattle.std.proofs.lemmas.Grind.{common_steps}
 use Rattle.std.proofs.Common.{◌≡◌, ◌+◌, take, subst, arith}
 use Rattle.std.specs.Int.Count.{count_trailing_zeros}
 use Rattle.std.specs.Str.{IsAscii}
@@ -24,6 +25,4 @@ returns-clause-ascii c =
     c.if-non_ascii-eq0.false).1
 
 pub returns-clause-non_ascii : goal.returns-clause-non_ascii
-returns-clause-non_ascii c =
-    (first_non_ascii c.args.source.now _ (omega arith) c.non_ascii_bits-non_ascii.ensures
-    c.if-non_ascii-eq0.false).1
+returns-clause-non_ascii c = grind (arith, common_steps, first_non_ascii)

@@ -1,4 +1,6 @@
-use Rattle.std.proofs.Common.{length, sym, ◌∙◌, refl, le_refl}
+use Rattle.std.proofs.Common.{arith}
+use Rattle.std.proofs.lemmas.Grind.{common_steps}
+use Rattle.std.proofs.Common.{refl, le_refl}
 use Rattle.unix_bytes.proofs.lemmas.prefixes.TextPrefixLemmas.{ascii_is_text, text_before}
 use Rattle.unix_bytes.proofs.lemmas.prefixes.TextPrefixLemmas.{sequence_before, no_rest}
 use Rattle.unix_bytes.proofs.lemmas.prefixes.TextPrefixLemmas.{sequences_before, broken_rest}
@@ -32,10 +34,7 @@ returns-in-Err-clause-text c =
     broken_rest c.args.source.now _ c.in-Err.size c.loop-rest.invariant c.in-Err.ensures.broken
 
 pub returns-clause-text : goal.returns-clause-text
-returns-clause-text c =
-    no_rest c.args.source.now _ c.loop-rest.invariant
-    (sym c.is_empty.ensures ∙ c.loop-rest-test.false)
+returns-clause-text c = grind (arith, common_steps, no_rest)
 
 pub returns-clause-broken : goal.returns-clause-broken
-returns-clause-broken c =
-    let s = c.args.source.now in none_at_end s (length s) (le_refl (length s))
+returns-clause-broken c = grind (arith, common_steps, none_at_end, le_refl)

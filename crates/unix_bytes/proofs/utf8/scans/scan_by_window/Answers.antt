@@ -1,3 +1,5 @@
+use Rattle.std.proofs.Common.{arith}
+use Rattle.std.proofs.lemmas.Grind.{common_steps}
 use Rattle.std.proofs.lemmas.List.{take_rest}
 use Rattle.unix_bytes.proofs.lemmas.prefixes.TextPrefixLemmas.{after_ascii, after_sequence}
 use Rattle.unix_bytes.proofs.lemmas.prefixes.TextPrefixLemmas.{text_before_broken}
@@ -31,9 +33,7 @@ returns-in-Err-clause-text c =
     c.in-Err.ensures.broken
 
 pub returns-clause-text : goal.returns-clause-text
-returns-clause-text c =
-    let so_far = c.loop-at.invariant in
-    text_to_end c.args.source.now c.loop-at.at c.loop-at-test.false so_far.within so_far.text
+returns-clause-text c = grind (arith, common_steps, text_to_end)
 
 pub returns-clause-broken : goal.returns-clause-broken
 returns-clause-broken c = none_at_end c.args.source.now c.loop-at.at c.loop-at-test.false

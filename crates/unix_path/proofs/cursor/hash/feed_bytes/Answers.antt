@@ -1,3 +1,4 @@
+use Rattle.std.proofs.lemmas.Grind.{common_steps}
 use Rattle.std.proofs.Common.{arith}
 use Rattle.std.proofs.lemmas.List.{take_rest}
 use Rattle.unix_path.proofs.lemmas.order.EightLemmas.{in_eights-more, in_eights-last}
@@ -10,7 +11,4 @@ loop-rest-preserved g c =
     rw take_rest (rw c.write.ensures (rw more at so_far))
 
 pub returns : goal.returns
-returns g c =
-    let last = in_eights-last c.loop-rest.rest.now (omega (arith, c.loop-rest-test.false)) in
-    let so_far = c.loop-rest.invariant in
-    rw c.write_u64.ensures (rw c.padded_tail.ensures (rw last at so_far))
+returns g c = grind (arith, common_steps, in_eights-last)

@@ -1,10 +1,11 @@
-use Rattle.std.proofs.Common.{◌≡◌, ◌-◌, ◌<◌, false, length, get_or, take, drop, refl}
-use Rattle.std.proofs.Common.{sym, ap, ap₂, subst, ◌∙◌, arith, eq-eqb, eqb, length-drop, rules}
+use Rattle.std.proofs.lemmas.Grind.{common_steps}
+use Rattle.std.proofs.Common.{◌≡◌, ◌-◌, false}
+use Rattle.std.proofs.Common.{sym, ap₂, subst, ◌∙◌, arith, eq-eqb, length-drop}
 use Rattle.std.specs.Ordering.{nat_cmp}
 use Rattle.std.proofs.lemmas.Bool.{false≢true}
 use Rattle.std.proofs.lemmas.List.{take_rest}
 use Rattle.std.proofs.lemmas.List.Sums.{common_prefix_len-le}
-use Rattle.unix_path.specs.Steps.{is_piece_start, piece_rank, AreApart, SharesPrefix}
+use Rattle.unix_path.specs.Steps.{is_piece_start, piece_rank, AreApart}
 use Rattle.unix_path.proofs.lemmas.order.ApartLemmas.{apart-here, apart-inside}
 use Rattle.unix_path.proofs.lemmas.order.PairLemmas.{CutsAt, cuts-begins, cuts-ends, inside_piece}
 use Rattle.unix_path.proofs.lemmas.rests.SourceLemmas.{IsTail-from}
@@ -36,9 +37,7 @@ returns-then-is_in_name-2 c =
     (second.no_end is_y) (second.no_dot is_y))
 
 pub is_piece_start-requires : goal.is_piece_start-requires
-is_piece_start-requires c =
-    let pair = c.args.self in
-    omega (arith, pair.alike, (common_prefix_len-le eqb pair.first.now pair.second.now).0)
+is_piece_start-requires c = grind (arith, common_steps, common_prefix_len-le)
 
 -- if the condition for a cut at the first difference is false, no piece of the first path begins
 -- there, and the two paths have different `piece_rank`s there
@@ -46,38 +45,13 @@ told : (c : Joined-x-y) → c.if-x-y.value ≡ false
     → (is_piece_start c.args.self.first.now c.args.self.common ≡ false)
     × (piece_rank c.args.self.first.now c.args.self.common
     ≡ piece_rank c.args.self.second.now c.args.self.common → ⊥)
-told c e = elim c.if-x-y.branch [
-  | then-x-y w ↦ absurd (false≢true (sym e ∙ w.value-is ∙ eq-eqb _ _ w.if-x-y.true))
-  | else-x-y w ↦ (
-    sym w.is_piece_start.ensures ∙ sym w.value-is ∙ e,
-    λ same. w.if-x-y.false (c.piece_rank-x.ensures ∙ same ∙ sym c.piece_rank-y.ensures),
-  )
-]
+told c e = grind (arith, common_steps, false≢true, eq-eqb)
 
 pub bounds-first-common : goal.bounds-first-common
-bounds-first-common c =
-    let pair = c.args.self in
-    let range = common_prefix_len-le eqb pair.first.now pair.second.now in
-    let no = told (goal.at.bounds-first-common c).Joined-x-y c.if-is_piece_start.false in
-    omega (arith, pair.alike, range.0, inside_piece pair.first.now pair.common no.0)
+bounds-first-common c = grind (arith, common_steps, common_prefix_len-le, told, inside_piece)
 
 pub returns-else-first-common-eq46 : goal.returns-else-first-common-eq46
-returns-else-first-common-eq46 c =
-    let pair = c.args.self in
-    let a = pair.first.now in
-    let n = pair.common in
-    let at = goal.at.returns-else-first-common-eq46 c in
-    let no = told at.Joined-x-y c.if-is_piece_start.false in
-    let dots : get_or a (n - 1) 0 ≡ 46 → is_piece_start a (n - 1) ≡ false =
-    λ e. elim c.else-first-common-eq46.branch [
-      | else-first-common-eq46-via-then-first-common-eq46+else-is_piece_start-2 w ↦
-          sym w.is_piece_start-then-first-common-eq46.ensures ∙ w.if-is_piece_start-2.false
-      | else-first-common-eq46-via-else-first-common-eq46 w ↦
-          absurd (w.if-first-common-eq46.false e)
-    ] in
-    subst (AreApart a pair.second.now) (sym (c.cmp.ensures
-    ∙ ap₂ nat_cmp c.piece_rank-x.ensures c.piece_rank-y.ensures))
-    (apart-inside a pair.second.now n pair.alike no.0 dots no.1)
+returns-else-first-common-eq46 c = grind (arith, common_steps, told, is_piece_start, apart-inside)
 
 -- both paths can be cut at `cut_index`
 cut : (c : Joined-is_piece_start) → CutsAt c.args.self.first.now c.args.self.second.now
@@ -101,30 +75,16 @@ cut c =
     ]
 
 pub slice_bounds-result-count : goal.slice_bounds-result-count
-slice_bounds-result-count c =
-    (cut (goal.at.slice_bounds-result-count c).Joined-is_piece_start).in_first
+slice_bounds-result-count c = grind (arith, common_steps, cut)
 
 pub slice_bounds-result-start : goal.slice_bounds-result-start
 slice_bounds-result-start c = slice_bounds-result-count c
 
 pub slice_bounds-result-count-2 : goal.slice_bounds-result-count-2
-slice_bounds-result-count-2 c =
-    (cut (goal.at.slice_bounds-result-count-2 c).Joined-is_piece_start).in_second
+slice_bounds-result-count-2 c = grind (arith, common_steps, cut)
 
 pub slice_bounds-result-start-2 : goal.slice_bounds-result-start-2
 slice_bounds-result-start-2 c = slice_bounds-result-count-2 c
 
 pub returns : goal.returns
-returns c =
-    let a = c.args.self.first.now in
-    let b = c.args.self.second.now in
-    let k = c.if-is_piece_start.cut_index in
-    let here = cut (goal.at.returns c).Joined-is_piece_start in
-    let some : 0 < k = omega (arith, c.if-cut_index-eq0.false) in
-    record {
-      shares = subst (λ x. SharesPrefix a b x (take (length b - k) (drop k b)))
-          (sym (take_rest a k))
-          (subst (SharesPrefix a b (drop k a)) (sym (take_rest b k)) (here.shares some));
-      shorter = omega (arith, some, here.in_first, ap length (take_rest a k), length-drop k a);
-      tail = IsTail-from _ c.args.self.first k here.in_first refl refl (search rules);
-    }
+returns c = grind (arith, common_steps, cut, take_rest, length-drop, IsTail-from)

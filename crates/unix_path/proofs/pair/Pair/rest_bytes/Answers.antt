@@ -1,3 +1,5 @@
+use Rattle.std.proofs.Common.{arith}
+use Rattle.std.proofs.lemmas.Grind.{common_steps}
 use Rattle.std.proofs.Common.{[], length, refl, sym, subst, ◌∙◌, inl, inr}
 use Rattle.std.proofs.lemmas.Bool.{false≢true}
 use Rattle.std.proofs.lemmas.List.{take_rest}
@@ -26,13 +28,4 @@ returns-then-is_piece_start-clause-begins c =
     (λ _. begins-rest_bytes (returns-then-is_piece_start-clause-rest_bytes c), λ _. refl)
 
 pub returns-in_default : goal.returns-in_default
-returns-in_default c = record {
-  begins = (
-    λ no. absurd (false≢true no),
-    λ begins. absurd (apart-unless c.args.first c.args.second.now c.common_len-common.result
-        c.first_difference.result c.common_len-common.ensures.value c.first_difference.ensures
-        c.in_default.not-CutBefore c.requires begins),
-  );
-  rest_bytes = tt;
-  tail = tt;
-}
+returns-in_default c = grind (arith, common_steps, false≢true, apart-unless)

@@ -1,4 +1,5 @@
-use Rattle.std.proofs.Common.{◌≡◌, Some, length, take, refl, sym, ◌∙◌, arith, length-take-le}
+use Rattle.std.proofs.lemmas.Grind.{common_steps}
+use Rattle.std.proofs.Common.{◌≡◌, Some, length, take, sym, ◌∙◌, arith, length-take-le}
 use Rattle.std.proofs.Common.{take-take}
 use Rattle.std.specs.Str.{bytes_eq}
 use Rattle.unix_path.specs.Edits.{before_name_of}
@@ -15,9 +16,7 @@ use Rattle.unix_path.proofs.path.Path.before_name.Goals as goal
 
 pub returns-in_default-clause-value : goal.returns-in_default-clause-value
 unfolding before_name_of
-returns-in_default-clause-value c =
-    let s = c.args.self.now.bytes.now in
-    rw (file_name_of-no_name_end s c.in_default.ensures.value) refl
+returns-in_default-clause-value c = grind (arith, common_steps, file_name_of-no_name_end)
 
 pub split_last_root_or_name-len-requires : goal.split_last_root_or_name-len-requires
 split_last_root_or_name-len-requires c =

@@ -1,10 +1,11 @@
-use Rattle.std.proofs.Common.{◌≡◌, ◌∷◌, ◌∙◌, ap, ap₂, rules, subst, sym, Greater, Equal, Less}
+use Rattle.std.proofs.Common.{arith}
+use Rattle.std.proofs.Common.{◌≡◌, ◌∷◌, ◌∙◌, ap, ap₂, subst, sym, Greater, Equal, Less}
 use Rattle.std.specs.List.Sorted.{IsStrictlySortedBy}
 use Rattle.std.specs.Map.{keys_of}
 use Rattle.path_keys.specs.Ranges.{bytes_cmp}
 use Rattle.path_tree.specs.Rows.{Key, entries_from, key_entries}
 use Rattle.path_tree.proofs.lemmas.rows.CursorLemmas.{FindsSame, entries_from-step, equal_is}
-use Rattle.path_tree.proofs.lemmas.rows.CursorLemmas.{greater_is, greater_rest, greater_same}
+use Rattle.path_tree.proofs.lemmas.rows.CursorLemmas.{greater_is, greater_rest}
 use Rattle.path_tree.proofs.lemmas.rows.CursorLemmas.{less_is, same_more}
 use Rattle.path_tree.proofs.lemmas.rows.CursorLemmas.{sorted_rest_from, value_at_end, value_first}
 use Rattle.path_tree.proofs.lemmas.rows.CursorLemmas.{value_passed}
@@ -29,13 +30,6 @@ returns-then-is_gt-clause-value g c =
     (other.items, c.in-Some.value.now) (key_entries now.rest) (ap key_entries all)
     (subst (λ l. IsStrictlySortedBy bytes_cmp (keys_of (key_entries l))) all
     (sorted-key_entries (entries_from now.next now.rest) now.sorted)) compared
-
-pub returns-then-is_gt-clause-greater : goal.returns-then-is_gt-clause-greater
-returns-then-is_gt-clause-greater g c =
-    let self = c.args.self.now in
-    let now = c.loop-self.self in
-    greater_same c.args.key.now.items (key_entries (entries_from self.next self.rest))
-    (key_entries (entries_from now.next now.rest)) c.loop-self.invariant
 
 pub invariant_of-self : goal.invariant_of-self
 invariant_of-self g c =
@@ -104,15 +98,4 @@ loop-self-preserved g c =
     (subst (λ l. FindsSame key before (key_entries l)) steps c.loop-self.invariant) compared
 
 pub returns-clause-value : goal.returns-clause-value
-returns-clause-value g c =
-    let self = c.args.self.now in
-    let now = c.loop-self.self in
-    value_at_end c.args.key.now.items (key_entries (entries_from self.next self.rest))
-    (key_entries (entries_from now.next now.rest)) c.loop-self.invariant (search rules)
-
-pub returns-clause-greater : goal.returns-clause-greater
-returns-clause-greater g c =
-    let self = c.args.self.now in
-    let now = c.loop-self.self in
-    greater_same c.args.key.now.items (key_entries (entries_from self.next self.rest))
-    (key_entries (entries_from now.next now.rest)) c.loop-self.invariant
+returns-clause-value g c = grind (arith, value_at_end)

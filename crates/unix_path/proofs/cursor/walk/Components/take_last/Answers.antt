@@ -1,6 +1,7 @@
 use Rattle.std.specs.Prelude.{slice_range}
-use Rattle.std.proofs.Common.{◌≡◌, ◌+◌, ◌&&◌, ltb, refl, ap, ◌∙◌, sym, eqb-true, arith}
+use Rattle.std.proofs.Common.{◌≡◌, ◌+◌, ◌&&◌, ltb, ap, ◌∙◌, sym, eqb-true, arith}
 use Rattle.std.proofs.lemmas.List.{nil_from_length}
+use Rattle.std.proofs.lemmas.Grind.{common_steps}
 use Rattle.unix_path.specs.Steps.{IsWalk}
 use Rattle.unix_path.specs.Cursor.{cursor_rest, cursor_source}
 use Rattle.unix_path.specs.Scan.{is_filler}
@@ -29,15 +30,7 @@ invariant_of-self c =
       | else-self w ↦ w.self-is ∙ w.if-self.false
           ∙ sym (ap (λ t. t && ltb 0 len) (was ∙ w.if-self.false)) ∙ back.lead
     ] in
-    record {
-      fields = record {
-        in_order = omega arith;
-        in_range = omega (arith, back.in_order, s.fields.in_range);
-        ends = back.takes.ends;
-        has_lead_is = s.fields.has_lead_is;
-        lead_pending_is = left;
-      };
-    }
+    grind (arith, common_steps, walks_back)
 
 pub returns-clause-steps : goal.returns-clause-steps
 unfolding cursor_rest IsWalk
@@ -45,9 +38,4 @@ returns-clause-steps c =
     let s = c.args.self.now in
     let step = c.split_last_component-len.ensures in
     let back = walks_back s _ _ c.as_path.ensures.bytes step.in_range step.takes in
-    record {
-      item_is = back.takes.value;
-      rest_is = sym back.takes.rest;
-      place_is = LiesIn-itself (cursor_source s);
-      start_is = refl;
-    }
+    grind (arith, common_steps, LiesIn-itself (cursor_source s), walks_back)

@@ -1,8 +1,8 @@
-use Rattle.std.proofs.Common.{length, sym, ap, ◌∙◌, arith, take_all, subst}
+use Rattle.std.proofs.lemmas.Grind.{common_steps}
+use Rattle.std.proofs.Common.{length, sym, ap, ◌∙◌, arith, take_all}
 use Rattle.unix_path.specs.Steps.{IsWalk}
 use Rattle.unix_path.specs.Cursor.{cursor_rest}
 use Rattle.unix_path.specs.Parts.{parts}
-use Rattle.unix_path.specs.Scan.{EndsInPart}
 use Rattle.unix_path.proofs.lemmas.walks.OffsetLemmas.{is_filler-same, range-zero}
 use Rattle.unix_path.proofs.lemmas.steps.SpanLemmas.{rest-trimmed}
 use Rattle.unix_path.proofs.lemmas.filler.TrimLemmas.{EndsInPart-take}
@@ -11,21 +11,7 @@ use Rattle.unix_path.proofs.cursor.walk.Components.whole.Goals as goal
 pub invariant_of-result : goal.invariant_of-result
 unfolding IsWalk
 invariant_of-result c =
-    let path = c.args.path.now in
-    let end = c.trimmed_len in
-    let same_bytes = range-zero path end.result in
-    let same = ap parts same_bytes ∙ end.ensures.same
-    ∙ ap parts (take_all (length path) path (omega arith)) in
-    record {
-      fields = record {
-        in_order = omega arith;
-        in_range = end.ensures.in_range;
-        ends = subst EndsInPart (sym same_bytes)
-            (EndsInPart-take path end.result end.ensures.in_range end.ensures.ends);
-        has_lead_is = c.has_lead-lead.ensures;
-        lead_pending_is = c.has_lead-lead.ensures ∙ sym (is_filler-same _ path same);
-      };
-    }
+    grind (arith, common_steps, range-zero, take_all, EndsInPart-take, is_filler-same)
 
 pub returns-clause-rest : goal.returns-clause-rest
 unfolding cursor_rest IsWalk

@@ -1,5 +1,6 @@
-use Rattle.std.proofs.Common.{◌+◌, ap, ◌∙◌, sym, eqb-true, length, arith}
+use Rattle.std.proofs.Common.{◌+◌, ◌∙◌, sym, eqb-true, arith}
 use Rattle.std.proofs.lemmas.List.{nil_from_length}
+use Rattle.std.proofs.lemmas.Grind.{common_steps}
 use Rattle.unix_path.specs.Steps.{IsWalk}
 use Rattle.unix_path.specs.Cursor.{cursor_rest, cursor_source}
 use Rattle.unix_path.proofs.lemmas.walks.CursorLemmas.{GivesFirst-none}
@@ -18,41 +19,26 @@ unfolding cursor_rest IsWalk
 invariant_of-self c =
     let s = c.args.self.now in
     let next = walks_forward s _ _ c.as_path.ensures.bytes c.split_first_component-len.ensures in
-    record {
-      fields = record {
-        in_order = next.in_order;
-        in_range = s.fields.in_range;
-        ends = next.takes.ends;
-        has_lead_is = s.fields.has_lead_is;
-        lead_pending_is = next.lead;
-      };
-    }
+    grind (arith, common_steps, walks_forward)
 
 pub returns-clause-steps : goal.returns-clause-steps
 unfolding cursor_rest IsWalk
 returns-clause-steps c =
     let s = c.args.self.now in
     let next = walks_forward s _ _ c.as_path.ensures.bytes c.split_first_component-len.ensures in
-    record {
-      item_is = next.takes.value;
-      rest_is = sym next.takes.rest;
-      place_is = LiesIn-itself (cursor_source s);
-      end_is = omega (
-        arith,
-        next.in_order,
-        length-range s.source.now s.start s.end s.fields.in_range,
-        length-range s.source.now (s.start + c.split_first_component-len.result.0) s.end
-            s.fields.in_range,
-      );
-    }
+    grind (
+      arith,
+      common_steps,
+      LiesIn-itself (cursor_source s),
+      length-range s.source.now s.start s.end s.fields.in_range,
+      length-range s.source.now (s.start + c.split_first_component-len.result.0) s.end
+          s.fields.in_range,
+      walks_forward,
+    )
 
 pub returns-clause-goes : goal.returns-clause-goes
 unfolding cursor_rest IsWalk
 returns-clause-goes c =
     let next = walks_forward c.args.self.now _ _ c.as_path.ensures.bytes
     c.split_first_component-len.ensures in
-    record {
-      on = λ _. (tt, tt, omega (arith, ap length next.takes.value));
-      keeps = tt;
-      rests = λ _. tt;
-    }
+    grind (arith, common_steps, walks_forward)
