@@ -1,5 +1,5 @@
 # The SHA-256 of asm/PROVED.txt, which tools/generate writes here.
-PROVED = 4a4167982d800136218c3c09220a18e885fdc17ece0dc7745c70d5ad99d1e5ec
+PROVED = 9ef17ee05ec7169d4306409852c1bb5fcba6f72f2e5e6f3951fd3e1c98a55acd
 PREFIX ?= /usr/local
 LIBDIR ?= $(PREFIX)/lib
 INCLUDEDIR ?= $(PREFIX)/include

@@ -19,16 +19,24 @@ Commands:\n\
 \x20 ext                  the extension: the part of the file name after its last\n\
 \x20                      dot\n\
 \x20 parts                the components, each as a record\n\
-\x20 join ROOT            ROOT joined with the path\n\
+\x20 join ROOT            ROOT joined with the path; use --beneath for a path from\n\
+\x20                      outside\n\
 \x20 strip BASE           what follows BASE, for a path that starts with it\n\
 \x20 relative --from=DIR  the relative path from DIR\n\
+\x20 key                  the key in hexadecimal: keys sort as their paths, and\n\
+\x20                      equal paths share one\n\
+\x20 unkey                the path, in canonical form, of a key in hexadecimal\n\
 \x20 escapes              the paths that leave the directory they are joined to,\n\
 \x20                      unchanged\n\
 \x20 under BASE           the paths at BASE or below it, unchanged\n\
+\x20 sort                 the paths in path order, component by component,\n\
+\x20                      unchanged\n\
+\x20 uniq                 each path once: the first of equal paths, unchanged\n\
 \x20 equal A B            nothing: the exit status says whether A and B are equal\n\
 \n\
 Options:\n\
-\x20 -z, --null           end each record with a NUL byte, not with a newline\n\
+\x20 -z, --null           end each path and each answer with a NUL byte, not with a\n\
+\x20                      newline\n\
 \x20 -p, --pair           print each path before its answer, with a tab after it\n\
 \x20                      (with -z, a NUL byte)\n\
 \x20 -q, --quiet          print nothing; only the exit status answers\n\
@@ -41,6 +49,18 @@ Exit status:\n\
 \x20 1  some path has no answer or was refused, or the answer is no\n\
 \x20 2  wrong usage; nothing was read or written\n\
 \x20 3  a read, a write or an allocation failed\n\
+\n\
+Examples:\n\
+\x20 the entries of an archive that would escape:\n\
+\x20   tar -tf x.tar | upath escapes\n\
+\x20 file names in order, each path once:\n\
+\x20   find . -print0 | upath sort -zu\n\
+\x20 the canonical form of each argument:\n\
+\x20   upath canon -- \"$@\"\n\
+\x20 the path from /usr/bin to /usr/lib:\n\
+\x20   upath relative --from=/usr/bin /usr/lib\n\
+\x20 the paths of a list at /srv or below it:\n\
+\x20   upath under /srv < list\n\
 \n\
 `upath COMMAND --help` shows the options of a command, and an example.\n";
 
@@ -137,7 +157,7 @@ const JOIN: &[u8] = b"\
 Usage: upath join [--beneath] [--in-root] [--verbatim] [OPTION]... [--] ROOT\n\
 \x20   [PATH]...\n\
 \n\
-Prints ROOT joined with the path.\n\
+Prints ROOT joined with the path; use --beneath for a path from outside.\n\
 \n\
 \x20     --beneath   refuse a path that leaves ROOT, for example an entry of an\n\
 \x20                 archive\n\
@@ -175,12 +195,37 @@ Example:\n\
 \n\
 `upath --help` shows the options of every command.\n";
 
+const KEY: &[u8] = b"\
+Usage: upath key [OPTION]... [--] [PATH]...\n\
+\n\
+Prints the key in hexadecimal: keys sort as their paths, and equal paths share\n\
+one.\n\
+\n\
+Example:\n\
+\x20 $ upath key /a.b a//b\n\
+\x20 0001612f6200\n\
+\x20 61006200\n\
+\n\
+`upath --help` shows the options of every command.\n";
+
+const UNKEY: &[u8] = b"\
+Usage: upath unkey [OPTION]... [--] [PATH]...\n\
+\n\
+Prints the path, in canonical form, of a key in hexadecimal.\n\
+\n\
+Example:\n\
+\x20 $ upath unkey 0001612f6200 61006200\n\
+\x20 /a.b\n\
+\x20 a/b\n\
+\n\
+`upath --help` shows the options of every command.\n";
+
 const ESCAPES: &[u8] = b"\
 Usage: upath escapes [-v] [--reason] [OPTION]... [--] [PATH]...\n\
 \n\
 Prints the paths that leave the directory they are joined to, unchanged.\n\
 \n\
-\x20 -v            the other paths: those that stay\n\
+\x20 -v            print the other paths: those that stay\n\
 \x20     --reason  print `root` or `climbs` and a tab before each path that escapes\n\
 \n\
 Example:\n\
@@ -194,13 +239,41 @@ Usage: upath under [-v] [--strip] [--by-parts] [OPTION]... [--] BASE [PATH]...\n
 \n\
 Prints the paths at BASE or below it, unchanged.\n\
 \n\
-\x20 -v              the other paths: those that are not\n\
+\x20 -v              print the other paths: those that are not\n\
 \x20     --strip     print what follows BASE\n\
 \x20     --by-parts  compare components, and resolve no `..`\n\
 \n\
 Example:\n\
 \x20 $ printf '/srv/a\\n/srv/../etc\\n' | upath under /srv\n\
 \x20 /srv/a\n\
+\n\
+`upath --help` shows the options of every command.\n";
+
+const SORT: &[u8] = b"\
+Usage: upath sort [-u] [-r] [OPTION]... [--] [PATH]...\n\
+\n\
+Prints the paths in path order, component by component, unchanged.\n\
+\n\
+\x20 -u  print each path once: the first of equal paths\n\
+\x20 -r  print from the last to the first\n\
+\n\
+Example:\n\
+\x20 $ printf 'a.b\\na/c\\na//b\\n' | upath sort\n\
+\x20 a//b\n\
+\x20 a/c\n\
+\x20 a.b\n\
+\n\
+`upath --help` shows the options of every command.\n";
+
+const UNIQ: &[u8] = b"\
+Usage: upath uniq [OPTION]... [--] [PATH]...\n\
+\n\
+Prints each path once: the first of equal paths, unchanged.\n\
+\n\
+Example:\n\
+\x20 $ printf 'a//b\\nc\\na/b/.\\n' | upath uniq\n\
+\x20 a//b\n\
+\x20 c\n\
 \n\
 `upath --help` shows the options of every command.\n";
 
@@ -229,8 +302,12 @@ pub fn help_of(verb: Option<Verb>) -> &'static [u8] {
         Some(Verb::Join) => JOIN,
         Some(Verb::Strip) => STRIP,
         Some(Verb::Relative) => RELATIVE,
+        Some(Verb::Key) => KEY,
+        Some(Verb::Unkey) => UNKEY,
         Some(Verb::Escapes) => ESCAPES,
         Some(Verb::Under) => UNDER,
+        Some(Verb::Sort) => SORT,
+        Some(Verb::Uniq) => UNIQ,
         Some(Verb::Equal) => EQUAL,
     }
 }

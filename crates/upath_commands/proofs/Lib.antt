@@ -1,3 +1,3 @@
 -- Attributes name their lemmas by whole paths.
 pub mod TestLemmas
-mod lemmas
+pub mod lemmas

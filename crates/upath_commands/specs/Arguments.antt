@@ -8,6 +8,7 @@ use Rattle.upath_commands.specs.declared.command.JoinRule.{JoinRule}
 use Rattle.upath_commands.specs.declared.command.JoinRule.TheVariants as rule
 use Rattle.upath_commands.specs.declared.command.Settings.{Settings}
 use Rattle.upath_commands.specs.declared.command.EscapesOptions.{EscapesOptions}
+use Rattle.upath_commands.specs.declared.command.SortOptions.{SortOptions}
 use Rattle.upath_commands.specs.declared.command.UnderOptions.{UnderOptions}
 use Rattle.upath_commands.specs.declared.items.ItemKind.TheVariants.{Operand, Value, Wrong}
 use Rattle.upath_commands.specs.declared.items.ItemKind.TheVariants as kind
@@ -88,6 +89,11 @@ under_options items = record {
   by_parts = has items option.ByParts;
 }
 
+-- the options of `sort`
+abbrev pub sort_options : List ItemValue → SortOptions
+sort_options items =
+    record { unique = has items option.Unique; reversed = has items option.Reversed }
+
 -- the options of `join`, each with its rule
 abbrev pub join_rules : List (Flag × JoinRule)
 join_rules =
@@ -108,6 +114,10 @@ join_rule items = only_rule (filter (λ row. has items row.0) join_rules)
 -- the bytes have a newline
 abbrev pub has_newline : List ℕ → Bool
 has_newline bytes = is_some (position (λ b. b == byte "\n") bytes)
+
+-- the bytes have a NUL
+abbrev pub has_zero : List ℕ → Bool
+has_zero bytes = is_some (position (λ b. b == 0) bytes)
 
 -- an operand with a newline is wrong usage if records end with newlines
 abbrev pub newline_fault : List ItemValue → List (List ℕ) → Option UsageValue
@@ -164,10 +174,16 @@ meaning_of_verb verb.Strip name items operands =
     each_after value.Strip (wrong.MissingBase, name) items operands
 meaning_of_verb verb.Relative name items operands =
     relative_meaning (from_dir items) name items operands
+meaning_of_verb verb.Key name items operands = each value.Key items operands
+meaning_of_verb verb.Unkey name items operands =
+    each (value.Unkey (has items option.Null)) items operands
 meaning_of_verb verb.Escapes name items operands =
     each (value.Escapes (escapes_options items)) items operands
 meaning_of_verb verb.Under name items operands =
     each_after (value.Under (under_options items)) (wrong.MissingBase, name) items operands
+meaning_of_verb verb.Sort name items operands =
+    each (value.Sort (sort_options items)) items operands
+meaning_of_verb verb.Uniq name items operands = each value.Uniq items operands
 meaning_of_verb verb.Equal name items operands = equal_meaning name items operands
 
 -- the meaning of the command that was found under this name

@@ -6,13 +6,16 @@ use Rattle.unix_path.specs.Names.{extension_of, file_name_of, stem_of}
 use Rattle.unix_path.specs.Parents.{parent_of}
 use Rattle.unix_path.specs.Parts.{values}
 use Rattle.path_runs.specs.Spelling.{spelling_of}
+use Rattle.path_keys.specs.Keys.{key_of}
 use Rattle.path_within.specs.Resolved.{resolved_bytes_of}
 use Rattle.upath_commands.specs.Answers.{escaping_of, joined_of, part_bytes, passed_of}
 use Rattle.upath_commands.specs.Answers.{relative_of, rest_after, rest_under}
 use Rattle.upath_commands.specs.Escaping.{escapes}
 use Rattle.upath_commands.specs.Invocations.{CommandValue, Canon, Resolve, Parent, Name, Stem}
 use Rattle.upath_commands.specs.Invocations.{Extension, Parts, PartsFromBack, Join, Strip}
-use Rattle.upath_commands.specs.Invocations.{Relative, Escapes, Under}
+use Rattle.upath_commands.specs.Invocations.{Relative, Key, Unkey, Escapes, Under, Sort, Uniq}
+use Rattle.upath_commands.specs.Hex.{hex_of}
+use Rattle.upath_commands.specs.KeyTexts.{unkey_of}
 
 -- the answer of a command that has at most one, without which the path isn't answered
 abbrev pub answer_of : CommandValue → List ℕ → Option (List ℕ)
@@ -25,6 +28,10 @@ answer_of Extension p = extension_of (values p)
 answer_of (Join rule root) p = joined_of rule root p
 answer_of (Strip base) p = rest_after base p
 answer_of (Relative from) p = relative_of from p
+answer_of Key p = Some (hex_of (key_of (values p)))
+answer_of (Unkey null) p = unkey_of null p
+answer_of (Sort options) p = Some p
+answer_of Uniq p = Some p
 answer_of _ p = None
 
 -- the records that a path is answered with

@@ -1,5 +1,5 @@
 -- Commands and invocations with bytes in place of paths.
-use Rattle.std.specs.Prelude.{ℕ, List, map, Result, Ok, Err}
+use Rattle.std.specs.Prelude.{ℕ, Bool, List, map, Result, Ok, Err}
 use Rattle.unix_path.specs.declared.path.Path.{Path}
 use Rattle.upath_commands.specs.declared.command.Command.{Command}
 use Rattle.upath_commands.specs.declared.command.Command.TheVariants as command
@@ -8,6 +8,7 @@ use Rattle.upath_commands.specs.declared.command.Invocation.{Invocation}
 use Rattle.upath_commands.specs.declared.command.Invocation.TheVariants as invocation
 use Rattle.upath_commands.specs.declared.command.JoinRule.{JoinRule}
 use Rattle.upath_commands.specs.declared.command.Settings.{Settings}
+use Rattle.upath_commands.specs.declared.command.SortOptions.{SortOptions}
 use Rattle.upath_commands.specs.declared.command.UnderOptions.{UnderOptions}
 use Rattle.upath_commands.specs.declared.usage.UsageError.{UsageError}
 use Rattle.upath_commands.specs.declared.usage.UsageErrorKind.{UsageErrorKind}
@@ -25,8 +26,12 @@ pub data CommandValue : Type 0 where
   Join : JoinRule → List ℕ → CommandValue
   Strip : List ℕ → CommandValue
   Relative : List ℕ → CommandValue
+  Key : CommandValue
+  Unkey : Bool → CommandValue
   Escapes : EscapesOptions → CommandValue
   Under : UnderOptions → List ℕ → CommandValue
+  Sort : SortOptions → CommandValue
+  Uniq : CommandValue
 
 -- what a list of arguments asks for
 pub data InvocationValue : Type 0 where
@@ -60,8 +65,12 @@ command_value command.PartsFromBack = PartsFromBack
 command_value (command.Join rule root) = Join rule (path_bytes root)
 command_value (command.Strip base) = Strip (path_bytes base)
 command_value (command.Relative dir) = Relative (path_bytes dir)
+command_value command.Key = Key
+command_value (command.Unkey null) = Unkey null
 command_value (command.Escapes options) = Escapes options
 command_value (command.Under options base) = Under options (path_bytes base)
+command_value (command.Sort options) = Sort options
+command_value command.Uniq = Uniq
 
 -- the invocation, with the bytes that its views point to
 abbrev pub invocation_value : Invocation → InvocationValue

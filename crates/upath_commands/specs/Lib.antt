@@ -4,7 +4,12 @@ pub mod Items
 pub mod Arguments
 pub mod ArgumentLaws
 pub mod Outputs
+pub mod Sorting
+pub mod Selections
 pub mod Records
+pub mod Hex
+pub mod KeyTexts
+pub mod KeyLaws
 pub mod Escaping
 pub mod Answers
 pub mod Commands

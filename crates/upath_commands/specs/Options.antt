@@ -23,8 +23,12 @@ verbs =
     ∷ (codes "join", verb.Join)
     ∷ (codes "strip", verb.Strip)
     ∷ (codes "relative", verb.Relative)
+    ∷ (codes "key", verb.Key)
+    ∷ (codes "unkey", verb.Unkey)
     ∷ (codes "escapes", verb.Escapes)
     ∷ (codes "under", verb.Under)
+    ∷ (codes "sort", verb.Sort)
+    ∷ (codes "uniq", verb.Uniq)
     ∷ (codes "equal", verb.Equal) ∷ []
 
 -- the command with this name
@@ -55,6 +59,10 @@ abbrev pub only_under : Verb → Bool
 only_under verb.Under = true
 only_under _ = false
 
+abbrev pub only_sort : Verb → Bool
+only_sort verb.Sort = true
+only_sort _ = false
+
 -- a row of the table of options
 pub record OptionRow : Type 0 where
   pub flag : Flag
@@ -84,7 +92,9 @@ options =
     ∷ row option.Inverted (Some (byte "v")) None (λ v. only_escapes v || only_under v)
     ∷ row option.Reason None (Some (codes "reason")) only_escapes
     ∷ row option.Strip None (Some (codes "strip")) only_under
-    ∷ row option.ByParts None (Some (codes "by-parts")) only_under ∷ []
+    ∷ row option.ByParts None (Some (codes "by-parts")) only_under
+    ∷ row option.Unique (Some (byte "u")) None only_sort
+    ∷ row option.Reversed (Some (byte "r")) None only_sort ∷ []
 
 -- a number for each option
 abbrev pub option_number : Flag → ℕ
@@ -103,6 +113,8 @@ option_number option.Inverted = 11
 option_number option.Reason = 12
 option_number option.Strip = 13
 option_number option.ByParts = 14
+option_number option.Unique = 15
+option_number option.Reversed = 16
 
 -- the options are the same
 abbrev pub same_option : Flag → Flag → Bool

@@ -1,11 +1,13 @@
 -- What is said of a path without an answer.
-use Rattle.std.specs.Prelude.{ℕ, List, [], ◌∷◌, ◌++◌, Option, Some, None, codes, if◌then◌else◌}
+use Rattle.std.specs.Prelude.{ℕ, Bool, List, [], ◌∷◌, ◌++◌, Option, Some, None, is_some, codes}
+use Rattle.std.specs.Prelude.{if◌then◌else◌}
 use Rattle.std.specs.Str.{byte}
 use Rattle.unix_path.specs.Parts.{is_rooted, values}
 use Rattle.path_within.specs.Escapes.{has_root_or_parent_dir}
 use Rattle.upath_commands.specs.Escaping.{escapes}
 use Rattle.upath_commands.specs.Invocations.{CommandValue, Parent, Name, Stem, Extension}
-use Rattle.upath_commands.specs.Invocations.{Join, Strip, Relative}
+use Rattle.upath_commands.specs.Invocations.{Join, Strip, Relative, Unkey}
+use Rattle.upath_commands.specs.KeyTexts.{unkeyed_path}
 use Rattle.upath_commands.specs.declared.command.JoinRule.{JoinRule}
 use Rattle.upath_commands.specs.declared.command.JoinRule.TheVariants.{Beneath, Verbatim}
 use Rattle.upath_commands.specs.declared.command.Settings.{Settings}
@@ -20,6 +22,13 @@ join_reason Verbatim p =
     else (if has_root_or_parent_dir (values p) then codes "has a .." else codes "has a NUL byte")
 join_reason _ p = codes "has a NUL byte"
 
+-- why `unkey` has no answer to this text
+abbrev pub unkey_reason : Bool → List ℕ → List ℕ
+unkey_reason null text =
+    if is_some (unkeyed_path text)
+    then (if null then codes "has a NUL byte" else codes "has a newline, which needs -z")
+    else codes "not a key"
+
 -- why the command has no answer to p; `None` for commands that answer every path, and for `escapes`
 -- and `under`, which drop paths without a reason
 abbrev pub reason_of : CommandValue → List ℕ → Option (List ℕ)
@@ -30,6 +39,7 @@ reason_of Extension p = Some (codes "no extension")
 reason_of (Join rule root) p = Some (join_reason rule p)
 reason_of (Strip base) p = Some (codes "doesn't start with the base")
 reason_of (Relative from) p = Some (codes "no relative path")
+reason_of (Unkey null) p = Some (unkey_reason null p)
 reason_of command p = None
 
 -- the line for this path and this reason

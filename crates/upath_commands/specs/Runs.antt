@@ -11,6 +11,7 @@ use Rattle.upath_commands.specs.Invocations.{CommandValue, InvocationValue, Mean
 use Rattle.upath_commands.specs.Invocations.{Help, Version, Equal, Each}
 use Rattle.upath_commands.specs.Records.{outputs_of, records_of, refusal_unless}
 use Rattle.upath_commands.specs.Refusals.{refusal_of}
+use Rattle.upath_commands.specs.Sorting.{chosen}
 use Rattle.upath_commands.specs.Usage.{usage_line}
 use Rattle.upath_commands.specs.declared.command.Settings.{Settings}
 use Rattle.upath_commands.specs.declared.runs.Texts.{Texts}
@@ -28,12 +29,17 @@ paths_asked settings (path ∷ paths) input = path ∷ paths
 -- what is written for these paths
 abbrev pub each_output : CommandValue → Settings → List (List ℕ) → List ℕ
 each_output command settings paths =
-    outputs_of (λ p. record_output settings p (answers_of command p)) paths
+    outputs_of (λ p. record_output settings p (answers_of command p)) (chosen command paths)
 
 -- what is said of the paths without an answer
 abbrev pub each_refusals : CommandValue → Settings → List (List ℕ) → List ℕ
 each_refusals command settings paths =
-    outputs_of (refusal_unless (is_answered command) (refusal_of command settings)) paths
+    outputs_of (refusal_unless (is_answered command) (refusal_of command settings))
+    (chosen command paths)
+
+-- all paths are answered
+abbrev pub each_answered : CommandValue → List (List ℕ) → Bool
+each_answered command paths = list_all (is_answered command) (chosen command paths)
 
 -- the input that an invocation reads
 abbrev pub run_input : InvocationValue → Option (List ℕ) → Option (List ℕ)
@@ -58,7 +64,7 @@ run_refusals _ input = []
 abbrev pub run_answered : InvocationValue → List ℕ → Bool
 run_answered (Equal settings a b) input = is_eq (values_cmp (values a) (values b))
 run_answered (Each command settings operands) input =
-    list_all (is_answered command) (paths_asked settings operands input)
+    each_answered command (paths_asked settings operands input)
 run_answered _ input = true
 
 -- the input that is read for arguments with this meaning

@@ -1,13 +1,15 @@
 //! The answers to paths, one after the other.
-ghost use Rattle.std.specs.Prelude.{◌≡◌, ◌++◌, ℕ, Bool, List, IfOk, IfErr, OnOk, OnErr};
+ghost use Rattle.std.specs.Prelude.{◌≡◌, ◌++◌, ◌∷◌, ℕ, Bool, List, IfOk, IfErr, OnOk, OnErr};
 ghost use Rattle.std.specs.Io.KnownBytes.{Appends};
 ghost use Rattle.std.specs.List.{list_all};
 ghost use Rattle.upath_commands.specs.Outputs.{Emits, EmitsPrefix, Tells, unwritten, written_to};
 ghost use Rattle.upath_commands.specs.Outputs.{AppendsPrefix, has_failed, told_to};
 ghost use Rattle.upath_commands.specs.Records.{outputs_of, paths_of, refusal_unless};
+ghost use Rattle.upath_commands.specs.Selections.{selected, taken};
 
 use crate::output::{Output, Refusals, RunError};
-use std::alloc::AllocError;
+use crate::selection::Selection;
+use std::alloc::{AllocError, Global};
 use std::io::Write;
 use unix_path::Path;
 
@@ -35,7 +37,7 @@ pub trait Answerer {
 }
 
 // Answers a path, and reports one without an answer. Returns true if the path is answered.
-pub(crate) fn answer_path<A: Answerer, W: Write, E: Write>(
+fn answer_path<A: Answerer, W: Write, E: Write>(
     answerer: &A,
     path: Path<'_>,
     output: &mut Output<W>,
@@ -62,63 +64,102 @@ pub(crate) fn answer_path<A: Answerer, W: Write, E: Write>(
     Ok(is_answered)
 }
 
-// Answers each of these paths. Returns true if all are answered.
-fn answer_each<A: Answerer, W: Write, E: Write>(
+// Answers the path that comes next, if it is selected. Returns true if it is answered or isn't
+// selected.
+pub(crate) fn answer_next<A: Answerer, W: Write, E: Write>(
+    alloc: Global,
     answerer: &A,
+    selection: &mut Selection,
+    path: Path<'_>,
+    output: &mut Output<W>,
+    refusals: &mut Refusals<E>,
+) -> Result<bool, RunError>
+    ensures ok { OnOk result (Emits (W.contents (written_to output.old))
+        (W.contents (written_to output.new)) (unwritten output.old) (unwritten output.new)
+        (outputs_of (A.output answerer.now) (taken selection.old path.entry.bytes.now))) }
+    ensures answered { IfOk result (λ is_answered. is_answered
+        ≡ list_all (A.answered answerer.now) (taken selection.old path.entry.bytes.now)) }
+    ensures told { OnOk result (Tells (has_failed refusals.old) (has_failed refusals.new)
+        (E.contents (told_to refusals.old)) (E.contents (told_to refusals.new))
+        (outputs_of (refusal_unless (A.answered answerer.now) (A.refusal answerer.now))
+        (taken selection.old path.entry.bytes.now))) }
+    ensures rest { OnOk result ((paths : List (List ℕ))
+        → selected selection.old (path.entry.bytes.now ∷ paths)
+        ≡ taken selection.old path.entry.bytes.now ++ selected selection.new paths) }
+    ensures err { OnErr result (EmitsPrefix (W.contents (written_to output.old))
+        (W.contents (written_to output.new)) (unwritten output.old)
+        (outputs_of (A.output answerer.now) (taken selection.old path.entry.bytes.now))) }
+    ensures no_read { IfErr result (λ error. (error ≡ RunError.Read) → ⊥) }
+{
+    if !selection.take(alloc, path)? {
+        return Ok(true);
+    }
+    answer_path(answerer, path, output, refusals)
+}
+
+// Answers each of these paths that is selected. Returns true if all of those are answered.
+fn answer_each<A: Answerer, W: Write, E: Write>(
+    alloc: Global,
+    answerer: &A,
+    selection: &mut Selection,
     paths: &[Path<'_>],
     output: &mut Output<W>,
     refusals: &mut Refusals<E>,
 ) -> Result<bool, RunError>
     ensures ok { OnOk result (Emits (W.contents (written_to output.old))
         (W.contents (written_to output.new)) (unwritten output.old) (unwritten output.new)
-        (outputs_of (A.output answerer.now) (paths_of paths.now))) }
-    ensures answered { IfOk result (λ are_answered.
-        are_answered ≡ list_all (A.answered answerer.now) (paths_of paths.now)) }
+        (outputs_of (A.output answerer.now) (selected selection.old (paths_of paths.now)))) }
+    ensures answered { IfOk result (λ are_answered. are_answered
+        ≡ list_all (A.answered answerer.now) (selected selection.old (paths_of paths.now))) }
     ensures told { OnOk result (Tells (has_failed refusals.old) (has_failed refusals.new)
         (E.contents (told_to refusals.old)) (E.contents (told_to refusals.new))
         (outputs_of (refusal_unless (A.answered answerer.now) (A.refusal answerer.now))
-        (paths_of paths.now))) }
+        (selected selection.old (paths_of paths.now)))) }
     ensures err { OnErr result (EmitsPrefix (W.contents (written_to output.old))
         (W.contents (written_to output.new)) (unwritten output.old)
-        (outputs_of (A.output answerer.now) (paths_of paths.now))) }
+        (outputs_of (A.output answerer.now) (selected selection.old (paths_of paths.now)))) }
     ensures no_read { IfErr result (λ error. (error ≡ RunError.Read) → ⊥) }
 {
     let mut are_answered = true;
     let mut index = 0;
     while index < paths.len() {
-        let is_answered = answer_path(answerer, paths[index], output, refusals)?;
+        let path = paths[index];
+        let is_answered = answer_next(alloc, answerer, selection, path, output, refusals)?;
         are_answered = are_answered && is_answered;
         index += 1;
     }
     Ok(are_answered)
 }
 
-/// Answers each of these paths, and flushes. Returns true if all are answered.
+/// Answers each of these paths that is selected, and flushes. Returns true if all of those are
+/// answered.
 ///
 /// After an error a prefix of the output was written.
 ///
 /// For no path nothing is written, and the result is true.
 pub fn answer_operands<A: Answerer, W: Write, E: Write>(
+    alloc: Global,
     answerer: &A,
+    selection: &mut Selection,
     paths: &[Path<'_>],
     output: &mut Output<W>,
     refusals: &mut Refusals<E>,
 ) -> Result<bool, RunError>
     ensures ok { OnOk result (Appends (W.contents (written_to output.old))
         (W.contents (written_to output.new)) (unwritten output.old
-        ++ outputs_of (A.output answerer.now) (paths_of paths.now))) }
-    ensures answered { IfOk result (λ are_answered.
-        are_answered ≡ list_all (A.answered answerer.now) (paths_of paths.now)) }
+        ++ outputs_of (A.output answerer.now) (selected selection.old (paths_of paths.now)))) }
+    ensures answered { IfOk result (λ are_answered. are_answered
+        ≡ list_all (A.answered answerer.now) (selected selection.old (paths_of paths.now))) }
     ensures told { OnOk result (Tells (has_failed refusals.old) (has_failed refusals.new)
         (E.contents (told_to refusals.old)) (E.contents (told_to refusals.new))
         (outputs_of (refusal_unless (A.answered answerer.now) (A.refusal answerer.now))
-        (paths_of paths.now))) }
+        (selected selection.old (paths_of paths.now)))) }
     ensures err { OnErr result (AppendsPrefix (W.contents (written_to output.old))
         (W.contents (written_to output.new)) (unwritten output.old
-        ++ outputs_of (A.output answerer.now) (paths_of paths.now))) }
+        ++ outputs_of (A.output answerer.now) (selected selection.old (paths_of paths.now)))) }
     ensures no_read { IfErr result (λ error. (error ≡ RunError.Read) → ⊥) }
 {
-    let are_answered = answer_each(answerer, paths, output, refusals)?;
+    let are_answered = answer_each(alloc, answerer, selection, paths, output, refusals)?;
     output.finish()?;
     Ok(are_answered)
 }

@@ -5,12 +5,15 @@ ghost use Rattle.upath_commands.specs.Arguments.{escapes_options, join_rule, mea
 ghost use Rattle.upath_commands.specs.Arguments.{command_meaning, meaning_of_items};
 ghost use Rattle.upath_commands.specs.Arguments.{meaning_of_verb, operand_of, settings_of};
 ghost use Rattle.upath_commands.specs.Arguments.{verb_asked};
-ghost use Rattle.upath_commands.specs.Arguments.{each, equal_meaning, join_meaning, under_options};
+ghost use Rattle.upath_commands.specs.Arguments.{each, equal_meaning, join_meaning, sort_options};
+ghost use Rattle.upath_commands.specs.Arguments.{under_options};
 ghost use Rattle.upath_commands.specs.Invocations.{command_value, meaning_value, path_bytes};
 ghost use Rattle.upath_commands.specs.Invocations.{usage_value};
 ghost use Rattle.upath_commands.specs.Items.{item_value};
 
-use crate::command::{Command, EscapesOptions, Invocation, JoinRule, Settings, UnderOptions};
+use crate::command::{
+    Command, EscapesOptions, Invocation, JoinRule, Settings, SortOptions, UnderOptions,
+};
 use crate::items::{Item, items_of};
 use crate::options::{Flag, Verb, verb_by_name};
 use crate::searches::{fault_in, from_dir, has, newline_in, operands_in, refusal_in, request_in};
@@ -48,6 +51,16 @@ fn under_options(items: &[Item<'_>]) -> UnderOptions
         inverted: has(items, Flag::Inverted),
         stripped: has(items, Flag::Strip),
         by_parts: has(items, Flag::ByParts),
+    }
+}
+
+// Returns the options of `sort`.
+fn sort_options(items: &[Item<'_>]) -> SortOptions
+    ensures { result ≡ sort_options (map item_value items.now) }
+{
+    SortOptions {
+        unique: has(items, Flag::Unique),
+        reversed: has(items, Flag::Reversed),
     }
 }
 
@@ -207,8 +220,12 @@ fn meaning_of_verb<'a>(
         Verb::Join => join_of(name, items, operands),
         Verb::Strip => strip_of(name, items, operands),
         Verb::Relative => relative_of(name, items, operands),
+        Verb::Key => each(Command::Key, items, operands),
+        Verb::Unkey => each(Command::Unkey(has(items, Flag::Null)), items, operands),
         Verb::Escapes => each(Command::Escapes(escapes_options(items)), items, operands),
         Verb::Under => under_of(name, items, operands),
+        Verb::Sort => each(Command::Sort(sort_options(items)), items, operands),
+        Verb::Uniq => each(Command::Uniq, items, operands),
         Verb::Equal => equal_of(name, items, operands.as_slice()),
     }
 }

@@ -41,6 +41,17 @@ pub struct UnderOptions {
     pub by_parts: bool,
 }
 
+/// The options of the command `sort`.
+///
+/// `upath sort -u` sets `unique`.
+#[derive(Clone, Copy)]
+pub struct SortOptions {
+    /// Only the first of equal paths is written.
+    pub unique: bool,
+    /// The paths are written from the last one to the first.
+    pub reversed: bool,
+}
+
 /// What is done with each path.
 ///
 /// `upath strip a` asks for `Command::Strip` of the path `a`.
@@ -68,10 +79,19 @@ pub enum Command<'a> {
     Strip(Path<'a>),
     /// Writes the relative path from this directory.
     Relative(Path<'a>),
+    /// Writes the key in hexadecimal.
+    Key,
+    /// Writes the path whose key in hexadecimal this is. If the value is false, newlines end
+    /// records, and a path with a newline is refused.
+    Unkey(bool),
     /// Passes on paths that escape.
     Escapes(EscapesOptions),
     /// Passes on paths at this base or below it.
     Under(UnderOptions, Path<'a>),
+    /// Writes all paths, in the order of paths.
+    Sort(SortOptions),
+    /// Passes on the first of equal paths.
+    Uniq,
 }
 
 /// The options that every command has.

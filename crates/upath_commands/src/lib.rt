@@ -13,8 +13,11 @@ mod arguments;
 mod bases;
 mod command;
 mod escapes;
+mod hex;
 mod items;
 mod joins;
+pub mod key_laws;
+mod keys;
 mod names;
 mod options;
 mod output;
@@ -24,15 +27,22 @@ mod reasons;
 mod records;
 mod runs;
 mod searches;
+mod selection;
+pub mod sort_laws;
+mod sorting;
 mod task;
 mod usage;
 
 pub use answers::{Answerer, answer_operands};
 pub use arguments::{argument_paths, command_asked, invocation_of};
-pub use command::{Command, EscapesOptions, Invocation, JoinRule, Settings, UnderOptions};
+pub use command::{
+    Command, EscapesOptions, Invocation, JoinRule, Settings, SortOptions, UnderOptions,
+};
 pub use options::Verb;
 pub use output::{Output, Refusals, RunError};
 pub use records::answer_input;
 pub use runs::{Texts, run_arguments};
+pub use selection::Selection;
+pub use sorting::{records_in, sort_paths};
 pub use task::Task;
 pub use usage::{UsageError, UsageErrorKind};

@@ -39,6 +39,10 @@ pub enum Flag {
     Strip,
     /// `--by-parts`.
     ByParts,
+    /// `-u`.
+    Unique,
+    /// `-r`.
+    Reversed,
 }
 
 /// A command, without its options and operands.
@@ -66,10 +70,18 @@ pub enum Verb {
     Strip,
     /// `relative`.
     Relative,
+    /// `key`.
+    Key,
+    /// `unkey`.
+    Unkey,
     /// `escapes`.
     Escapes,
     /// `under`.
     Under,
+    /// `sort`.
+    Sort,
+    /// `uniq`.
+    Uniq,
     /// `equal`.
     Equal,
 }
@@ -86,6 +98,8 @@ pub fn option_by_letter(letter: u8) -> Option<Flag>
         b'q' => Some(Flag::Quiet),
         b'b' => Some(Flag::FromBack),
         b'v' => Some(Flag::Inverted),
+        b'u' => Some(Flag::Unique),
+        b'r' => Some(Flag::Reversed),
         _ => None,
     }
 }
@@ -141,8 +155,12 @@ pub fn verb_by_name(name: &[u8]) -> Option<Verb>
         _ if is(name, b"join") => Some(Verb::Join),
         _ if is(name, b"strip") => Some(Verb::Strip),
         _ if is(name, b"relative") => Some(Verb::Relative),
+        _ if is(name, b"key") => Some(Verb::Key),
+        _ if is(name, b"unkey") => Some(Verb::Unkey),
         _ if is(name, b"escapes") => Some(Verb::Escapes),
         _ if is(name, b"under") => Some(Verb::Under),
+        _ if is(name, b"sort") => Some(Verb::Sort),
+        _ if is(name, b"uniq") => Some(Verb::Uniq),
         _ if is(name, b"equal") => Some(Verb::Equal),
         _ => None,
     }
@@ -161,6 +179,7 @@ pub fn has_option(verb: Verb, option: Flag) -> bool
         Flag::Inverted => matches!(verb, Verb::Escapes | Verb::Under),
         Flag::Reason => matches!(verb, Verb::Escapes),
         Flag::Strip | Flag::ByParts => matches!(verb, Verb::Under),
+        Flag::Unique | Flag::Reversed => matches!(verb, Verb::Sort),
         Flag::Null | Flag::Pair | Flag::Quiet | Flag::LineBuffered => true,
         Flag::Help | Flag::Version => true,
     }

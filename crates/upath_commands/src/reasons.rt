@@ -1,12 +1,14 @@
 //! Why a path has no answer.
-ghost use Rattle.std.specs.Prelude.{◌≡◌, ◌++◌, OnOk, option_map};
+ghost use Rattle.std.specs.Prelude.{◌≡◌, ◌++◌, IfOk, OnOk, option_map};
 ghost use Rattle.upath_commands.specs.Invocations.{command_value};
 ghost use Rattle.upath_commands.specs.Refusals.{join_reason, reason_line, reason_of};
+ghost use Rattle.upath_commands.specs.Refusals.{unkey_reason};
 
 use crate::command::{Command, JoinRule};
 use crate::escapes::escapes;
+use crate::keys::unkeyed_path;
 use path_within::within::has_root_or_parent_dir;
-use std::alloc::AllocError;
+use std::alloc::{AllocError, Global};
 use unix_path::Path;
 
 // Returns why a path is refused that the rule refuses.
@@ -22,20 +24,36 @@ fn join_reason(rule: JoinRule, path: Path<'_>) -> &'static [u8]
     }
 }
 
-// Returns why a path has no answer that has none.
-pub(crate) fn reason_of(command: Command<'_>, path: Path<'_>) -> Option<&'static [u8]>
-    ensures { option_map (λ reason. reason.now) result
-        ≡ reason_of (command_value command.entry) path.entry.bytes.now }
+// Returns why `unkey` has no answer to a text to which it has none.
+fn unkey_reason(alloc: Global, null: bool, text: &[u8]) -> Result<&'static [u8], AllocError>
+    ensures { IfOk result (λ reason. reason.now ≡ unkey_reason null text.now) }
 {
-    match command {
+    match unkeyed_path(alloc, text)? {
+        Some(_) if null => Ok(b"has a NUL byte"),
+        Some(_) => Ok(b"has a newline, which needs -z"),
+        None => Ok(b"not a key"),
+    }
+}
+
+// Returns why a path has no answer that has none. Allocates for `unkey`.
+pub(crate) fn reason_of(
+    alloc: Global,
+    command: Command<'_>,
+    path: Path<'_>,
+) -> Result<Option<&'static [u8]>, AllocError>
+    ensures { IfOk result (λ found. option_map (λ reason. reason.now) found
+        ≡ reason_of (command_value command.entry) path.entry.bytes.now) }
+{
+    Ok(match command {
         Command::Parent => Some(b"no parent"),
         Command::Name | Command::Stem => Some(b"no file name"),
         Command::Extension => Some(b"no extension"),
         Command::Join(rule, _) => Some(join_reason(rule, path)),
         Command::Strip(_) => Some(b"doesn't start with the base"),
         Command::Relative(_) => Some(b"no relative path"),
+        Command::Unkey(null) => Some(unkey_reason(alloc, null, path.bytes)?),
         _ => None,
-    }
+    })
 }
 
 // Appends the line for a path and a reason.

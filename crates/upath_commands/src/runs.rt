@@ -1,24 +1,29 @@
 //! What is done for a list of arguments.
-ghost use Rattle.std.specs.Prelude.{◌≡◌, ◌<◌, ◌≤◌, ◌++◌, [], IfOk, IfSome, OnOk, OnErr};
+ghost use Rattle.std.specs.Prelude.{◌≡◌, ◌<◌, ◌≤◌, ◌++◌, ℕ, List, [], IfOk, IfSome, OnOk, OnErr};
+ghost use Rattle.std.specs.Prelude.{Some};
 ghost use Rattle.std.specs.Io.KnownBytes.{Appends};
-ghost use Rattle.std.specs.List.{list_all};
-ghost use Rattle.upath_commands.specs.Commands.{is_answered};
 ghost use Rattle.upath_commands.specs.Outputs.{AppendsPrefix, Tells, has_failed, told_to};
 ghost use Rattle.upath_commands.specs.Outputs.{unwritten, written_to};
-ghost use Rattle.upath_commands.specs.Runs.{each_output, each_refusals, input_read, paths_asked};
+ghost use Rattle.upath_commands.specs.Runs.{each_answered, each_output, each_refusals};
+ghost use Rattle.upath_commands.specs.Runs.{input_read, paths_asked};
 ghost use Rattle.upath_commands.specs.Runs.{run_answered, run_input, run_output, run_refusals};
 ghost use Rattle.upath_commands.specs.Runs.{input_for, is_quiet, messages_for, output_for};
 ghost use Rattle.upath_commands.specs.Runs.{status_for};
 ghost use Rattle.upath_commands.specs.Arguments.{meaning_of};
 ghost use Rattle.upath_commands.specs.Invocations.{command_value, invocation_value};
 ghost use Rattle.upath_commands.specs.Records.{paths_of};
+ghost use Rattle.upath_commands.specs.Selections.{selected};
+ghost use Rattle.upath_commands.specs.Sorting.{chosen, sort_options};
+ghost use Rattle.upath_commands.specs.Tasks.{task_command, task_settings};
 
 use crate::answers::answer_operands;
 use crate::arguments::invocation_of;
-use crate::command::{Command, Invocation, Settings};
+use crate::command::{Command, Invocation, Settings, SortOptions};
 use crate::output::{Output, Refusals, RunError};
 use crate::push::end_of;
-use crate::records::answer_input;
+use crate::records::{answer_input, read_all};
+use crate::selection::Selection;
+use crate::sorting::{is_uniq, records_in, sort_options, sort_paths};
 use crate::task::Task;
 use std::alloc::Global;
 use std::io::{BufRead, Write};
@@ -33,6 +38,122 @@ pub struct Texts<'a> {
     pub help: &'a [u8],
     /// The version.
     pub version: &'a [u8],
+}
+
+// Answers these paths in the order of paths.
+fn answer_sorted<W: Write, E: Write>(
+    alloc: Global,
+    task: &Task<'_>,
+    options: SortOptions,
+    mut paths: Vec<Path<'_>>,
+    output: &mut Output<W>,
+    refusals: &mut Refusals<E>,
+) -> Result<bool, RunError>
+    requires { sort_options (task_command task.now) ≡ Some options }
+    ensures ok { OnOk result (Appends (W.contents (written_to output.old))
+        (W.contents (written_to output.new)) (unwritten output.old
+        ++ each_output (task_command task.now) (task_settings task.now)
+        (paths_of paths.entry.items))) }
+    ensures answered { IfOk result (λ are_answered.
+        are_answered ≡ each_answered (task_command task.now) (paths_of paths.entry.items)) }
+    ensures told { OnOk result (Tells (has_failed refusals.old) (has_failed refusals.new)
+        (E.contents (told_to refusals.old)) (E.contents (told_to refusals.new))
+        (each_refusals (task_command task.now) (task_settings task.now)
+        (paths_of paths.entry.items))) }
+    ensures err { OnErr result (AppendsPrefix (W.contents (written_to output.old))
+        (W.contents (written_to output.new)) (unwritten output.old
+        ++ each_output (task_command task.now) (task_settings task.now)
+        (paths_of paths.entry.items))) }
+{
+    sort_paths(options, &mut paths)?;
+    let all = &mut Selection::All;
+    answer_operands(alloc, task, all, paths.as_slice(), output, refusals)
+}
+
+// Answers the operands, or if there are none the records of the input, in the order of paths.
+fn run_sorted<R: BufRead, W: Write, E: Write>(
+    alloc: Global,
+    task: &Task<'_>,
+    options: SortOptions,
+    operands: &[Path<'_>],
+    reader: &mut R,
+    output: &mut Output<W>,
+    refusals: &mut Refusals<E>,
+) -> Result<bool, RunError>
+    requires { sort_options (task_command task.now) ≡ Some options }
+    ensures ok { let paths = paths_of operands.now in
+        OnOk result (IfSome (input_read paths (R.remaining reader.old)) (λ input.
+        Appends (W.contents (written_to output.old)) (W.contents (written_to output.new))
+        (unwritten output.old
+        ++ each_output (task_command task.now) (task_settings task.now)
+        (paths_asked (task_settings task.now) paths input)))) }
+    ensures answered { let paths = paths_of operands.now in
+        IfOk result (λ are_answered. IfSome (input_read paths (R.remaining reader.old))
+        (λ input. are_answered ≡ each_answered (task_command task.now)
+        (paths_asked (task_settings task.now) paths input))) }
+    ensures told { let paths = paths_of operands.now in
+        OnOk result (IfSome (input_read paths (R.remaining reader.old))
+        (λ input. Tells (has_failed refusals.old) (has_failed refusals.new)
+        (E.contents (told_to refusals.old)) (E.contents (told_to refusals.new))
+        (each_refusals (task_command task.now) (task_settings task.now)
+        (paths_asked (task_settings task.now) paths input)))) }
+    ensures err { let paths = paths_of operands.now in
+        OnErr result (IfSome (input_read paths (R.remaining reader.old)) (λ input.
+        AppendsPrefix (W.contents (written_to output.old)) (W.contents (written_to output.new))
+        (unwritten output.old
+        ++ each_output (task_command task.now) (task_settings task.now)
+        (paths_asked (task_settings task.now) paths input)))) }
+{
+    if !operands.is_empty() {
+        let paths = Vec::from_slice(alloc, operands)?;
+        return answer_sorted(alloc, task, options, paths, output, refusals);
+    }
+    let input = read_all(alloc, reader)?;
+    let paths = records_in(alloc, input.as_slice(), end_of(task.settings))?;
+    answer_sorted(alloc, task, options, paths, output, refusals)
+}
+
+// Answers each of the operands that is selected as it comes, or if there are none the records of
+// the input.
+fn run_streamed<R: BufRead, W: Write, E: Write>(
+    alloc: Global,
+    task: &Task<'_>,
+    selection: &mut Selection,
+    operands: &[Path<'_>],
+    reader: &mut R,
+    output: &mut Output<W>,
+    refusals: &mut Refusals<E>,
+) -> Result<bool, RunError>
+    requires { (paths : List (List ℕ)) → selected selection.old paths
+        ≡ chosen (task_command task.now) paths }
+    ensures ok { let paths = paths_of operands.now in
+        OnOk result (IfSome (input_read paths (R.remaining reader.old)) (λ input.
+        Appends (W.contents (written_to output.old)) (W.contents (written_to output.new))
+        (unwritten output.old
+        ++ each_output (task_command task.now) (task_settings task.now)
+        (paths_asked (task_settings task.now) paths input)))) }
+    ensures answered { let paths = paths_of operands.now in
+        IfOk result (λ are_answered. IfSome (input_read paths (R.remaining reader.old))
+        (λ input. are_answered ≡ each_answered (task_command task.now)
+        (paths_asked (task_settings task.now) paths input))) }
+    ensures told { let paths = paths_of operands.now in
+        OnOk result (IfSome (input_read paths (R.remaining reader.old))
+        (λ input. Tells (has_failed refusals.old) (has_failed refusals.new)
+        (E.contents (told_to refusals.old)) (E.contents (told_to refusals.new))
+        (each_refusals (task_command task.now) (task_settings task.now)
+        (paths_asked (task_settings task.now) paths input)))) }
+    ensures err { let paths = paths_of operands.now in
+        OnErr result (IfSome (input_read paths (R.remaining reader.old)) (λ input.
+        AppendsPrefix (W.contents (written_to output.old)) (W.contents (written_to output.new))
+        (unwritten output.old
+        ++ each_output (task_command task.now) (task_settings task.now)
+        (paths_asked (task_settings task.now) paths input)))) }
+{
+    if operands.is_empty() {
+        let end = end_of(task.settings);
+        return answer_input(alloc, task, selection, end, reader, output, refusals);
+    }
+    answer_operands(alloc, task, selection, operands, output, refusals)
 }
 
 // Answers the operands, or if there are none the records of the input.
@@ -53,7 +174,7 @@ fn run_each<R: BufRead, W: Write, E: Write>(
         (paths_asked settings paths input)))) }
     ensures answered { let paths = paths_of operands.now in
         IfOk result (λ are_answered. IfSome (input_read paths (R.remaining reader.old))
-        (λ input. are_answered ≡ list_all (is_answered (command_value command.entry))
+        (λ input. are_answered ≡ each_answered (command_value command.entry)
         (paths_asked settings paths input))) }
     ensures told { let paths = paths_of operands.now in
         OnOk result (IfSome (input_read paths (R.remaining reader.old))
@@ -70,10 +191,19 @@ fn run_each<R: BufRead, W: Write, E: Write>(
 {
     let task = Task { command, settings };
     output.buffer_lines(settings.line_buffered);
-    if operands.is_empty() {
-        return answer_input(alloc, &task, end_of(settings), reader, output, refusals);
+    if let Some(options) = sort_options(command) {
+        return run_sorted(alloc, &task, options, operands, reader, output, refusals);
     }
-    answer_operands(&task, operands, output, refusals)
+    let mut selection = Selection::new(alloc, is_uniq(command));
+    run_streamed(
+        alloc,
+        &task,
+        &mut selection,
+        operands,
+        reader,
+        output,
+        refusals,
+    )
 }
 
 // Does what an invocation asks for. Returns true if all paths are answered, or if the answer is

@@ -1,8 +1,8 @@
 //! Searches among the items of a list of arguments.
 ghost use Rattle.std.specs.Prelude.{◌≡◌, IfOk, map, option_map};
 ghost use Rattle.upath_commands.specs.Arguments.{fault_of, first_of, from_dir, has, operand_of};
-ghost use Rattle.upath_commands.specs.Arguments.{has_newline, newline_fault, refusal_of};
-ghost use Rattle.upath_commands.specs.Arguments.{request_of};
+ghost use Rattle.upath_commands.specs.Arguments.{has_newline, has_zero, newline_fault};
+ghost use Rattle.upath_commands.specs.Arguments.{refusal_of, request_of};
 ghost use Rattle.upath_commands.specs.Invocations.{invocation_value, path_bytes, usage_value};
 ghost use Rattle.upath_commands.specs.Items.{item_value};
 ghost use Rattle.std.specs.List.{filter_map};
@@ -117,10 +117,17 @@ pub fn operands_in<'a>(alloc: Global, items: &[Item<'a>]) -> Result<Vec<Path<'a>
 }
 
 // Returns true if and only if the bytes have a newline.
-fn has_newline(bytes: &[u8]) -> bool
+pub(crate) fn has_newline(bytes: &[u8]) -> bool
     ensures { result ≡ has_newline bytes.now }
 {
     find_byte(bytes, b'\n') < bytes.len()
+}
+
+// Returns true if and only if the bytes have a NUL.
+pub(crate) fn has_zero(bytes: &[u8]) -> bool
+    ensures { result ≡ has_zero bytes.now }
+{
+    find_byte(bytes, 0) < bytes.len()
 }
 
 /// Returns the first operand with a newline, as wrong usage. Returns `None` if no operand has a

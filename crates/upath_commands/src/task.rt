@@ -11,8 +11,10 @@ use crate::bases::{push_relative, push_stripped, push_under};
 use crate::command::{Command, Settings};
 use crate::escapes::push_escaping;
 use crate::joins::push_join;
+use crate::keys::{push_key, push_unkeyed};
 use crate::names::{push_canon, push_extension, push_name, push_parent, push_resolved, push_stem};
 use crate::parts::{push_parts, push_parts_from_back};
+use crate::push::push_answer;
 use crate::reasons::{push_reason, reason_of};
 use std::alloc::AllocError;
 use unix_path::Path;
@@ -40,8 +42,11 @@ fn push_command(
         Command::Join(rule, root) => push_join(rule, root, path, settings, out),
         Command::Strip(base) => push_stripped(base, path, settings, out),
         Command::Relative(from) => push_relative(from, path, settings, out),
+        Command::Key => push_key(path, settings, out),
+        Command::Unkey(null) => push_unkeyed(null, path, settings, out),
         Command::Escapes(options) => push_escaping(options, path, settings, out),
         Command::Under(options, base) => push_under(options, base, path, settings, out),
+        Command::Sort(_) | Command::Uniq => push_answer(path, path.bytes, settings, out),
     }
 }
 
@@ -83,6 +88,7 @@ impl Answerer for Task<'_> {
         if self.settings.quiet {
             return Ok(());
         }
-        push_reason(path, reason_of(self.command, path), out)
+        let reason = reason_of(*out.allocator(), self.command, path)?;
+        push_reason(path, reason, out)
     }
 }

@@ -3,7 +3,7 @@
 use std::alloc::{AllocError, Global};
 use unix_path::Path;
 use upath_commands::{
-    Command, EscapesOptions, Invocation, JoinRule, Settings, UnderOptions, UsageError,
+    Command, EscapesOptions, Invocation, JoinRule, Settings, SortOptions, UnderOptions, UsageError,
     argument_paths, invocation_of,
 };
 
@@ -44,6 +44,12 @@ fn push_under(out: &mut Vec<u8>, options: UnderOptions, base: Path<'_>) -> Resul
     push_if(out, options.by_parts, "+by-parts")
 }
 
+fn push_sort(out: &mut Vec<u8>, options: SortOptions) -> Result<(), AllocError> {
+    push(out, "sort", Path { bytes: b"" })?;
+    push_if(out, options.unique, "+unique")?;
+    push_if(out, options.reversed, "+reversed")
+}
+
 fn push_join(out: &mut Vec<u8>, rule: JoinRule, root: Path<'_>) -> Result<(), AllocError> {
     match rule {
         JoinRule::Trusted => push(out, "join:", root),
@@ -68,8 +74,13 @@ fn push_command(out: &mut Vec<u8>, command: Command<'_>) -> Result<(), AllocErro
         Command::Join(rule, root) => push_join(out, rule, root),
         Command::Strip(base) => push(out, "strip:", base),
         Command::Relative(dir) => push(out, "relative:", dir),
+        Command::Key => push(out, "key", none),
+        Command::Unkey(false) => push(out, "unkey", none),
+        Command::Unkey(true) => push(out, "unkey+null", none),
         Command::Escapes(options) => push_escapes(out, options),
         Command::Under(options, base) => push_under(out, options, base),
+        Command::Sort(options) => push_sort(out, options),
+        Command::Uniq => push(out, "uniq", none),
     }
 }
 
@@ -141,6 +152,10 @@ fn commands(rt: HostRuntime) {
         ("join --verbatim --verbatim r", "verbatim:r/"),
         ("strip b a", "strip:b/ a"),
         ("relative --from=d a", "relative:d/ a"),
+        ("key a", "key/ a"),
+        ("key -z", "key/z"),
+        ("unkey 6100", "unkey/ 6100"),
+        ("unkey 6100 --null", "unkey+null/z 6100"),
         ("escapes -v a", "escapes+inverted/ a"),
         ("escapes --reason", "escapes+reason/"),
         ("under b a", "under:b/ a"),
@@ -148,6 +163,10 @@ fn commands(rt: HostRuntime) {
             "under -v b --strip --by-parts",
             "under:b+inverted+stripped+by-parts/",
         ),
+        ("sort b a", "sort/ b a"),
+        ("sort -zu", "sort+unique/z"),
+        ("-r sort -u", "sort+unique+reversed/"),
+        ("uniq a", "uniq/ a"),
         ("equal a b", "equal:a=b/"),
     ] {
         assert!(rt; means(rt.alloc(), line, want), "at {line}");
@@ -194,6 +213,9 @@ fn wrong_usage(rt: HostRuntime) {
         ("canon --null=1", "UnexpectedValue --null=1"),
         ("canon --help=1", "UnexpectedValue --help=1"),
         ("relative a --from", "MissingValue --from"),
+        ("key -v a", "UnknownOption v"),
+        ("unkey --from=a", "UnknownOption --from=a"),
+        ("unkey a\nb", "NewlineInOperand a\nb"),
         ("relative a", "MissingFrom relative"),
         ("join", "MissingRoot join"),
         ("join --verbatim --beneath", "ContradictoryOptions join"),

@@ -3,3 +3,7 @@
 
 #[cfg(test)]
 mod arguments;
+#[cfg(test)]
+mod keys;
+#[cfg(test)]
+mod sorting;

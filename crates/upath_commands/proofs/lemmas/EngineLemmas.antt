@@ -1,14 +1,19 @@
 -- The answers to paths, one after the other.
 use Rattle.std.proofs.Common.{◌≡◌, ℕ, ◌+◌, ◌<◌, Bool, true, false, ◌&&◌, List, [], ◌∷◌, ◌++◌}
-use Rattle.std.proofs.Common.{length}
+use Rattle.std.proofs.Common.{length, ◌≤◌, Result, OnErr}
 use Rattle.std.proofs.Common.{Option, Some, None, IfSome, refl, sym, ap, ◌∙◌, subst, append_assoc}
 use Rattle.std.proofs.Common.{append-nil, drop, get_or}
-use Rattle.std.proofs.lemmas.List.{at_drop_more}
+use Rattle.std.proofs.lemmas.Grind.{flat_map-append}
+use Rattle.std.proofs.lemmas.List.{at_drop_all, at_drop_more}
+use Rattle.std.proofs.lemmas.List.Folds.{list_all-append}
 use Rattle.unix_path.specs.declared.path.Path.{Path}
 use Rattle.std.specs.Io.BufRead.{take_through, drop_through, strip_last, DropsThrough}
 use Rattle.std.specs.List.{list_all}
 use Rattle.upath_commands.specs.Outputs.{AppendsPrefix, Emits, EmitsPrefix, Tells}
 use Rattle.upath_commands.specs.Records.{outputs_of, paths_of, records_of, refusal_unless}
+use Rattle.upath_commands.specs.Selections.{is_taken, selected, taken}
+use Rattle.upath_commands.specs.declared.selection.Selection.{Selection}
+use Rattle.upath_commands.proofs.lemmas.SelectionLemmas.{selected-nil, selected-splits}
 use Rattle.upath_commands.proofs.lemmas.RecordLemmas.{records_of-next, records_of-end}
 use Rattle.upath_commands.proofs.lemmas.OutputLemmas.{Emits-added, Emits-then, Emits-fail}
 use Rattle.upath_commands.proofs.lemmas.OutputLemmas.{Emits-stop, EmitsPrefix-more}
@@ -64,14 +69,37 @@ and_true true = refl
 and_true false = refl
 
 -- the next of these paths
-pub Progress-at : (m : Model) (paths : List Path) (index : ℕ) (d : Path) (old new : Streams)
-    (are : Bool) → index < length paths
-    → Progress m (paths_of paths) (paths_of (drop index paths)) old new are
-    → Progress m (paths_of paths)
-    ((get_or paths index d).bytes.now ∷ paths_of (drop (index + 1) paths)) old new are
-Progress-at m paths index d old new are l h =
-    subst (λ left. Progress m (paths_of paths) left old new are)
+pub Progress-at : (m : Model) (all : List (List ℕ)) (selection : Selection) (paths : List Path)
+    (index : ℕ) (d : Path) (old new : Streams) (are : Bool) → index < length paths
+    → Progress m all (selected selection (paths_of (drop index paths))) old new are
+    → Progress m all (selected selection
+    ((get_or paths index d).bytes.now ∷ paths_of (drop (index + 1) paths))) old new are
+Progress-at m all selection paths index d old new are l h =
+    subst (λ left. Progress m all (selected selection left) old new are)
     (at_drop_more paths_of paths index d l) h
+
+-- no path is left
+pub Progress-done : (m : Model) (all : List (List ℕ)) (selection : Selection) (paths : List Path)
+    (index : ℕ) (old new : Streams) (are : Bool) → length paths ≤ index
+    → Progress m all (selected selection (paths_of (drop index paths))) old new are
+    → Progress m all [] old new are
+Progress-done m all selection paths index old new are l h =
+    subst (λ left. Progress m all left old new are)
+    (at_drop_all (λ left. selected selection (paths_of left)) paths index l
+    ∙ selected-nil selection) h
+
+-- what is emitted for a path that is taken fails
+pub fail_taken : {T E : Type 0} (r : Result T E) (a b : Option (List ℕ)) (buffer : List ℕ)
+    (output : List ℕ → List ℕ) (selection : Selection) (path : List ℕ)
+    → is_taken selection path ≡ true → OnErr r (EmitsPrefix a b buffer (output path))
+    → OnErr r (EmitsPrefix a b buffer (outputs_of output (taken selection path)))
+fail_taken r a b buffer output selection path e h = rw (e, append-nil (output path)) h
+
+-- the selected paths, if path comes next: it, if it is taken, and then those of another selection
+abbrev pub Takes : Selection → Selection → List ℕ → Type 0
+Takes selection other path =
+    (paths : List (List ℕ))
+    → selected selection (path ∷ paths) ≡ taken selection path ++ selected other paths
 
 module _ (m : Model) (all : List (List ℕ)) (old new : Streams) (are : Bool) where
   -- after all answers so far, a prefix of the whole output was written
@@ -82,41 +110,69 @@ module _ (m : Model) (all : List (List ℕ)) (old new : Streams) (are : Bool) wh
       (Emits-stop old.written new.written old.buffer new.buffer h.so_far
       (outputs_of m.output left) h.emits)
 
-  -- the next path is answered
-  pub Progress-next : (path : List ℕ) (left : List (List ℕ)) (after : Streams) (is both : Bool)
-      → Progress m all (path ∷ left) old new are
-      → Emits new.written after.written new.buffer after.buffer (m.output path)
-      → Tells new.failed after.failed new.told after.told
-      (refusal_unless m.answered m.refusal path)
-      → is ≡ m.answered path → both ≡ (are && is)
+  -- the next of these paths are answered
+  pub Progress-next : (next left : List (List ℕ)) (after : Streams) (is both : Bool)
+      → Progress m all (next ++ left) old new are
+      → Emits new.written after.written new.buffer after.buffer (outputs_of m.output next)
+      → Tells new.failed after.failed new.told after.told (refusals m next)
+      → is ≡ list_all m.answered next → both ≡ (are && is)
       → Progress m all left old after both
-  Progress-next path left after is both h emits tells e d = record {
-    so_far = h.so_far ++ m.output path;
-    said = h.said ++ refusal_unless m.answered m.refusal path;
+  Progress-next next left after is both h emits tells e d = record {
+    so_far = h.so_far ++ outputs_of m.output next;
+    said = h.said ++ refusals m next;
     emits = Emits-then old.written new.written after.written old.buffer new.buffer after.buffer
-        h.so_far (m.output path) h.emits emits;
+        h.so_far (outputs_of m.output next) h.emits emits;
     tells = Tells-then old.told new.told after.told old.failed new.failed after.failed h.said
-        (refusal_unless m.answered m.refusal path) h.tells tells;
-    output = append_assoc h.so_far (m.output path) (outputs_of m.output left) ∙ h.output;
-    refused = append_assoc h.said (refusal_unless m.answered m.refusal path) (refusals m left)
-        ∙ h.refused;
+        (refusals m next) h.tells tells;
+    output = append_assoc h.so_far (outputs_of m.output next) (outputs_of m.output left)
+        ∙ ap (λ l. h.so_far ++ l) (sym (flat_map-append m.output next left)) ∙ h.output;
+    refused = append_assoc h.said (refusals m next) (refusals m left)
+        ∙ ap (λ l. h.said ++ l)
+        (sym (flat_map-append (refusal_unless m.answered m.refusal) next left)) ∙ h.refused;
     answers = ap (λ b. b && list_all m.answered left) d
         ∙ and_assoc are is (list_all m.answered left)
-        ∙ ap (λ b. are && (b && list_all m.answered left)) e ∙ h.answers;
+        ∙ ap (λ b. are && (b && list_all m.answered left)) e
+        ∙ ap (λ b. are && b) (sym (list_all-append m.answered next left)) ∙ h.answers;
   }
 
-  -- the answer to the next path fails
-  pub Progress-fail : (path : List ℕ) (left : List (List ℕ)) (after : Option (List ℕ))
-      → Progress m all (path ∷ left) old new are
-      → EmitsPrefix new.written after new.buffer (m.output path)
+  -- the answer to the next of these paths fails
+  pub Progress-fail : (next left : List (List ℕ)) (after : Option (List ℕ))
+      → Progress m all (next ++ left) old new are
+      → EmitsPrefix new.written after new.buffer (outputs_of m.output next)
       → EmitsPrefix old.written after old.buffer (outputs_of m.output all)
-  Progress-fail path left after h more =
+  Progress-fail next left after h more =
       subst (EmitsPrefix old.written after old.buffer)
-      (append_assoc h.so_far (m.output path) (outputs_of m.output left) ∙ h.output)
-      (EmitsPrefix-more old.written after old.buffer (h.so_far ++ m.output path)
+      (append_assoc h.so_far (outputs_of m.output next) (outputs_of m.output left)
+      ∙ ap (λ l. h.so_far ++ l) (sym (flat_map-append m.output next left)) ∙ h.output)
+      (EmitsPrefix-more old.written after old.buffer (h.so_far ++ outputs_of m.output next)
       (outputs_of m.output left)
-      (Emits-fail old.written new.written after old.buffer new.buffer h.so_far (m.output path)
-      h.emits more))
+      (Emits-fail old.written new.written after old.buffer new.buffer h.so_far
+      (outputs_of m.output next) h.emits more))
+
+  -- the path that comes next is answered, if it is taken
+  pub Progress-take : (selection other : Selection) (path : List ℕ) (paths : List (List ℕ))
+      (after : Streams) (is both : Bool)
+      → Progress m all (selected selection (path ∷ paths)) old new are
+      → Takes selection other path
+      → Emits new.written after.written new.buffer after.buffer
+      (outputs_of m.output (taken selection path))
+      → Tells new.failed after.failed new.told after.told (refusals m (taken selection path))
+      → is ≡ list_all m.answered (taken selection path) → both ≡ (are && is)
+      → Progress m all (selected other paths) old after both
+  Progress-take selection other path paths after is both h takes emits tells e d =
+      Progress-next (taken selection path) (selected other paths) after is both
+      (subst (λ left. Progress m all left old new are) (takes paths) h) emits tells e d
+
+  -- the answer to the path that comes next fails
+  pub Progress-take_fail : (selection : Selection) (path : List ℕ) (paths : List (List ℕ))
+      (after : Option (List ℕ))
+      → Progress m all (selected selection (path ∷ paths)) old new are
+      → EmitsPrefix new.written after new.buffer (outputs_of m.output (taken selection path))
+      → EmitsPrefix old.written after old.buffer (outputs_of m.output all)
+  Progress-take_fail selection path paths after h more =
+      let (others, e) = selected-splits selection path paths in
+      Progress-fail (taken selection path) others after
+      (subst (λ left. Progress m all left old new are) e h) more
 
   -- no path is left
   pub Progress-emits : Progress m all [] old new are
@@ -134,17 +190,19 @@ module _ (m : Model) (all : List (List ℕ)) (old new : Streams) (are : Bool) wh
   pub Progress-answered : Progress m all [] old new are → are ≡ list_all m.answered all
   Progress-answered h = sym (and_true are) ∙ h.answers
 
--- as `Progress`, for the records of an input of which `now` is left, if the input is known
-abbrev pub Answers : Model → ℕ → Option (List ℕ) → Option (List ℕ) → Streams → Streams → Bool
-    → Type 0
-Answers m end known now old new are =
+-- as `Progress`, for the selected records of an input of which `now` is left, if the input is known
+abbrev pub Answers : Model → ℕ → Option (List ℕ) → Option (List ℕ) → Selection → Selection
+    → Streams → Streams → Bool → Type 0
+Answers m end known now first selection old new are =
     IfSome known (λ input. (left : List ℕ) × (now ≡ Some left)
-    × Progress m (records_of end input) (records_of end left) old new are)
+    × Progress m (selected first (records_of end input)) (selected selection (records_of end left))
+    old new are)
 
-pub Answers-init : (m : Model) (end : ℕ) (known : Option (List ℕ)) (s : Streams)
-    → Answers m end known known s s true
-Answers-init m end None s = tt
-Answers-init m end (Some input) s = (input, refl, Progress-init m (records_of end input) s)
+pub Answers-init : (m : Model) (end : ℕ) (known : Option (List ℕ)) (selection : Selection)
+    (s : Streams) → Answers m end known known selection selection s s true
+Answers-init m end None selection s = tt
+Answers-init m end (Some input) selection s =
+    (input, refl, Progress-init m (selected selection (records_of end input)) s)
 
 at_some : (P : List ℕ → Type 0) (b : Option (List ℕ)) (left : List ℕ) → b ≡ Some left
     → IfSome b P → P left
@@ -171,67 +229,84 @@ no_record end now bytes left e read none =
     (sym (at_some (λ xs. bytes ≡ take_through end xs) now left e read) ∙ none)
 
 -- after all answers so far, a prefix of the whole output was written
-pub Answers-stop : (m : Model) (end : ℕ) (known now : Option (List ℕ)) (old new : Streams)
-    (are : Bool) → Answers m end known now old new are
+pub Answers-stop : (m : Model) (end : ℕ) (known now : Option (List ℕ)) (first selection : Selection)
+    (old new : Streams) (are : Bool) → Answers m end known now first selection old new are
     → IfSome known (λ input. EmitsPrefix old.written new.written old.buffer
-    (outputs_of m.output (records_of end input)))
-Answers-stop m end None now old new are h = tt
-Answers-stop m end (Some input) now old new are (left, e, h) =
-    Progress-stop m (records_of end input) old new are (records_of end left) h
+    (outputs_of m.output (selected first (records_of end input))))
+Answers-stop m end None now first selection old new are h = tt
+Answers-stop m end (Some input) now first selection old new are (left, e, h) =
+    Progress-stop m (selected first (records_of end input)) old new are
+    (selected selection (records_of end left)) h
 
-module _ (m : Model) (end : ℕ) (known now : Option (List ℕ)) (old new : Streams)
-    (bytes : List ℕ) (are : Bool) where
-  -- the next record is answered
-  pub Answers-next : (next : Option (List ℕ)) (after : Streams) (path : List ℕ) (is both : Bool)
-      → Answers m end known now old new are → IsRead end now bytes → 0 < length bytes
-      → path ≡ strip_last end bytes → DropsThrough now next end
-      → Emits new.written after.written new.buffer after.buffer (m.output path)
-      → Tells new.failed after.failed new.told after.told
-      (refusal_unless m.answered m.refusal path)
-      → is ≡ m.answered path → both ≡ (are && is)
-      → Answers m end known next old after both
-  Answers-next next after path is both h read l p drops emits tells i b =
-      (elim known as (λ known. Answers m end known now old new are
-      → Answers m end known next old after both) [
+module _ (m : Model) (end : ℕ) (known now : Option (List ℕ)) (first selection : Selection)
+    (old new : Streams) (bytes : List ℕ) (are : Bool) where
+  -- the next record is at the front of what is left
+  at_next : (input path left : List ℕ) → now ≡ Some left → IsRead end now bytes
+      → 0 < length bytes → path ≡ strip_last end bytes
+      → Progress m (selected first (records_of end input))
+      (selected selection (records_of end left)) old new are
+      → Progress m (selected first (records_of end input))
+      (selected selection (path ∷ records_of end (drop_through end left))) old new are
+  at_next input path left e read l p h =
+      subst (λ records. Progress m (selected first (records_of end input))
+      (selected selection records) old new are) (next_record end now bytes path left e read l p) h
+
+  -- the next record is answered, if it is selected
+  pub Answers-next : (next : Option (List ℕ)) (other : Selection) (after : Streams)
+      (path : List ℕ) (is both : Bool)
+      → Answers m end known now first selection old new are → IsRead end now bytes
+      → 0 < length bytes → path ≡ strip_last end bytes → DropsThrough now next end
+      → Takes selection other path
+      → Emits new.written after.written new.buffer after.buffer
+      (outputs_of m.output (taken selection path))
+      → Tells new.failed after.failed new.told after.told (refusals m (taken selection path))
+      → is ≡ list_all m.answered (taken selection path) → both ≡ (are && is)
+      → Answers m end known next first other old after both
+  Answers-next next other after path is both h read l p drops takes emits tells i b =
+      (elim known as (λ known. Answers m end known now first selection old new are
+      → Answers m end known next first other old after both) [
         | None ↦ λ h. tt
-        | Some input ↦ λ h. let (left, e, so_far) = h in (
-          drop_through end left,
-          at_some (λ xs. next ≡ Some (drop_through end xs)) now left e drops,
-          Progress-next m (records_of end input) old new are path
-              (records_of end (drop_through end left)) after is both
-              (subst (λ records. Progress m (records_of end input) records old new are)
-              (next_record end now bytes path left e read l p) so_far) emits tells i b,
-        )
+        | Some input ↦ λ h. let (left, e, so_far) = h in
+            let rest = records_of end (drop_through end left) in (
+              drop_through end left,
+              at_some (λ xs. next ≡ Some (drop_through end xs)) now left e drops,
+              Progress-take m (selected first (records_of end input)) old new are
+                  selection other path rest after is both
+                  (at_next input path left e read l p so_far) takes emits tells i b,
+            )
       ]) h
 
   -- the answer to the next record fails
   pub Answers-fail : (after : Option (List ℕ)) (path : List ℕ)
-      → Answers m end known now old new are → IsRead end now bytes → 0 < length bytes
-      → path ≡ strip_last end bytes → EmitsPrefix new.written after new.buffer (m.output path)
+      → Answers m end known now first selection old new are → IsRead end now bytes
+      → 0 < length bytes → path ≡ strip_last end bytes
+      → EmitsPrefix new.written after new.buffer (outputs_of m.output (taken selection path))
       → IfSome known (λ input. EmitsPrefix old.written after old.buffer
-      (outputs_of m.output (records_of end input)))
+      (outputs_of m.output (selected first (records_of end input))))
   Answers-fail after path h read l p more =
-      (elim known as (λ known. Answers m end known now old new are
+      (elim known as (λ known. Answers m end known now first selection old new are
       → IfSome known (λ input. EmitsPrefix old.written after old.buffer
-      (outputs_of m.output (records_of end input)))) [
+      (outputs_of m.output (selected first (records_of end input))))) [
         | None ↦ λ h. tt
         | Some input ↦ λ h. let (left, e, so_far) = h in
-            Progress-fail m (records_of end input) old new are path
-            (records_of end (drop_through end left)) after
-            (subst (λ records. Progress m (records_of end input) records old new are)
-            (next_record end now bytes path left e read l p) so_far) more
+            Progress-take_fail m (selected first (records_of end input)) old new are
+            selection path (records_of end (drop_through end left)) after
+            (at_next input path left e read l p so_far) more
       ]) h
 
   -- no record is left
-  pub Answers-end : Answers m end known now old new are → IsRead end now bytes → bytes ≡ []
-      → IfSome known (λ input. Progress m (records_of end input) [] old new are)
+  pub Answers-end : Answers m end known now first selection old new are → IsRead end now bytes
+      → bytes ≡ []
+      → IfSome known (λ input. Progress m (selected first (records_of end input)) [] old new are)
   Answers-end h read none =
-      (elim known as (λ known. Answers m end known now old new are
-      → IfSome known (λ input. Progress m (records_of end input) [] old new are)) [
+      (elim known as (λ known. Answers m end known now first selection old new are
+      → IfSome known (λ input. Progress m (selected first (records_of end input)) []
+      old new are)) [
         | None ↦ λ h. tt
         | Some input ↦ λ h. let (left, e, so_far) = h in
-            subst (λ records. Progress m (records_of end input) records old new are)
-            (no_record end now bytes left e read none) so_far
+            subst (λ records. Progress m (selected first (records_of end input)) records old new
+            are) (ap (selected selection) (no_record end now bytes left e read none)
+            ∙ selected-nil selection) so_far
       ]) h
 
 -- what follows from a known input

@@ -1,5 +1,5 @@
 -- What a meaning takes from the items of the arguments.
-use Rattle.std.proofs.Common.{◌≡◌, ℕ, List, [], ◌∷◌, Option, Some, None, Ok, refl, ap, ap₂}
+use Rattle.std.proofs.Common.{◌≡◌, ℕ, List, [], ◌∷◌, Option, Some, None, Ok, refl, ap, ap₂, ◌∙◌}
 use Rattle.upath_commands.specs.declared.command.JoinRule.{JoinRule}
 use Rattle.upath_commands.specs.declared.options.Flag.{Flag}
 use Rattle.upath_commands.specs.declared.options.Flag.TheVariants as option
@@ -10,7 +10,8 @@ use Rattle.upath_commands.specs.Arguments.{fault_of, first_of, found_meaning, fr
 use Rattle.upath_commands.specs.Arguments.{join_meaning, join_rule, meaning_of_verb, newline_fault}
 use Rattle.upath_commands.specs.Arguments.{refusal_of, refuse, relative_meaning, request_of}
 use Rattle.upath_commands.specs.Arguments.{request_or}
-use Rattle.upath_commands.specs.Arguments.{settings_of, escapes_options, under_options}
+use Rattle.upath_commands.specs.Arguments.{settings_of, escapes_options, sort_options}
+use Rattle.upath_commands.specs.Arguments.{under_options}
 use Rattle.upath_commands.specs.Invocations.{CommandValue, Meaning, UsageValue}
 use Rattle.upath_commands.specs.Invocations as value
 use Rattle.upath_commands.specs.Items.{ItemValue}
@@ -77,6 +78,9 @@ module _ (xs ys : List ItemValue) (same : SameOptions xs ys) where
   under_options-same =
       rw (same.flags option.Inverted, same.flags option.Strip, same.flags option.ByParts) refl
 
+  sort_options-same : sort_options xs ≡ sort_options ys
+  sort_options-same = rw (same.flags option.Unique, same.flags option.Reversed) refl
+
   newline_fault-same : (operands : List (List ℕ))
       → newline_fault xs operands ≡ newline_fault ys operands
   newline_fault-same operands = rw (same.flags option.Null) refl
@@ -97,10 +101,17 @@ module _ (xs ys : List ItemValue) (same : SameOptions xs ys) where
   meaning_of_verb-same verb.Strip name operands = each_after-same value.Strip _ operands
   meaning_of_verb-same verb.Relative name operands =
       rw same.dir (relative_meaning-same (from_dir ys) name operands)
+  meaning_of_verb-same verb.Key name operands = each-same _ operands
+  meaning_of_verb-same verb.Unkey name operands =
+      each-same _ operands
+      ∙ ap (λ null. each (value.Unkey null) ys operands) (same.flags option.Null)
   meaning_of_verb-same verb.Escapes name operands =
       rw escapes_options-same (each-same _ operands)
   meaning_of_verb-same verb.Under name operands =
       rw under_options-same (each_after-same _ _ operands)
+  meaning_of_verb-same verb.Sort name operands =
+      rw sort_options-same (each-same _ operands)
+  meaning_of_verb-same verb.Uniq name operands = each-same _ operands
   meaning_of_verb-same verb.Equal name operands = equal_meaning-same name operands
 
   -- the same wrong usage is among both lists of items

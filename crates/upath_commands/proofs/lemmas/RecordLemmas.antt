@@ -1,15 +1,18 @@
 -- The records of an input, one after the other.
 use Rattle.std.proofs.Common.{◌≡◌, ℕ, ◌-◌, ◌<◌, Bool, true, false, ◌==◌, nat_lt}
 use Rattle.std.proofs.Common.{List, [], ◌∷◌, ◌++◌, length, All, ◌⊎◌, inl, inr}
-use Rattle.std.proofs.Common.{refl, sym, ap, ◌∙◌, arith, rules, slice_index}
-use Rattle.std.specs.Io.BufRead.{take_through, drop_through, strip_last}
-use Rattle.std.specs.List.{slice_split, onto_first}
+use Rattle.std.proofs.Common.{refl, sym, ap, ap₂, subst, ◌∙◌, arith, rules, slice_index}
+use Rattle.std.proofs.Common.{◌+◌, ◌≤◌, suc, one-add, append-nil, append_assoc, drop, take}
+use Rattle.std.proofs.Common.{length-drop, length-take}
+use Rattle.std.specs.Io.BufRead.{take_through, drop_through, first_piece, strip_last}
+use Rattle.std.specs.List.{slice_split, onto_first, position_or_len}
 use Rattle.std.proofs.lemmas.Bool.{eqb-true}
-use Rattle.std.proofs.lemmas.List.{length-append}
+use Rattle.std.proofs.lemmas.List.{at_drop_all, drop-drop, length-append, map-append}
 use Rattle.std.proofs.lemmas.List.Elements.{All-nil, All-cons}
 use Rattle.std.proofs.lemmas.List.Splits.{length-slice_split}
 use Rattle.std.proofs.Math.Seq.{take-append_seam, get_or-append_seam}
-use Rattle.upath_commands.specs.Records.{records_of, without_empty_last}
+use Rattle.unix_path.specs.declared.path.Path.{Path}
+use Rattle.upath_commands.specs.Records.{paths_of, records_of, without_empty_last}
 
 -- a test is true or false
 pub by_test : {X : Type 0} (t : Bool) → (t ≡ true → X) → (t ≡ false → X) → X
@@ -125,3 +128,122 @@ records_of-end end (x ∷ xs) e =
     by_test (is_end end x)
     (λ d. let h : x ∷ [] ≡ [] = rw d at e in absurd (omega (arith, ap length h)))
     (λ d. let h : x ∷ take_through end xs ≡ [] = rw d at e in absurd (omega (arith, ap length h)))
+
+abbrev first_end : ℕ → List ℕ → ℕ
+first_end end xs = position_or_len (is_end end) xs
+
+first_end-later : (end x : ℕ) (xs : List ℕ) → is_end end x ≡ false
+    → suc (first_end end xs) ≡ first_end end (x ∷ xs)
+first_end-later end x xs e = rw e (sym (one-add (first_end end xs)))
+
+first_end-le : (end : ℕ) (xs : List ℕ) → first_end end xs ≤ length xs
+first_end-le end [] = omega arith
+first_end-le end (x ∷ xs) =
+    by_test (is_end end x)
+    (λ e. rw e (omega arith))
+    (λ e. rw (sym (first_end-later end x xs e)) (omega (arith, first_end-le end xs)))
+
+-- the bytes after the first `end`
+drop_through-at : (end : ℕ) (xs : List ℕ)
+    → drop_through end xs ≡ drop (suc (first_end end xs)) xs
+drop_through-at end [] = refl
+drop_through-at end (x ∷ xs) =
+    by_test (is_end end x)
+    (λ e. rw e refl)
+    (λ e. subst (λ n. drop_through end (x ∷ xs) ≡ drop (suc n) (x ∷ xs))
+    (first_end-later end x xs e) (rw e (drop_through-at end xs)))
+
+-- the bytes through the first `end`: those before it, and it, if there is one
+Front : ℕ → List ℕ → List ℕ → Type 0
+Front end through front =
+    (through ≡ front ++ end ∷ []) ⊎ ((through ≡ front) × All (λ b. is_end end b ≡ false) front)
+
+front_later : (end x : ℕ) (through front : List ℕ) → is_end end x ≡ false
+    → Front end through front → Front end (x ∷ through) (x ∷ front)
+unfolding Front
+front_later end x through front e (inl h) = inl (ap (λ l. x ∷ l) h)
+front_later end x through front e (inr (h, a)) =
+    inr (ap (λ l. x ∷ l) h, All-cons (λ b. is_end end b ≡ false) x front e a)
+
+front_at : (end : ℕ) (xs : List ℕ)
+    → Front end (take_through end xs) (take (first_end end xs) xs)
+unfolding Front
+front_at end [] = inr (refl, All-nil (λ b. is_end end b ≡ false))
+front_at end (x ∷ xs) =
+    by_test (is_end end x)
+    (λ e. rw e (inl (ap (λ b. b ∷ []) (eqb-true x end e))))
+    (λ e. subst (λ n. Front end (take_through end (x ∷ xs)) (take n (x ∷ xs)))
+    (first_end-later end x xs e) (rw e
+    (front_later end x (take_through end xs) (take (first_end end xs) xs) e (front_at end xs))))
+
+of_front : (end : ℕ) (through front : List ℕ) → Front end through front
+    → strip_last end through ≡ front
+unfolding Front
+of_front end through front (inl h) = ap (strip_last end) h ∙ strip_last-end end front
+of_front end through front (inr (h, a)) = ap (strip_last end) h ∙ strip_last-whole end front a
+
+-- the bytes before the first `end`
+pub first_piece_at : (end : ℕ) (xs : List ℕ)
+    → take (position_or_len (λ b. b == end) xs) xs ≡ first_piece end xs
+first_piece_at end xs = sym (of_front end _ _ (front_at end xs))
+
+some_through : (end : ℕ) (xs : List ℕ) → 0 < length xs → 0 < length (take_through end xs)
+some_through end [] l = absurd (omega arith)
+some_through end (x ∷ xs) l =
+    by_test (is_end end x) (λ e. rw e (omega arith)) (λ e. rw e (omega arith))
+
+-- the first record isn't longer than the input
+pub first_piece-le : (end : ℕ) (front xs : List ℕ) → front ≡ first_piece end xs
+    → length front ≤ length xs
+first_piece-le end front xs e =
+    omega (
+      arith,
+      ap length e,
+      ap length (first_piece_at end xs),
+      length-take (first_end end xs) xs,
+    )
+
+-- after the first record and its `end` the records go on
+records_of-drop : (end : ℕ) (front xs : List ℕ) → 0 < length xs → front ≡ first_piece end xs
+    → records_of end xs ≡ front ∷ records_of end (drop (suc (length front)) xs)
+records_of-drop end front xs l e =
+    let n : suc (first_end end xs) ≡ suc (length front) =
+    omega (
+      arith,
+      ap length e,
+      ap length (first_piece_at end xs),
+      length-take (first_end end xs) xs,
+      first_end-le end xs,
+    ) in
+    records_of-next end xs (some_through end xs l)
+    ∙ ap₂ (λ front rest. front ∷ records_of end rest) (sym e)
+    (drop_through-at end xs ∙ ap (λ n. drop n xs) n)
+
+-- the records after one of them was taken off an input as a path
+pub records_taken : (end : ℕ) (input : List ℕ) (at next : ℕ) (old new : List Path) (path : Path)
+    → at < length input → path.bytes.now ≡ first_piece end (drop at input)
+    → drop (at + suc (length path.bytes.now)) input ≡ drop next input
+    → new ≡ old ++ path ∷ []
+    → paths_of old ++ records_of end (drop at input) ≡ records_of end input
+    → paths_of new ++ records_of end (drop next input) ≡ records_of end input
+records_taken end input at next old new path l e d added h =
+    let xs = drop at input in
+    let front = path.bytes.now in
+    ap (λ paths. paths_of paths ++ records_of end (drop next input)) added
+    ∙ ap (λ records. records ++ records_of end (drop next input))
+    (map-append (λ (path : Path). path.bytes.now) old (path ∷ []))
+    ∙ append_assoc (paths_of old) (front ∷ []) (records_of end (drop next input))
+    ∙ ap (λ rest. paths_of old ++ front ∷ records_of end rest)
+    (sym (drop-drop (suc (length front)) at input ∙ d))
+    ∙ ap (λ records. paths_of old ++ records)
+    (sym (records_of-drop end front xs (omega (arith, length-drop at input)) e)) ∙ h
+
+-- all records were taken off an input
+pub records_done : (end : ℕ) (input : List ℕ) (at : ℕ) (paths : List (List ℕ))
+    → length input ≤ at
+    → paths ++ records_of end (drop at input) ≡ records_of end input
+    → paths ≡ records_of end input
+records_done end input at paths l h =
+    sym (append-nil paths)
+    ∙ ap (λ records. paths ++ records)
+    (sym (at_drop_all (records_of end) input at l ∙ records_of-nil end)) ∙ h

@@ -1,6 +1,7 @@
 use Rattle.std.proofs.Common.{◌-◌, drop, length}
 use Rattle.upath_commands.specs.Outputs.{has_failed, told_to, unwritten, written_to}
 use Rattle.upath_commands.specs.Records.{paths_of}
+use Rattle.upath_commands.specs.Selections.{selected}
 use Rattle.upath_commands.proofs.lemmas.EngineLemmas.{Progress}
 use Rattle.upath_commands.proofs.answers.answer_each.Given as goal
 
@@ -11,8 +12,8 @@ invariant-loop-index g l =
       answered = g.A.Answerer.answered l.answerer;
       refusal = g.A.Answerer.refusal l.answerer;
     })
-    (paths_of l.paths)
-    (paths_of (drop l.index l.paths))
+    (selected l.initial.selection (paths_of l.paths))
+    (selected l.selection (paths_of (drop l.index l.paths)))
     (record {
       written = g.W.Write.contents (written_to l.initial.output);
       buffer = unwritten l.initial.output;

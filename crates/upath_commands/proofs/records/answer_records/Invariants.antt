@@ -12,6 +12,8 @@ invariant-loop g l =
     l.end
     (g.R.Read.remaining l.initial.reader)
     (g.R.Read.remaining l.reader)
+    l.initial.selection
+    l.selection
     (record {
       written = g.W.Write.contents (written_to l.initial.output);
       buffer = unwritten l.initial.output;

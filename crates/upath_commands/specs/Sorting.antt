@@ -1,0 +1,66 @@
+-- The paths that `sort` and `uniq` write, and their order.
+use Rattle.std.specs.Prelude.{ℕ, Bool, true, false, not, List, [], ◌∷◌, reverse, Option, Some}
+use Rattle.std.specs.Prelude.{None, if◌then◌else◌}
+use Rattle.std.specs.List.{dedup, filter}
+use Rattle.std.specs.Ordering.{is_eq, is_lt}
+use Rattle.unix_path.specs.Order.{values_cmp}
+use Rattle.unix_path.specs.Parts.{values}
+use Rattle.upath_commands.specs.Invocations.{CommandValue, Sort, Uniq}
+use Rattle.upath_commands.specs.declared.command.SortOptions.{SortOptions}
+
+-- p comes before q in the order of paths
+abbrev pub comes_before : List ℕ → List ℕ → Bool
+comes_before p q = is_lt (values_cmp (values p) (values q))
+
+-- p and q are equal paths
+abbrev pub same_path : List ℕ → List ℕ → Bool
+same_path p q = is_eq (values_cmp (values p) (values q))
+
+-- x and the sorted elements: x comes before the first of them that isn't less
+abbrev pub insert_sorted : {X : Type 0} → (X → X → Bool) → X → List X → List X
+insert_sorted less x [] = x ∷ []
+insert_sorted less x (y ∷ ys) =
+    if less y x then y ∷ insert_sorted less x ys else x ∷ y ∷ ys
+
+-- the elements in their order; of two elements neither of which is less, the first stays first
+unfoldable pub sorted_by : {X : Type 0} → (X → X → Bool) → List X → List X
+sorted_by less [] = []
+sorted_by less (x ∷ xs) = insert_sorted less x (sorted_by less xs)
+
+-- the sorted paths, or of equal ones the first
+abbrev pub unique_of : SortOptions → List (List ℕ) → List (List ℕ)
+unique_of options paths = if options.unique then dedup same_path paths else paths
+
+-- what `sort` writes of these paths
+abbrev pub sorted_of : SortOptions → List (List ℕ) → List (List ℕ)
+sorted_of options paths =
+    let sorted = unique_of options (sorted_by comes_before paths) in
+    if options.reversed then reverse sorted else sorted
+
+-- the first of equal paths, in the order of coming
+unfoldable pub firsts_of : List (List ℕ) → List (List ℕ)
+firsts_of [] = []
+firsts_of (p ∷ ps) = p ∷ filter (λ q. not (same_path p q)) (firsts_of ps)
+
+-- the command writes the first of equal paths
+abbrev pub is_uniq : CommandValue → Bool
+is_uniq Uniq = true
+is_uniq command = false
+
+-- the options of `sort`
+abbrev pub sort_options : CommandValue → Option SortOptions
+sort_options (Sort options) = Some options
+sort_options command = None
+
+-- these paths, sorted if there are options
+abbrev pub arranged : Option SortOptions → List (List ℕ) → List (List ℕ)
+arranged (Some options) paths = sorted_of options paths
+arranged None paths = paths
+
+-- the first of equal paths if that is asked for, or all paths
+abbrev pub firsts_if : Bool → List (List ℕ) → List (List ℕ)
+firsts_if firsts paths = if firsts then firsts_of paths else paths
+
+-- of the paths that are asked for those that the command answers, in their order
+abbrev pub chosen : CommandValue → List (List ℕ) → List (List ℕ)
+chosen command paths = arranged (sort_options command) (firsts_if (is_uniq command) paths)
