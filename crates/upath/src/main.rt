@@ -9,8 +9,8 @@ mod texts;
 use std::alloc::AllocError;
 use std::env::{Env, FillError};
 use std::process::ExitCode;
-use texts::{VERSION, help_of};
-use upath_commands::{Output, Refusals, Texts, argument_paths, command_asked, run_arguments};
+use texts::{COMMANDS, GENERAL, VERSION};
+use upath_commands::{Replies, RunError, Texts, argument_paths, run_arguments};
 
 // Returns the argument with this index, or `None` after the last one.
 fn argument_at(rt: &HostRuntime, index: usize) -> Result<Option<Vec<u8>>, AllocError> {
@@ -42,33 +42,31 @@ fn arguments_of(rt: &HostRuntime) -> Result<Vec<Vec<u8>>, AllocError> {
 }
 
 // Does what the arguments ask for. Returns the exit status.
-fn answer(rt: &HostRuntime) -> Result<u8, AllocError> {
-    let arguments = arguments_of(rt)?;
-    let paths = argument_paths(rt.alloc(), arguments.as_slice())?;
-    let verb = command_asked(rt.alloc(), paths.as_slice())?;
+fn answer(rt: &HostRuntime, arguments: &[Vec<u8>]) -> Result<u8, RunError> {
+    let paths = argument_paths(rt.alloc(), arguments)?;
     let texts = Texts {
-        help: help_of(verb),
+        general: GENERAL,
         version: VERSION,
+        commands: &COMMANDS,
     };
     let mut reader = rt.reader();
-    let mut output = Output::new(rt.alloc(), std::io::writer(rt));
-    let mut refusals = Refusals::new(rt.alloc(), rt.stderr());
-    Ok(run_arguments(
+    let mut replies = Replies::new(rt.alloc(), std::io::writer(rt), rt.stderr());
+    run_arguments(
         rt.alloc(),
         paths.as_slice(),
         texts,
         &mut reader,
-        &mut output,
-        &mut refusals,
-    ))
+        &mut replies,
+    )
 }
 
 fn main(rt: HostRuntime) -> ExitCode {
-    match answer(&rt) {
+    let Ok(arguments) = arguments_of(&rt) else {
+        let _ = eprintln!(rt; "upath: out of memory");
+        return ExitCode::from(3);
+    };
+    match answer(&rt, arguments.as_slice()) {
         Ok(status) => ExitCode::from(status),
-        Err(_) => {
-            let _ = eprintln!(rt; "upath: out of memory");
-            ExitCode::from(3)
-        }
+        Err(_) => ExitCode::from(3),
     }
 }

@@ -7,42 +7,44 @@
 //! lengths count bytes.
 #![tactic(auto)]
 
-mod answers;
-pub mod argument_laws;
+mod ancestors;
+mod answer;
 mod arguments;
 mod bases;
 mod command;
+mod engine;
 mod escapes;
 mod hex;
+mod input;
 mod items;
 mod joins;
 pub mod key_laws;
 mod keys;
-mod names;
 mod options;
 mod output;
 mod parts;
 mod push;
 mod reasons;
 mod records;
+mod replies;
 mod runs;
 mod searches;
 mod selection;
+mod shown;
 pub mod sort_laws;
 mod sorting;
 mod task;
 mod usage;
+mod words;
 
-pub use answers::{Answerer, answer_operands};
-pub use arguments::{argument_paths, command_asked, invocation_of};
+pub use arguments::{argument_paths, invocation_of};
 pub use command::{
     Command, EscapesOptions, Invocation, JoinRule, Settings, SortOptions, UnderOptions,
 };
-pub use options::Verb;
-pub use output::{Output, Refusals, RunError};
-pub use records::answer_input;
-pub use runs::{Texts, run_arguments};
+pub use output::RunError;
+pub use records::records_in;
+pub use replies::Replies;
+pub use runs::{HelpText, Texts, run_arguments};
 pub use selection::Selection;
-pub use sorting::{records_in, sort_paths};
-pub use task::Task;
+pub use sorting::sort_paths;
 pub use usage::{UsageError, UsageErrorKind};
