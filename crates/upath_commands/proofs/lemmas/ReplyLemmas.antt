@@ -148,6 +148,12 @@ module _ (task : TaskValue) where
         (sym (messages-append xs ys));
   }
 
+  -- all of them were answered
+  pub Stopped-same : (a b : State) (xs : List (List ℕ)) → Answered task a b xs
+      → Stopped task a b xs
+  Stopped-same a b xs h =
+      subst (Stopped task a b) (append-nil xs) (Stopped-of a b xs [] h)
+
   -- some paths were answered, and then a prefix of the replies to others was added
   pub Stopped-then : (a b c : State) (xs ys : List (List ℕ)) → Answered task a b xs
       → Stopped task b c ys → Stopped task a c (xs ++ ys)
