@@ -9,9 +9,10 @@ from ctypes import POINTER, c_bool, c_int32, c_size_t, c_uint64
 
 from unix_paths import _OUT, _PATH, _Part, _Span, _Walk, _call
 
-sys.path.append(f"{os.path.dirname(os.path.abspath(__file__))}/../../tools")
+sys.path.append(f"{os.path.dirname(os.path.abspath(__file__))}/../../tests")
 
-from call_rows import read_rows, spelled, spelled_row, unescaped
+import tables
+from tables import spelled, spelled_row, unescaped
 from call_shapes import read_calls
 
 ERRORS = {2**64 - 7: "!separator", 2**64 - 2: "!escapes", 2**64 - 4: "!nul_in_request",
@@ -117,7 +118,7 @@ ANSWERS = {it.name: it.answer for it in read_calls()}
 
 
 def main():
-    rows, wrong = read_rows(), 0
+    rows, wrong = tables.rows(), 0
     for row in rows:
         count, ask = CALLS[row.call]
         paths = row.fields[:count]
