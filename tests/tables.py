@@ -109,25 +109,27 @@ def spelled_row(call, fields):
     return call + "".join(f" | {it}" if it else " |" for it in fields)
 
 
-def exports():
-    """Returns the names of the calls that the header declares, without `unix_path_`."""
-    with open(f"{ROOT}/include/unix_path.h", encoding="utf-8") as file:
-        return set(re.findall(r"^\w+ unix_path_(\w+)\((?:const|void)", file.read(), re.M))
+def calls():
+    """Returns the calls of the library by their names without `unix_path_`: each as its shape, and
+    the type in C that it returns if it answers a question."""
+    with open(f"{ROOT}/tests/calls.inc", encoding="ascii") as file:
+        found = re.findall(r"^(\w+)\((?:(\w+), )?(\w+)\)$", file.read(), re.M)
+    return {name: (shape, answer) for shape, answer, name in found}
 
 
 def rows():
     """Returns the rows of rows.txt. Each call of the library but `version` has to have a row."""
-    found, calls = {}, exports()
+    found, known = {}, calls()
     for line in lines_of("rows.txt"):
         call, *fields = (it.strip(" ") for it in line.split("|"))
         anew = [it if it in WORDS else spelled(unescaped(it)) for it in fields]
-        if call not in calls or not fields or line != spelled_row(call, anew):
+        if call not in known or not fields or line != spelled_row(call, anew):
             refuse("rows.txt", line)
         if line in found:
             refuse("rows.txt", line, "occurs twice")
         found[line] = Row(line, call, tuple(fields))
     asked = {row.call for row in found.values()}
-    lacking = [it for it in calls - {"version"} if ASKED_BY.get(it, it) not in asked]
+    lacking = [it for it in known.keys() - {"version"} if ASKED_BY.get(it, it) not in asked]
     if lacking:
         sys.exit(f"tests/rows.txt has no row of {' '.join(sorted(lacking))}")
     return list(found.values())
