@@ -15,7 +15,7 @@ import tarfile
 import tempfile
 
 from support import ROOT, Case, main, needs
-from call_versions import MAP, read_version, versions_of
+from repository import MAP, read_version, read_versions
 
 # The POSIX utilities that a machine has, and what is needed in addition.
 POSIX = """awk basename cat chmod chown cksum cmp comm cp cut date dd diff dirname echo ed env expr
@@ -125,7 +125,7 @@ class BuildCase(Case):
     def check_library(self, library):
         """Checks the name of a shared library, and the version of each call in it."""
         wanted = {f"unix_path_{it}@@UNIX_PATH_{version}"
-                  for version, calls in versions_of(read(MAP).decode()).items() for it in calls}
+                  for version, calls in read_versions().items() for it in calls}
         named = re.findall(r"SONAME.*\[(.*)\]", said(run(["readelf", "-dW", library])))
         shown = said(run(["nm", "-D", "--defined-only", library])).splitlines()
         self.assertEqual(named, [SONAME])
@@ -556,8 +556,7 @@ class Rust(BuildCase):
 
     def check_calls(self, file):
         """Checks that an object has each call, and exports nothing else."""
-        wanted = {f"unix_path_{it}" for calls in versions_of(read(MAP).decode()).values()
-                  for it in calls}
+        wanted = {f"unix_path_{it}" for calls in read_versions().values() for it in calls}
         self.assertEqual(set(re.findall(r" T (\S+)", said(run(["nm", "-g", file])))), wanted)
 
     def try_target(self, target):

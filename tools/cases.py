@@ -9,10 +9,11 @@ import sys
 import tempfile
 import threading
 
-import call_rows
-import line_rows
-from command_rows import write_examples, write_header
 from repository import ROOT
+
+sys.path.append(f"{ROOT}/tests")
+
+from tables import rows, vectors, write_commands
 
 STRICT = ["-Wall", "-Wextra", "-Wconversion", "-Wpedantic", "-Werror", "-Iinclude"]
 FACE_TESTS = ("rows", "keys", "walks", "laws", "nulls")
@@ -85,26 +86,13 @@ class Cases:
                              stdin=subprocess.DEVNULL, **how)
         said = re.search(rb"\b(\d+) rows, (\d+) left out", run.stdout)
         counts = [int(it) for it in said.groups()] if said else [0, 0]
-        is_right = not has_failed(run) and sum(counts) == len(call_rows.read_rows())
+        is_right = not has_failed(run) and sum(counts) == len(rows())
         return self.tell(f"{name}, {counts[0]} and {counts[1]} left out", is_right, run.stdout)
 
     def replay(self, label, program, folder):
         """Replays the vectors through the program that these words run. Each file is a case."""
         for name, given, wanted in vectors(folder):
             self.answers(f"{label}: {name}", program, given, wanted)
-
-
-def vectors(folder):
-    """Yields the vectors, the examples of tools/commands.txt, the lines of pathtool for the rows of
-    tests/rows.txt, and the lines of tests/lines.txt: for each the file's name, and the paths of its
-    lines and answers."""
-    write_examples(f"{folder}/examples")
-    call_rows.write_lines(f"{folder}/rows")
-    line_rows.write_lines(f"{folder}/lines")
-    made = [f"{folder}/{name}.in" for name in ("examples", "rows", "lines")]
-    for given in sorted(glob.glob(f"{ROOT}/vectors/*.in")) + made:
-        path = given[:-len(".in")]
-        yield os.path.basename(path), given, f"{path}.out"
 
 
 def leave_out(what, why):
@@ -144,10 +132,10 @@ def try_test(cases, label, build, name, linked, folder, runner=()):
 
 
 def build_pathtool(cases, label, build, linked, folder):
-    """Builds the pathtool in C, with the commands of tools/commands.txt. Returns its path, or
+    """Builds the pathtool in C, with the commands of tests/commands.txt. Returns its path, or
     None."""
     program = f"{folder}/pathtool"
-    write_header(f"{folder}/commands.h")
+    write_commands(f"{folder}/commands.h")
     words = [*build, f"-I{folder}", *PATHTOOL, *linked, "-o", program]
     return built_at(program) if cases.call(f"{label}: builds pathtool", words) else None
 

@@ -1,6 +1,7 @@
 """The crates of the repository, what make builds, and the Rattle toolchain."""
 import collections
 import os
+import re
 import shutil
 import subprocess
 import sys
@@ -8,6 +9,9 @@ import sys
 ROOT = os.path.dirname(os.path.dirname(os.path.abspath(__file__)))
 # The processor that programs and the library for C are compiled for: any x86-64.
 BASELINE = "x86-64"
+
+# The linker script that assigns a version to each call of the library for C.
+MAP = "crates/unix_path_c/calls.map"
 
 
 def made(variable, name):
@@ -43,6 +47,20 @@ def read_crates():
 def read_programs():
     """Returns the names of the programs that are installed. Each has a manual page."""
     return sorted(name[:-len(".1")] for name in os.listdir(f"{ROOT}/man"))
+
+
+def read_version():
+    """Returns the version that the header for C defines."""
+    with open(f"{ROOT}/include/unix_path.h", encoding="utf-8") as file:
+        return re.search(r'^#define UNIX_PATH_VERSION "(.*)"', file.read(), re.M)[1]
+
+
+def read_versions():
+    """Returns the calls of the library for C by the version that added them, oldest version
+    first."""
+    with open(f"{ROOT}/{MAP}", encoding="utf-8") as file:
+        nodes = re.findall(r"^UNIX_PATH_(\S+) \{(.*?)^\}", file.read(), re.M | re.S)
+    return {version: re.findall(r"\bunix_path_(\w+);", calls) for version, calls in nodes}
 
 
 def is_program(crate):
