@@ -556,7 +556,8 @@ class Rust(BuildCase):
 
     def check_calls(self, file):
         """Checks that an object has each call, and exports nothing else."""
-        wanted = {f"unix_path_{it}" for calls in read_versions().values() for it in calls}
+        wanted = {f"unix_path_{it}" for calls in read_versions().values()
+                  for it in calls}
         self.assertEqual(set(re.findall(r" T (\S+)", said(run(["nm", "-g", file])))), wanted)
 
     def try_target(self, target):
