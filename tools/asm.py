@@ -1,4 +1,4 @@
-"""Rewrites clang's assembly so that gcc, clang and rustc can read it, and checks such assembly.
+"""The files of asm/: how clang's assembly is rewritten, its rules, and what PROVED.txt says of it.
 
 clang quotes a name with other characters than letters, digits and _, and GNU as for Windows rejects
 quoted names. In the rewritten text a dot replaces each run of these characters. Each local label
@@ -7,9 +7,23 @@ the prefix the caller's program would compute wrong numbers. The only comments t
 names of functions.
 """
 import collections
+import hashlib
+import os
+import pathlib
 import re
+import subprocess
 
+from repository import MAP, ROOT, read_programs
+
+PROVED, NOTICES = "asm/PROVED.txt", "asm/NOTICES.txt"
+# The files that are written by hand and have their digests in PROVED.txt.
+BY_HAND = (NOTICES, "asm/support.c", "include/unix_path.h", "include/unix_path.hpp")
+DIGEST = re.compile("[0-9a-f]{64}  (.*)")
+# The name that the main function of a program has in its assembly: main is in support.c.
+MAIN = "program_main"
 PREFIX = "unix_path_"
+# The most bytes of all files together.
+MOST_BYTES = 4_000_000
 # DROPPED has the directives that only clang reads, or that name the compiled file. FEATURES matches
 # the label that clang adds for Windows, which rustc's module also has. BYTES has the directives
 # whose quoted bytes are not names.
@@ -65,14 +79,17 @@ def rewritten(text, mark):
     return "\n".join(lines) + "\n"
 
 
-def names_of(text):
-    """Returns the names that a text defines, and the names that it exports."""
-    return [label or alias for label, alias in LABEL.findall(text)], set(GLOBAL.findall(text))
+def exports_of(name):
+    """Returns the names that a file of assembly has to export: the library's calls, or MAIN."""
+    if os.path.basename(name)[:-len(".s")] in read_programs():
+        return {MAIN}
+    return set(re.findall(r"\bunix_path_\w+(?=;)", pathlib.Path(ROOT, MAP).read_text("utf-8")))
 
 
 def faults_of(text, exports):
     """Returns what is wrong with a rewritten text. It has to export exactly the names `exports`."""
-    names, found = names_of(text)
+    names = [label or alias for label, alias in LABEL.findall(text)]
+    found = set(GLOBAL.findall(text))
     own = [it for it in names if it not in found]
     quoted = [line for line in text.splitlines()
               if '"' in line and line.split()[0] not in (*BYTES, ".section", "#", "//")]
@@ -84,3 +101,70 @@ def faults_of(text, exports):
             *(f"{it}: defined twice" for it in twice),
             *(f"{it}: exported, or not, by mistake" for it in sorted(found ^ set(exports))),
             *(f"{it.strip()}: a name between quotes" for it in quoted)]
+
+
+def all_faults(files, places):
+    """Returns what is wrong with generated files. They must not contain any of the paths
+    `places`."""
+    faults = [f"{name}: names {place}" for name, data in sorted(files.items())
+              for place in places if place.encode() in data]
+    faults += [f"{name}: {it}" for name, data in sorted(files.items()) if name.endswith(".s")
+               for it in faults_of(data.decode(), exports_of(name))]
+    size = sum(map(len, files.values()))
+    return [*faults, f"asm/: {size} bytes"] if size > MOST_BYTES else faults
+
+
+def digest_of(data):
+    return hashlib.sha256(data).hexdigest()
+
+
+def sources():
+    """Returns the digest of the sources."""
+    run = subprocess.run([f"{ROOT}/tools/asm_sources"], stdout=subprocess.PIPE, text=True,
+                         check=True)
+    return run.stdout.strip()
+
+
+def read_files():
+    """Returns the bytes of each file of asm/ and of each header, by its name in the repository."""
+    top = pathlib.Path(ROOT)
+    return {str(it.relative_to(top)): it.read_bytes()
+            for it in [*top.glob("asm/**/*"), *top.glob("include/*")] if it.is_file()}
+
+
+def by_hand():
+    """Returns the files that are written by hand, by name."""
+    return {name: data for name, data in read_files().items() if name in BY_HAND}
+
+
+def proved_lines():
+    return pathlib.Path(ROOT, PROVED).read_text("utf-8").splitlines()
+
+
+def name_in(line):
+    """Returns the name of the file whose digest is in a line of PROVED.txt. It is empty if the line
+    has a fact."""
+    found = DIGEST.fullmatch(line)
+    return found[1] if found else ""
+
+
+def proved_text(lines, files):
+    """Returns PROVED.txt with these lines, and with the digests of these files."""
+    lines = [*lines, *(f"{digest_of(data)}  {name}" for name, data in files.items())]
+    return "".join(f"{it}\n" for it in sorted(lines, key=name_in)).encode()
+
+
+def read_fact(name):
+    """Returns the value of a fact in asm/PROVED.txt."""
+    return next(it[len(name) + 1:] for it in proved_lines() if it.startswith(f"{name} "))
+
+
+def write_files(files):
+    """Writes these files, and the digest of PROVED.txt in the Makefile."""
+    for name, data in files.items():
+        path = pathlib.Path(ROOT, name)
+        path.parent.mkdir(exist_ok=True)
+        path.write_bytes(data)
+    makefile = pathlib.Path(ROOT, "Makefile")
+    makefile.write_text(re.sub(r"(?m)^PROVED = .*$", f"PROVED = {digest_of(files[PROVED])}",
+                               makefile.read_text("utf-8")), "utf-8")
