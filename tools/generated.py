@@ -5,8 +5,7 @@ import re
 import subprocess
 
 from assembly import faults_of
-from call_versions import MAP
-from repository import ROOT, read_programs
+from repository import MAP, ROOT, read_programs
 
 ASM, MAKEFILE = f"{ROOT}/asm", f"{ROOT}/Makefile"
 # The C source that the program needs, which is written by hand, and the file that says how

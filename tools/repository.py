@@ -1,6 +1,7 @@
 """The repository's crates, for the other scripts of tools/."""
 import collections
 import os
+import re
 
 ROOT = os.path.dirname(os.path.dirname(os.path.abspath(__file__)))
 # The program pathtool: the one that UNIX_PATH_PROGRAM names, or else the one that rt builds.
@@ -11,6 +12,9 @@ UPATH = os.path.abspath(os.environ.get("UNIX_PATH_UPATH") or f"{ROOT}/crates/upa
 # The library for C: the archive that UNIX_PATH_LIB names, or else the one that rt builds.
 LIBRARY = os.path.abspath(os.environ.get("UNIX_PATH_LIB")
                           or f"{ROOT}/crates/unix_path_c/out/libunix_path.a")
+
+# The linker script that assigns a version to each call of the library for C.
+MAP = "crates/unix_path_c/calls.map"
 
 # A line of crates.txt: the crate's kind, and the libraries that it uses.
 Line = collections.namedtuple("Line", "kind libraries")
@@ -37,6 +41,20 @@ def read_crates():
 def read_programs():
     """Returns the names of the programs that are installed. Each has a manual page."""
     return sorted(name[:-len(".1")] for name in os.listdir(f"{ROOT}/man"))
+
+
+def read_version():
+    """Returns the version that the header for C defines."""
+    with open(f"{ROOT}/include/unix_path.h", encoding="utf-8") as file:
+        return re.search(r'^#define UNIX_PATH_VERSION "(.*)"', file.read(), re.M)[1]
+
+
+def read_versions():
+    """Returns the calls of the library for C by the version that added them, oldest version
+    first."""
+    with open(f"{ROOT}/{MAP}", encoding="utf-8") as file:
+        nodes = re.findall(r"^UNIX_PATH_(\S+) \{(.*?)^\}", file.read(), re.M | re.S)
+    return {version: re.findall(r"\bunix_path_(\w+);", calls) for version, calls in nodes}
 
 
 def is_program(crate):

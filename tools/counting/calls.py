@@ -11,10 +11,13 @@ import subprocess
 import sys
 import tempfile
 
-import call_shapes
 from counting import families
 from counting.callgrind import counts
 from repository import ROOT
+
+sys.path.append(f"{ROOT}/tests")
+
+import tables
 
 
 def compiler():
@@ -32,7 +35,7 @@ def read_calls(checkout):
 def rows_of(checkout):
     """Returns the rows of the calls from C that a checkout has. A call that no longer exists here
     has no row."""
-    shapes = {it.name: it.shape for it in call_shapes.read_calls()}
+    shapes = {name: shape for name, (shape, _) in tables.calls().items()}
     rows = families.rows(read_calls(checkout), shapes)
     lacking = read_calls(checkout) & read_calls(ROOT) - {row.call for row in rows}
     if lacking:

@@ -195,7 +195,7 @@ URLS = [
     ("rooted_escapes_first", lambda n: b"/../" + plain(n - 4), SHORT),
 ]
 
-# Families for a call that no list above names, by the shapes of tools/call_shapes.py.
+# Families for a call that no list above names, by the shapes of tools/calls.
 OF_A_PATH = "BEGIN LEFT STEP NEXT_SPAN NEXT_CHUNK FIND ASK MAKE"
 OF_TWO = "FIND_OF_TWO ASK_TWO"
 OTHERS = [

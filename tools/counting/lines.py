@@ -3,9 +3,13 @@
 The generator of random numbers is defined here, so that the lines are the same with every Python.
 """
 import re
+import sys
 
-from command_rows import read_rows
 from repository import ROOT
+
+sys.path.append(f"{ROOT}/tests")
+
+from tables import commands
 
 LINES = 300
 FOLDERS = b"usr share doc lib main www static img include .git node_modules src build".split()
@@ -85,7 +89,7 @@ class Lines:
 
 
 # The functions that make the fields of a line, by the fields after the first one in
-# tools/commands.txt.
+# tests/commands.txt.
 FIELDS = {"": Lines.one_path, "B": Lines.joined, "BASE": Lines.with_base, "END": Lines.with_end,
           "Q": Lines.compared, "TURNS": Lines.walked, "EDIT..": Lines.edited, "P..": Lines.under}
 
@@ -100,7 +104,7 @@ def read_commands():
 def lines_of(command, seed):
     """Returns the lines of a command, as bytes. A command that the table lacks gets one path in
     each line."""
-    behind = {row.name: row.behind for row in read_rows()}.get(command, "")
+    rest = {row.name: row.rest for row in commands()}.get(command, "")
     lines = Lines(seed)
-    return b"".join(b"\t".join([command.encode(), *FIELDS[behind](lines)]) + b"\n"
+    return b"".join(b"\t".join([command.encode(), *FIELDS[rest](lines)]) + b"\n"
                     for _ in range(LINES))
