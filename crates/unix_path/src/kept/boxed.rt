@@ -13,8 +13,8 @@ ghost use Rattle.unix_path.specs.OrderLaws.{values_cmp-total, is_eq-values_cmp};
 ghost use Rattle.unix_path.specs.Parts.{values, SameValues};
 
 use crate::buf::PathBuf;
+use crate::kept::CowPath;
 use crate::path::Path;
-use crate::pointers::CowPath;
 use std::alloc::{AllocError, Global};
 use std::boxed::BoxedSlice;
 use std::cmp::Ordering;
