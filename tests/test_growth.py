@@ -1,8 +1,5 @@
 #!/usr/bin/env python3
-"""Checks that pathtool takes at most about twice the time for lines of twice the size.
-
-tools/check_growth        checks a tenth of the rows, always the same ones
-tools/check_growth --all  checks all rows
+"""pathtool takes at most about twice the time for lines of twice the size.
 
 A row is one of
 
@@ -15,21 +12,18 @@ A row is one of
 Rows are measured in parallel: the processor time of pathtool at one size, and at twice that size. A
 row that takes more than 2.5 times as long is measured again with nothing in parallel. If it still
 does, each of its lines is measured at eight times these sizes. A line fails if it takes more than
-three times as long in the quickest of many tries. The program is the one that UNIX_PATH_PROGRAM
-names, or else the one that rt builds. The last line is `N passed, M failed`, counted in rows.
+three times as long in the quickest of many tries.
+
+A tenth of the rows is checked, always the same ones; with the variable ALL, all of them.
 """
 import collections
+import concurrent.futures
 import itertools
-import multiprocessing
 import os
 import random
 import subprocess
-import sys
 
-from repository import PROGRAM, ROOT
-
-sys.path.append(f"{ROOT}/tests")
-
+from support import PROGRAM, Case, main
 from tables import commands
 
 SEED = 1
@@ -43,7 +37,7 @@ BYTES_PER_EDIT = 16
 SUSPICIOUS_GROWTH = 2.5
 MOST_GROWTH = 3
 # The factor by which a line is larger when it is measured by itself, so that the difference shows.
-ALONE = 8
+FACTOR = 8
 # The most tries of a row or a line that is measured by itself, and the fewest before it may count
 # as linear.
 MOST_TRIES = 40
@@ -105,7 +99,7 @@ def edit_rows():
     """Yields the rows of lists of edits."""
     for (name, pieces), pair in itertools.product(ends(), itertools.product(EDITS, repeat=2)):
         cycles = [pair, *((*pair, third) for third in EDITS)]
-        yield Row(f"edits {name}",
+        yield Row(f"edits {name} {b' '.join(pair).decode()}",
                   lambda size, pieces=pieces, cycles=cycles:
                       [edit_line(pieces, cycle, size) for cycle in cycles], cycles)
 
@@ -143,19 +137,18 @@ def seconds(lines):
         file.seek(0)
         with subprocess.Popen([PROGRAM], stdin=file, stdout=subprocess.DEVNULL) as child:
             _, status, usage = os.wait4(child.pid, 0)
-            child.returncode = os.waitstatus_to_exitcode(status)
-    if child.returncode:
-        sys.exit(f"{PROGRAM} ended with {child.returncode}")
+            child.returncode = status
+    if status:
+        raise AssertionError(f"{PROGRAM} ended with the status {status}")
     return usage.ru_utime + usage.ru_stime
 
 
-def growth_of(place):
+def growth_of(row):
     """Returns the factor by which the row's time grows at twice the size."""
-    lines = ROWS[place].lines
-    return seconds(lines(2 * SIZE)) / seconds(lines(SIZE))
+    return seconds(row.lines(2 * SIZE)) / seconds(row.lines(SIZE))
 
 
-def growth_alone(lines, size, most):
+def least_growth(lines, size, most):
     """Returns the factor by which the time of the lines grows at twice the size, in the quickest of
     several tries. Other programs make a try slower and never quicker, so tries are added while the
     factor is above `most`."""
@@ -170,35 +163,28 @@ def growth_alone(lines, size, most):
 
 
 def steep_lines(row):
-    """Returns the lines of the row that take too long at twice the size, each with its factor."""
-    if growth_alone(row.lines, SIZE, SUSPICIOUS_GROWTH) > SUSPICIOUS_GROWTH:
+    """Yields the lines of the row that take too long at twice the size, each with its factor."""
+    if least_growth(row.lines, SIZE, SUSPICIOUS_GROWTH) > SUSPICIOUS_GROWTH:
         for place, cycle in enumerate(row.cycles):
-            times = growth_alone(lambda size: row.lines(size)[place:place + 1], ALONE * SIZE,
+            times = least_growth(lambda size: row.lines(size)[place:place + 1], FACTOR * SIZE,
                                  MOST_GROWTH)
             if times > MOST_GROWTH:
-                yield f"{row.name}: {b' '.join(cycle).decode()}", times
+                yield f"{b' '.join(cycle).decode()}: {times:.1f} times as long at twice the size"
 
 
-def main():
-    if sys.argv[1:] not in ([], ["--all"]):
-        sys.exit(__doc__)
-    places = range(len(ROWS))
-    if not sys.argv[1:]:
-        places = random.Random(SEED).sample(places, len(places) // 10)
-    with multiprocessing.get_context("fork").Pool(len(os.sched_getaffinity(0))) as pool:
-        found = pool.map(growth_of, places, chunksize=8)
-    failed = 0
-    for place, times in zip(places, found):
-        steep = list(steep_lines(ROWS[place])) if times > SUSPICIOUS_GROWTH else []
-        failed += bool(steep)
-        for name, times in steep:
-            print(f"failed: {name}: {times:.1f} times as long at twice the size")
-    print(f"{len(places) - failed} passed, {failed} failed")
-    return 1 if failed else 0
+class Growth(Case):
 
+    def test_rows(self):
+        rows = [*call_rows(), *edit_rows()]
+        if not os.environ.get("ALL"):
+            rows = random.Random(SEED).sample(rows, len(rows) // 10)
+        with concurrent.futures.ThreadPoolExecutor(len(os.sched_getaffinity(0))) as pool:
+            grown = [*pool.map(growth_of, rows)]
+        for row, times in zip(rows, grown):
+            with self.row(row.name):
+                self.assertEqual(
+                    [*steep_lines(row)] if times > SUSPICIOUS_GROWTH else [], [])
 
-# A worker gets the index of a row, because the functions that make its lines can't be sent.
-ROWS = [*call_rows(), *edit_rows()]
 
 if __name__ == "__main__":
-    sys.exit(main())
+    main()

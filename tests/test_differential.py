@@ -1,32 +1,24 @@
 #!/usr/bin/env python3
-"""Asks pathtool and a Rust program over std::path the same lines, most of them random.
+"""pathtool and a Rust program over std::path answer the same lines, most of them random.
 
-tools/differential [lines=N] [seed=N] [program=FILE] [beside=FILE.rs]
-
-It asks N random lines (by default 1,000,000), equally many of each command of tests/commands.txt.
-The built program answers them, and so does the program in bench/calls/std_pathtool.rs, or a
-function here if Rust's library lacks the command. First come fixed lines: each command on long runs
-of bytes, and the walks over all short paths with all short lists of turns. It prints its seed. It
-stops at the first line with different answers, prints the shortest line that it finds with
-different answers, and exits with 1. The last line says how many commands passed. Needs rustc.
+Each command of commands.txt is asked equally many random lines: LINES in all, by default a million,
+made from SEED, by default a random number. bench/calls/std_pathtool.rs answers the same lines, or a
+function here does if Rust's library lacks the command. First come fixed lines: each command on long
+runs of bytes, and the walks over all short paths with all short lists of turns. A command with a
+line that is answered differently fails with the shortest such line that is found. Needs rustc.
 """
 import itertools
 import json
 import os
 import random
 import subprocess
-import sys
 import tempfile
 
-from repository import PROGRAM, ROOT
-
-sys.path.append(f"{ROOT}/tests")
-
+from support import PROGRAM, ROOT, Case, main, needs
 from tables import commands
 
-OPTIONS = {"lines": "1000000", "seed": None,
-           "program": PROGRAM,
-           "beside": f"{ROOT}/bench/calls/std_pathtool.rs"}
+COUNT = int(os.environ.get("LINES") or 1_000_000)
+SEED = os.environ.get("SEED") or str(random.SystemRandom().randrange(10**9))
 ROWS = {row.name: row for row in commands()}
 
 # The pieces that random paths are made of, each with its frequency.
@@ -103,18 +95,18 @@ class Lines:
             return name + (extension if way < 0.33 else extension.replace(b"/", b""))
         return self.random.choice((b"push:", b"name:")) + self.path()
 
-    def fields(self, behind):
+    def fields(self, rest):
         """Returns a path, and the fields of this form that follow it."""
         path = self.path()
-        if behind == "TURNS":
+        if rest == "TURNS":
             count = int(9 * self.random.random())
             turns = bytes(self.random.choices(b"ffffbbbb", k=count))
             return [path, turns if self.random.random() < 0.98 else turns + b"x"]
-        if behind == "EDIT..":
+        if rest == "EDIT..":
             return [path, *(self.edit() for _ in range(int(6 * self.random.random())))]
-        if behind == "P..":
+        if rest == "P..":
             return [path, *self.paths_about(path)]
-        return [path, self.other_path(path)] if behind else [path]
+        return [path, self.other_path(path)] if rest else [path]
 
     def line(self):
         command = self.command
@@ -140,8 +132,8 @@ def fixed_lines(command):
         # The length of the answer of `ancestors` is quadratic.
         path = piece * (1_000 if command == "ancestors" else 100_000)
         other = path.replace(b"//", b"/") + b"/."
-        behind = {"": [], "TURNS": [b"fbfb"], "EDIT..": EDITS, "P..": [other, path + b"/b"]}
-        fields = behind.get(ROWS[command].rest, [other])
+        rest = {"": [], "TURNS": [b"fbfb"], "EDIT..": EDITS, "P..": [other, path + b"/b"]}
+        fields = rest.get(ROWS[command].rest, [other])
         yield b"\t".join([command.encode(), path, *fields])
     if command == "walk":
         turns = list(strings(b"fb", 8))
@@ -169,7 +161,8 @@ def is_ours_alone(command, count):
 def answers_of(program, lines):
     """Returns the program's answers to these lines, as bytes; or how it ended."""
     found = subprocess.run([program], input=b"".join(line + b"\n" for line in lines),
-                           stdout=subprocess.PIPE, stderr=subprocess.DEVNULL, timeout=300)
+                           stdout=subprocess.PIPE, stderr=subprocess.DEVNULL, timeout=300,
+                           check=False)
     return found.stdout if found.returncode == 0 else f"status {found.returncode}"
 
 
@@ -256,74 +249,45 @@ def printable(line):
                    for byte in line).replace("\\011", "\\t")
 
 
-def show_difference(pair, line):
+def difference(pair, line):
+    """Returns a text about a line that is answered differently."""
     if len(line) > MOST_SHOWN:
-        print(f"the line has {len(line)} bytes, and begins {line[:60]!r}")
-        return
+        return f"the line has {len(line)} bytes, and begins {line[:60]!r}"
     shortest = pair.shrink(line)
     ours, theirs = pair.answers([shortest])
-    print(f"the line:     printf '{printable(line)}\\n'")
-    print(f"the shortest: printf '{printable(shortest)}\\n'")
-    print(f"  pathtool:   {ours!r}")
-    print(f"  beside it:  {theirs!r}")
+    return (f"\nthe line:     printf '{printable(line)}\\n'"
+            f"\nthe shortest: printf '{printable(shortest)}\\n'"
+            f"\n  pathtool:   {ours!r}\n  beside it:  {theirs!r}")
 
 
-def note_on(command):
-    """Returns what the lines of the command were compared with."""
-    if command in ANSWERERS:
-        return f", beside Python's {command}, since Rust's library has none"
-    return f", beside {ROWS[command].std}" if command in ROWS else ""
+@needs("rustc")
+class Differential(Case):
 
+    def test_commands(self):
+        print(f"SEED={SEED}", flush=True)
+        asked = [it.name for it in ROWS.values() if it.std != "-" or it.name in ANSWERERS]
+        each = -(-COUNT // (len(asked) + 1))
+        with tempfile.TemporaryDirectory() as folder:
+            theirs = f"{folder}/std_pathtool"
+            self.call("rustc", "--edition", "2021", "-O",
+                      f"{ROOT}/bench/calls/std_pathtool.rs", "-o", theirs)
+            for command in [*asked, "other"]:
+                with self.row(command):
+                    self.compare(Pair(PROGRAM, theirs), command, each)
+        for name in ROWS.keys() - asked:
+            with self.row(name):
+                self.leave_out(name, "neither Rust's library nor this file answers it")
 
-def compare(pair, seed, command, count):
-    """Returns true if the fixed lines of the command, and this many random ones, are answered the
-    same way."""
-    lines = Lines(seed, command)
-    fixed = fixed_lines(command) if command in ROWS else ()
-    left = itertools.chain(fixed, (lines.line() for _ in range(count)))
-    passed = 0
-    while made := list(itertools.islice(left, 50000)):
-        differing = pair.first_differing(made)
-        if differing is not None:
-            print(f"differs: {command}")
-            show_difference(pair, differing)
-            return False
-        passed += len(made)
-    print(f"same: {command}, {passed} lines{note_on(command)}", flush=True)
-    return True
-
-
-def options():
-    given = dict(OPTIONS)
-    for word in sys.argv[1:]:
-        name, equals, value = word.partition("=")
-        if not equals or name not in OPTIONS or name in ("lines", "seed") and not value.isdigit():
-            sys.exit(f"no such option: {word}")
-        given[name] = value
-    return given
-
-
-def main():
-    given = options()
-    seed = given["seed"] or str(random.SystemRandom().randrange(10**9))
-    print(f"seed={seed}", flush=True)
-    commands = [it.name for it in ROWS.values() if it.std != "-" or it.name in ANSWERERS]
-    for name in ROWS.keys() - commands:
-        print(f"left out: {name}, which neither Rust's library nor this answers")
-    commands.append("other")
-    each = -(-int(given["lines"]) // len(commands))
-    with tempfile.TemporaryDirectory() as folder:
-        theirs = f"{folder}/std_pathtool"
-        subprocess.run(["rustc", "--edition", "2021", "-O", given["beside"], "-o", theirs],
-                       check=True)
-        pair = Pair(given["program"], theirs)
-        for passed, command in enumerate(commands):
-            if not compare(pair, seed, command, each):
-                print(f"{passed} passed, 1 failed")
-                return 1
-    print(f"{len(commands)} passed, 0 failed")
-    return 0
+    def compare(self, pair, command, count):
+        """Asks the fixed lines of the command, and this many random ones."""
+        lines = Lines(SEED, command)
+        fixed = fixed_lines(command) if command in ROWS else ()
+        left = itertools.chain(fixed, (lines.line() for _ in range(count)))
+        while made := list(itertools.islice(left, 50000)):
+            differing = pair.first_differing(made)
+            if differing is not None:
+                self.fail(difference(pair, differing))
 
 
 if __name__ == "__main__":
-    sys.exit(main())
+    main()

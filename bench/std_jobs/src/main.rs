@@ -1,7 +1,7 @@
 //! The jobs of `crates/path_jobs` over `std::path`. `bench/run` compares their times.
 //!
-//! `path_jobs JOB SEED COUNT` makes the same inputs from the seed as that program, calls Rust's own
-//! library, and prints a digest of all results. `path_jobs all SEED COUNT` runs each job. Both
+//! `std_jobs JOB SEED COUNT` makes the same inputs from the seed as that program, calls Rust's own
+//! library, and prints a digest of all results. `std_jobs all SEED COUNT` runs each job. Both
 //! programs print the same for the same arguments, so each run also tests both.
 //!
 //! Each call of that program is the call of the same name here, except where std has no such call
@@ -72,7 +72,7 @@ fn answer() -> Option<()> {
 
 fn main() -> ExitCode {
     if answer().is_none() {
-        eprintln!("usage: path_jobs JOB SEED COUNT");
+        eprintln!("usage: std_jobs JOB SEED COUNT");
         return ExitCode::FAILURE;
     }
     ExitCode::SUCCESS
