@@ -108,7 +108,7 @@ check:
 	@tools/prove
 
 test:
-	@tools/$(if $(filter asm,$(FROM)),test_without_rt,test)
+	@UNIX_PATH_FROM=$(FROM) tools/test
 
 bench: $(BUILD)/pathtool
 	@cd bench/calls && $(OVER) cargo run --release --offline --quiet -- \
