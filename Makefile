@@ -44,8 +44,7 @@ INSTALL = $(call settings,PREFIX LIBDIR INCLUDEDIR MANDIR DESTDIR BUILD) tools/i
 
 .DELETE_ON_ERROR:
 .PHONY: help run upath check test programs lib test-bindings install install_program \
-	install_library uninstall bench bench_tools count differential io-faults dist digests checked \
-	always
+	install_library uninstall bench count differential io-faults dist digests checked always
 
 help:
 	@echo 'These targets need GNU make.'
@@ -55,10 +54,9 @@ help:
 	@echo 'make check         proves every crate, in about ten minutes; later only what changed'
 	@echo 'make test          the full test suite: every proof, test, mutant and vector, from scratch;'
 	@echo '                   about an hour'
-	@echo 'make bench         times the calls and pathtool, compared with Rust. During other work,'
-	@echo '                   building both sides took 8 minutes, and timing them less than 12.'
-	@echo '                   Proves and builds first; needs rustc. bench/calls/run lists its'
-	@echo '                   options, for example  make bench only=parts,eq corpus=deep reps=15'
+	@echo 'make bench         times the calls of asm/ and pathtool, compared with Rust. Proves and'
+	@echo '                   builds pathtool first; needs cargo. For example'
+	@echo '                   make bench only=components,equal reps=15'
 	@echo 'make count         counts the instructions of the jobs, of pathtool and of the calls from'
 	@echo '                   C in half a minute, and compares them with bench/counts.txt.'
 	@echo '                   Proves and builds first; needs valgrind and cc'
@@ -69,9 +67,9 @@ help:
 	@echo '                   large inputs. Proves and builds them first'
 	@echo 'make lib           builds the libraries for C, an archive and a shared library, and'
 	@echo '                   prints the path. Proves them first'
-	@echo 'make test-bindings tests the calls from C, C++, Rust and Python, and the examples, some of'
-	@echo '                   them with SQLite and etcd. Proves and builds the library first; needs'
-	@echo '                   cc, and names each part that lacks another command'
+	@echo 'make test-bindings tests the calls from C, C++, Rust and Python, and the examples, two of'
+	@echo '                   them with SQLite and etcd. Proves and builds the libraries first; needs'
+	@echo '                   cc. What lacks another command is left out, and named'
 	@echo 'make install       installs pathtool and upath with their manual pages and completions,'
 	@echo '                   the libraries with their headers and files for pkg-config and CMake,'
 	@echo '                   and the licences. Proves and builds first what was not proved from'
@@ -83,11 +81,11 @@ help:
 	@echo
 	@echo 'The directories are PREFIX (/usr/local), LIBDIR (PREFIX/lib), INCLUDEDIR (PREFIX/include)'
 	@echo 'and MANDIR (PREFIX/share/man), all below DESTDIR, which no file contains. CC, AR, CPPFLAGS,'
-	@echo 'CFLAGS and LDFLAGS are those of every Makefile. Proved code has no use for CPPFLAGS, and if'
-	@echo 'rt proves it, CFLAGS and LDFLAGS are only those of the shared library.'
+	@echo 'CFLAGS and LDFLAGS have their usual meaning. Code that rt builds is only linked with them,'
+	@echo 'into the shared library.'
 	@echo
-	@echo 'A first proof of everything that is installed takes about seven minutes on four cores.'
-	@echo 'After a change only its crate and the crates above it are proved again.'
+	@echo 'A first proof of pathtool takes 379 seconds or more on four cores, and one of the library a'
+	@echo 'little less. After a change only its crate and the crates above it are proved again.'
 	@echo
 	@echo 'Without rt, or if UNIX_PATH_FROM is asm, nothing is proved: run, upath, lib, install,'
 	@echo 'io-faults, differential and test-bindings build the proved code of asm/ with cc, in a'
@@ -112,14 +110,9 @@ check:
 test:
 	@tools/$(if $(filter asm,$(FROM)),test_without_rt,test)
 
-bench_tools:
-	@bench/calls/run --tools
-
-# The options for bench/calls/run that were set.
-BENCH = $(foreach it,part only corpus reps folder,$(if $($(it)),$(call quoted,$(it)=$($(it)))))
-
-bench: bench_tools $(if $(filter binding,$(part)),$(LIBRARIES),$(BUILD)/pathtool)
-	@$(OVER) bench/calls/run $(BENCH)
+bench: $(BUILD)/pathtool
+	@cd bench/calls && $(OVER) cargo run --release --offline --quiet -- \
+		$(foreach it,only reps,$(if $($(it)),$(call quoted,$(it)=$($(it)))))
 
 count: programs $(LIBRARIES)
 	@tools/prove --build path_jobs >&2

@@ -13,16 +13,13 @@ import unittest
 
 ROOT = os.path.dirname(os.path.dirname(os.path.abspath(__file__)))
 sys.path.append(f"{ROOT}/tools")
+from repository import LIBRARY, PROGRAM, UPATH
 
 
 def built(variable, path):
-    """Returns the path of what was built: what the variable names, or else what rt builds."""
+    """Returns the path of what the variable names, or else of what rt builds in crates/."""
     return os.path.abspath(os.environ.get(variable) or f"{ROOT}/crates/{path}")
 
-
-PROGRAM = built("UNIX_PATH_PROGRAM", "pathtool/out/pathtool")
-UPATH = built("UNIX_PATH_UPATH", "upath/out/upath")
-LIBRARY = built("UNIX_PATH_LIB", "unix_path_c/out/libunix_path.a")
 
 
 def needs(*commands):
