@@ -593,12 +593,13 @@ class Rust(BuildCase):
         self.each(self.try_clang, TARGETS)
 
     def test_package(self):
-        """cargo packs the crates with the assembly and both licences, and verifies them."""
+        """cargo packs the crates with the assembly, notices and licences, and verifies them."""
         self.ran(["cargo", "package", "--workspace", "--offline", "--allow-dirty", "--target-dir",
                   self.folder], CRATE)
         own = r"src/[\w/]+\.rs|Cargo\.(toml|toml\.orig|lock)|README\.md|build\.rs|" \
               r"\.cargo_vcs_info\.json"
-        assembly = ["asm/PROVED.txt", *(f"asm/{it}/unix_path.s" for it in TARGETS.values())]
+        assembly = ["asm/PROVED.txt", "asm/NOTICES.txt",
+                    *(f"asm/{it}/unix_path.s" for it in TARGETS.values())]
         for name, more in ("unix_path_rattle", assembly), ("unix_path_typed", []):
             with self.row(name), tarfile.open(
                     f"{self.folder}/package/{name}-{VERSION}.crate") as archive:
