@@ -504,12 +504,12 @@ mod code;
 
 
 def write_package(folder, crates):
-    """Writes the program tests/rust/constants.rs, which depends on the crate in these directories,
+    """Writes the program tests/rust_asm/constants.rs, which depends on the crate in these directories,
     by name."""
     lines = [f'{name} = {{ package = "unix_path_rattle", path = "{crate}" }}'
              for name, crate in crates.items()]
     write(f"{folder}/Cargo.toml", PACKAGE.format("\n".join(lines)))
-    shutil.copy(f"{ROOT}/tests/rust/constants.rs", f"{folder}/main.rs")
+    shutil.copy(f"{ROOT}/tests/rust_asm/constants.rs", f"{folder}/main.rs")
 
 
 def build_constants(folder, crate, profile):
@@ -549,7 +549,7 @@ class Rust(BuildCase):
         write(f"{folder}/code.rs", ONLY_CODE.format(f"{CRATE}/{CODE}"))
         words = ["rustc", "--edition", "2021", "--target", target]
         how = {"cwd": folder, "RUSTC_BOOTSTRAP": "1"}
-        found = run([*words, "--crate-type", "rlib", f"{ROOT}/tests/rust/no_core.rs"], **how)
+        found = run([*words, "--crate-type", "rlib", f"{ROOT}/tests/rust_asm/no_core.rs"], **how)
         return found if found.returncode else run(
             [*words, "--crate-type", "lib", "--emit", "obj", "--extern",
              "no_core=libno_core.rlib", "code.rs"], **how)
