@@ -228,7 +228,7 @@ class Refuses(BuildCase):
         names = [f"asm/{TARGET}/unix_path.s", f"asm/{TARGET}/pathtool.s", f"asm/{TARGET}/upath.s",
                  "asm/support.c", "asm/NOTICES.txt", "asm/PROVED.txt", "include/unix_path.h",
                  "include/unix_path.hpp"]
-        # Files that commands read before the digests are checked, and also name if they are missing.
+        # Commands that read these before the digests are checked also name them if they are missing.
         read_first = "asm/PROVED.txt", "include/unix_path.h"
         for name in names:
             with self.row(name):
