@@ -228,7 +228,7 @@ class Refuses(BuildCase):
         names = [f"asm/{TARGET}/unix_path.s", f"asm/{TARGET}/pathtool.s", f"asm/{TARGET}/upath.s",
                  "asm/support.c", "asm/NOTICES.txt", "asm/PROVED.txt", "include/unix_path.h",
                  "include/unix_path.hpp"]
-        # Commands that read these before the digests are checked also name them if they are missing.
+        # If one of these is missing, a command that reads it before the check says so too.
         read_first = "asm/PROVED.txt", "include/unix_path.h"
         for name in names:
             with self.row(name):
