@@ -15,13 +15,14 @@ import sys
 import tempfile
 import unittest
 
-from support import PROGRAM, ROOT, UPATH, Case, built, main, needs
+from support import PROGRAM, ROOT, UPATH, Case, main, needs
 
 sys.path.append(f"{ROOT}/bench")
 os.environ["UNIX_PATH_UPATH"] = UPATH
 import upath  # pylint: disable=wrong-import-position
 
-JOBS = built("UNIX_PATH_JOBS", "path_jobs/out/path_jobs")
+JOBS = os.path.abspath(os.environ.get("UNIX_PATH_JOBS")
+                       or f"{ROOT}/crates/path_jobs/out/path_jobs")
 COUNT = 2000
 SEED = int(os.environ.get("SEED") or random.SystemRandom().randrange(1 << 64))
 

@@ -1,4 +1,4 @@
-"""The rows of tools/requests.txt: the calls that can fail because an allocation fails, with the
+"""The rows of tests/requests.txt: the calls that can fail because an allocation fails, with the
 allocations that each makes.
 """
 import dataclasses
@@ -7,7 +7,7 @@ import sys
 
 from repository import ROOT
 
-TABLE = "tools/requests.txt"
+TABLE = "tests/requests.txt"
 ROW = re.compile(r"([\w:]+)[^|#]*\| (\w+)(?: of (\w+))? \| (\d+)(?: of (\d+) bytes)? \| (\d+)")
 
 
