@@ -3,12 +3,11 @@
 mod keyed;
 mod server;
 
+pub(crate) use path_within::relative::relative_path;
+pub(crate) use path_within::within::escapes;
 use path_within::within::{WithinError, join_verbatim, join_within};
 use std::alloc::{AllocError, Global};
 use unix_path::{Path, PathBuf};
-
-pub(crate) use path_within::relative::relative_path;
-pub(crate) use path_within::within::escapes;
 
 // Returns the join, or `None` if the request is refused.
 #[inline]
