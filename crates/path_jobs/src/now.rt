@@ -1,5 +1,5 @@
-//! The calls whose names or errors the baseline has otherwise, and the jobs that it can't run.
-//! bench/start puts another form of this file in its place, bench/start.rt.in.
+//! The calls that have other names or errors at the baseline, and the jobs that it can't run. For
+//! a checkout of the baseline, bench/start replaces this file by bench/start.rt.in.
 mod keyed;
 mod server;
 
