@@ -112,6 +112,8 @@ PATHS = [
     ("comes_down", lambda n: (cut(n, b"a/../"), b""), EDGES, "resolved"),
     ("up_late", lambda n: (plain(n - 5) + b"/../x", b""), EDGES, "resolved"),
     ("ups", lambda n: (cut(n, b"../"), b""), EDGES, "key"),
+    ("key_rooted", lambda n: (b"\0\1" + plain(n).replace(b"/", b"\0") + b"\0", b""), EDGES,
+     "from_key"),
 ]
 
 # Families of keys.
