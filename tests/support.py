@@ -11,15 +11,9 @@ import subprocess
 import sys
 import unittest
 
-ROOT = os.path.dirname(os.path.dirname(os.path.abspath(__file__)))
-sys.path.append(f"{ROOT}/tools")
-from repository import LIBRARY, PROGRAM, UPATH
+sys.path.append(f"{os.path.dirname(os.path.dirname(os.path.abspath(__file__)))}/tools")
 
-
-def built(variable, path):
-    """Returns the path of what the variable names, or else of what rt builds in crates/."""
-    return os.path.abspath(os.environ.get(variable) or f"{ROOT}/crates/{path}")
-
+from repository import LIBRARY, PROGRAM, ROOT, UPATH  # pylint: disable=wrong-import-position
 
 
 def needs(*commands):

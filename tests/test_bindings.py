@@ -395,10 +395,10 @@ class Misuses(Compiled):
 class Installed(Compiled):
     """What tools/install installs, and nothing else, is enough to build programs."""
 
-    def install(self, label, folder, *words):
+    def install(self, label, folder):
         """Installs the library below a directory. Returns the directory with the libraries."""
         places, libraries = PLACES[label]
-        self.call("tools/install", *words, env={
+        self.call("tools/install", "library", env={
             **os.environ, "DESTDIR": "", "BUILD": os.path.dirname(LIBRARY), "MANDIR": "/man",
             **{name: it.format(folder) for name, it in places.items()}})
         return f"{folder}/{libraries}"
@@ -414,7 +414,7 @@ class Installed(Compiled):
         """Builds the examples with the words that pkg-config prints: with the shared library, and
         with the archive in both ways that the header names."""
         for place, label in enumerate(PLACES):
-            libraries = self.install(label, f"{self.folder}/{place}", "library")
+            libraries = self.install(label, f"{self.folder}/{place}")
             words = shlex.split(self.call(
                 "pkg-config", "--cflags", "--libs", f"unix_path = {read_version()}.0",
                 env={**os.environ, "PKG_CONFIG_PATH": f"{libraries}/pkgconfig"}).decode())
@@ -432,7 +432,7 @@ class Installed(Compiled):
         """Builds the project of tests/cmake."""
         for place, label in enumerate(PLACES):
             project = f"{self.folder}/{place}/project"
-            libraries = self.install(label, f"{self.folder}/{place}/place", "library")
+            libraries = self.install(label, f"{self.folder}/{place}/place")
             shutil.copytree(f"{ROOT}/tests/cmake", project)
             for example in "c/join_beneath.c", "cpp/sizes.cpp":
                 shutil.copy2(f"{ROOT}/examples/{example}", project)
@@ -448,19 +448,6 @@ class Installed(Compiled):
                         self.answers([program], f"{ROOT}/examples/{example}.stdin",
                                      f"{ROOT}/examples/{example}.stdout")
                         self.check_needed(program, library == "unix_path")
-
-    def test_removed(self):
-        """Nothing is left after the removal of what was installed."""
-        for place, label in enumerate(PLACES):
-            with self.row(label):
-                folder = f"{self.folder}/{place}"
-                self.install(label, folder, "library")
-                licences = glob.glob(f"{folder}/**/share/doc/unix_path/LICENSE-*", recursive=True)
-                self.assertEqual(len(licences), 2)
-                self.install(label, folder, "--remove")
-                left = [name for _, folders, files in os.walk(folder)
-                        for name in [*files, *(it for it in folders if it == "unix_path")]]
-                self.assertEqual(left, [])
 
 
 @has_shared
