@@ -232,7 +232,7 @@ class Contents(Packages):
                 self.assertIn(f"\nMaintainer: {DATED['MAINTAINER']}\n", text)
                 self.assertEqual(text.count("@"), 2)
                 text = self.papers(f"{top}/dist/{name}")
-                self.assertIn("\nMaintainer: none, since this package is not released\n", text)
+                self.assertIn("\nMaintainer: none: this package is not released\n", text)
                 self.assertIn(" UNRELEASED;", text)
                 self.assertNotIn("@", text)
 

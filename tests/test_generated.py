@@ -79,7 +79,8 @@ class Generated(Case):
         for name, made in others:
             with self.row(name), mock.patch.multiple(
                     module, generate=lambda _, made=made: made, why_not_again=lambda: None,
-                    print=mock.DEFAULT, create=True) as patched:
+                    sources=lambda: read_fact("sources"), print=mock.DEFAULT,
+                    create=True) as patched:
                 self.assertFalse(module.check(""))
                 patched["print"].assert_called_once_with(f"{name}: generated again, it differs")
 
@@ -154,7 +155,7 @@ class Damage(Case):
     def test_sources(self):
         """tools/asm_sources prints another digest if sources change or have other names, and only
         then. asm/ is stale then."""
-        before = f"{read_fact('sources')}\n".encode()
+        before = self.call("tools/asm_sources", cwd=self.top)
         for name in SOURCES + NO_SOURCES:
             with self.row(name):
                 self.assertEqual(self.digest_with(name) == before, name in NO_SOURCES)
