@@ -15,10 +15,6 @@ from counting import families
 from counting.callgrind import counts
 from repository import ROOT
 
-sys.path.append(f"{ROOT}/tests")
-
-import tables
-
 
 def compiler():
     """Returns the command of the C compiler, as words; None if it doesn't exist."""
@@ -26,21 +22,10 @@ def compiler():
     return words if shutil.which(words[0]) else None
 
 
-def read_calls(checkout):
-    """Returns the names of the calls that the header of a checkout declares."""
-    with open(f"{checkout}/include/unix_path.h", encoding="utf-8") as file:
-        return set(re.findall(r"^\w+ unix_path_(\w+)\(const", file.read(), re.M))
-
-
 def rows_of(checkout):
-    """Returns the rows of the calls from C that a checkout has. A call that no longer exists here
-    has no row."""
-    shapes = {name: shape for name, (shape, _) in tables.calls().items()}
-    rows = families.rows(read_calls(checkout), shapes)
-    lacking = read_calls(checkout) & read_calls(ROOT) - {row.call for row in rows}
-    if lacking:
-        sys.exit(f"no family of tools/counting/families.py has these calls: {', '.join(lacking)}")
-    return rows
+    """Returns the rows of the calls from C that the header of a checkout declares."""
+    with open(f"{checkout}/include/unix_path.h", encoding="utf-8") as file:
+        return families.rows(set(re.findall(r"^\w+ unix_path_(\w+)\(const", file.read(), re.M)))
 
 
 def records_of(rows):
@@ -52,25 +37,20 @@ def records_of(rows):
             yield row.call.encode() + first + second
 
 
-def build_calls(checkout, library, program):
-    """Builds calls.c with the library. In a checkout that lacks a call, the other calls are
-    counted."""
-    linked = [] if checkout == ROOT else ["-Wl,--unresolved-symbols=ignore-all"]
-    subprocess.run([*compiler(), "-std=c11", "-O2", f"-I{ROOT}/include",
-                    f"{ROOT}/tools/counting/calls.c", library, *linked, "-o", program], check=True)
-
-
 def count_calls(checkout, library):
-    """Returns the rows of the calls from C."""
+    """Returns the rows of the calls from C. In a checkout that lacks a call, the other calls are
+    counted."""
     rows = rows_of(checkout)
+    linked = [] if checkout == ROOT else ["-Wl,--unresolved-symbols=ignore-all"]
     # Only the instructions inside the calls count, not those of the program around them.
     options = [f"--toggle-collect=unix_path_{it}" for it in sorted({row.call for row in rows})]
     with tempfile.TemporaryDirectory() as folder:
-        program = f"{folder}/calls"
-        build_calls(checkout, library, program)
+        subprocess.run([*compiler(), "-std=c11", "-O2", f"-I{ROOT}/include",
+                        f"{ROOT}/tools/counting/calls.c", library, *linked, "-o",
+                        f"{folder}/calls"], check=True)
         with open(f"{folder}/records", "wb") as file:
             file.writelines(records_of(rows))
-        found = counts(program, ["records"], options=[*options, "--dump-after=end_row"])
+        found = counts(f"{folder}/calls", ["records"], options=[*options, "--dump-after=end_row"])
     if len(found) != len(rows) + 1:
         sys.exit(f"{len(rows)} rows of calls from C were asked for, and {len(found) - 1} counted")
     return {row.name: count for row, count in zip(rows, found)}
