@@ -87,4 +87,4 @@ class Runner(unittest.TextTestRunner):
 
 
 def main():
-    unittest.main(testRunner=Runner)
+    unittest.main(testRunner=Runner, verbosity=0)
