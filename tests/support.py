@@ -11,18 +11,9 @@ import subprocess
 import sys
 import unittest
 
-ROOT = os.path.dirname(os.path.dirname(os.path.abspath(__file__)))
-sys.path.append(f"{ROOT}/tools")
+sys.path.append(f"{os.path.dirname(os.path.dirname(os.path.abspath(__file__)))}/tools")
 
-
-def built(variable, path):
-    """Returns the path of what was built: what the variable names, or else what rt builds."""
-    return os.path.abspath(os.environ.get(variable) or f"{ROOT}/crates/{path}")
-
-
-PROGRAM = built("UNIX_PATH_PROGRAM", "pathtool/out/pathtool")
-UPATH = built("UNIX_PATH_UPATH", "upath/out/upath")
-LIBRARY = built("UNIX_PATH_LIB", "unix_path_c/out/libunix_path.a")
+from repository import LIBRARY, PROGRAM, ROOT, UPATH  # pylint: disable=wrong-import-position
 
 
 def needs(*commands):
@@ -96,4 +87,4 @@ class Runner(unittest.TextTestRunner):
 
 
 def main():
-    unittest.main(testRunner=Runner)
+    unittest.main(testRunner=Runner, verbosity=0)
