@@ -130,9 +130,9 @@ class Completions(support.Case):
         folder = tempfile.TemporaryDirectory()
         self.addCleanup(folder.cleanup)
         self.folder = folder.name
-        for name in "bin", "home", *(f"here/{it}" for it in DIRECTORIES):
+        for name in ("bin", "home", *(f"here/{it}" for it in DIRECTORIES)):
             os.makedirs(f"{self.folder}/{name}")
-        for name in *FILES, "dir/plain":
+        for name in (*FILES, "dir/plain"):
             self.write(f"here/{name}", "")
         os.symlink(UPATH, f"{self.folder}/bin/upath")
 
