@@ -143,7 +143,7 @@ dist:
 	@tools/dist
 
 # Refuses damaged files of asm/ and include/.
-AGAIN = is missing or damaged: get it again or run tools/generate (for a header with --headers)
+AGAIN = is missing or damaged: get it again, or run tools/generate (--headers for a header)
 digests:
 	@[ "$$(sha256sum < asm/PROVED.txt)" = '$(PROVED)  -' ] || $(call stop,asm/PROVED.txt $(AGAIN))
 	@found=$$(sed -n '/^[0-9a-f]\{64\}  /p' asm/PROVED.txt | sha256sum -c 2> /dev/null) || \

@@ -52,8 +52,10 @@ PLACES = {"installed": ({"PREFIX": "{}", "LIBDIR": "{}/lib", "INCLUDEDIR": "{}/i
           "installed apart": ({"DESTDIR": "{}", "PREFIX": "/usr", "LIBDIR": "/opt/own/lib",
                                "INCLUDEDIR": "/usr/include/own"}, "opt/own/lib")}
 MANIFEST = ["--offline", "--manifest-path", "bindings/rust/Cargo.toml"]
-# The crate with functions over slices, and the crate with types of paths.
+# The crate with functions over slices, and the crate with types of paths, and the test of each that
+# asks the rows.
 CRATES = ["-p", "unix_path_rattle", "-p", "unix_path_typed"]
+ROW_TESTS = {"unix_path_rattle": "calls", "unix_path_typed": "typed"}
 # The feature that links them with an installed library.
 SYSTEM = ["--features", "unix_path_rattle/system"]
 
@@ -341,9 +343,9 @@ class Headers(Compiled):
             print('#include "unix_path.hpp"', file=file)
         for words in CPPS:
             with self.row(words[0]):
-                run = subprocess.run([*words, "-std=c++14", "-Iinclude", "-fsyntax-only", file.name],
-                                     cwd=ROOT, stdout=subprocess.PIPE, stderr=subprocess.STDOUT,
-                                     text=True, check=False)
+                run = subprocess.run(
+                    [*words, "-std=c++14", "-Iinclude", "-fsyntax-only", file.name], cwd=ROOT,
+                    stdout=subprocess.PIPE, stderr=subprocess.STDOUT, text=True, check=False)
                 errors = re.findall(r"^.*error: .*", run.stdout, re.M)
                 self.assertEqual(len(errors), 1, run.stdout)
                 self.assertIn("needs C++17", errors[0])
@@ -395,10 +397,10 @@ class Misuses(Compiled):
 class Installed(Compiled):
     """What tools/install installs, and nothing else, is enough to build programs."""
 
-    def install(self, label, folder, *words):
+    def install(self, label, folder):
         """Installs the library below a directory. Returns the directory with the libraries."""
         places, libraries = PLACES[label]
-        self.call("tools/install", *words, env={
+        self.call("tools/install", "library", env={
             **os.environ, "DESTDIR": "", "BUILD": os.path.dirname(LIBRARY), "MANDIR": "/man",
             **{name: it.format(folder) for name, it in places.items()}})
         return f"{folder}/{libraries}"
@@ -414,7 +416,7 @@ class Installed(Compiled):
         """Builds the examples with the words that pkg-config prints: with the shared library, and
         with the archive in both ways that the header names."""
         for place, label in enumerate(PLACES):
-            libraries = self.install(label, f"{self.folder}/{place}", "library")
+            libraries = self.install(label, f"{self.folder}/{place}")
             words = shlex.split(self.call(
                 "pkg-config", "--cflags", "--libs", f"unix_path = {read_version()}.0",
                 env={**os.environ, "PKG_CONFIG_PATH": f"{libraries}/pkgconfig"}).decode())
@@ -432,7 +434,7 @@ class Installed(Compiled):
         """Builds the project of tests/cmake."""
         for place, label in enumerate(PLACES):
             project = f"{self.folder}/{place}/project"
-            libraries = self.install(label, f"{self.folder}/{place}/place", "library")
+            libraries = self.install(label, f"{self.folder}/{place}/place")
             shutil.copytree(f"{ROOT}/tests/cmake", project)
             for example in "c/join_beneath.c", "cpp/sizes.cpp":
                 shutil.copy2(f"{ROOT}/examples/{example}", project)
@@ -448,19 +450,6 @@ class Installed(Compiled):
                         self.answers([program], f"{ROOT}/examples/{example}.stdin",
                                      f"{ROOT}/examples/{example}.stdout")
                         self.check_needed(program, library == "unix_path")
-
-    def test_removed(self):
-        """Nothing is left after the removal of what was installed."""
-        for place, label in enumerate(PLACES):
-            with self.row(label):
-                folder = f"{self.folder}/{place}"
-                self.install(label, folder, "library")
-                licences = glob.glob(f"{folder}/**/share/doc/unix_path/LICENSE-*", recursive=True)
-                self.assertEqual(len(licences), 2)
-                self.install(label, folder, "--remove")
-                left = [name for _, folders, files in os.walk(folder)
-                        for name in [*files, *(it for it in folders if it == "unix_path")]]
-                self.assertEqual(left, [])
 
 
 @has_shared
@@ -498,13 +487,12 @@ class Cargo(CTest):
         return self.passes(["cargo", words[0], *MANIFEST, *words[1:]],
                            env={**self.environment, **variables})
 
-    def try_rows(self, label, *words, **variables):
-        """Asks the rows through both crates for Rust, built with these words."""
-        for crate, test in ("unix_path_rattle", "calls"), ("unix_path_typed", "typed"):
-            with self.row(f"{label}: rows of {crate}"):
-                self.all_rows(["cargo", "test", *MANIFEST, "-p", crate, *words, "--test", test,
-                               "rows::", "--", "--nocapture"],
-                              env={**self.environment, **variables})
+    def try_rows(self, crate, label, *words, **variables):
+        """Asks the rows through one of the crates for Rust, built with these words."""
+        with self.row(f"{crate}, {label}"):
+            self.all_rows(["cargo", "test", *MANIFEST, "-p", crate, *words, "--test",
+                           ROW_TESTS[crate], "rows::", "--", "--nocapture"],
+                          env={**self.environment, **variables})
 
 
 @has_cc
@@ -522,7 +510,8 @@ class Rust(Cargo):
         self.cargo("test", *CRATES, "--tests")
 
     def test_rows(self):
-        self.try_rows("as in tests")
+        for crate in ROW_TESTS:
+            self.try_rows(crate, "as in tests")
 
     def test_documentation(self):
         self.cargo("test", *CRATES, "--doc")
@@ -533,13 +522,14 @@ class Rust(Cargo):
     def test_levels(self):
         """Asks the rows without optimization, with it, and with fat LTO in one codegen unit."""
         for level, lto, units in ("0", "off", "16"), ("3", "off", "16"), ("3", "fat", "1"):
-            self.try_rows(f"level {level}, LTO {lto}", "--release",
+            self.try_rows("unix_path_rattle", f"level {level}, LTO {lto}", "--release",
                           CARGO_PROFILE_RELEASE_OPT_LEVEL=level, CARGO_PROFILE_RELEASE_LTO=lto,
                           CARGO_PROFILE_RELEASE_CODEGEN_UNITS=units)
 
     def test_lookup(self):
         """The example answers requests."""
-        self.passes(["cargo", "build", "--offline", "--manifest-path", "examples/lookup/Cargo.toml"],
+        manifest = "examples/lookup/Cargo.toml"
+        self.passes(["cargo", "build", "--offline", "--manifest-path", manifest],
                     env=self.environment)
         self.answers([f"{self.folder}/debug/lookup", "examples/lookup/www"],
                      f"{ROOT}/examples/lookup/requests.in", f"{ROOT}/examples/lookup/requests.out")
@@ -554,8 +544,9 @@ class SystemRust(Cargo):
              f"-C link-arg=-Wl,-rpath,{os.path.dirname(LIBRARY)}"]
 
     def test_rows(self):
-        self.try_rows("as in tests", *SYSTEM)
-        self.try_rows("release", "--release", *SYSTEM)
+        for crate in ROW_TESTS:
+            self.try_rows(crate, "as in tests", *SYSTEM)
+        self.try_rows("unix_path_rattle", "release", "--release", *SYSTEM)
 
     def test_needed(self):
         """A program over the crates needs the shared library."""

@@ -4,8 +4,8 @@
 Copies of the repository are built with only POSIX commands, make and cc; with a byte of a file
 changed; for another machine; and with commands that are missing or fail. The example of README.md
 and projects of CMake are built elsewhere. The objects and libraries are read with readelf and nm.
-The crates for Rust, which contain the assembly, are packed, compiled for each target, and built into
-a program. shellcheck reads each script. Needs make, cc, readelf and nm.
+The crates for Rust, which contain the assembly, are packed, compiled for each target, and built
+into a program. shellcheck reads each script. Needs make, cc, readelf and nm.
 """
 import os
 import re
@@ -150,6 +150,7 @@ class Builds(BuildCase):
         self.assertEqual((found.stdout, len(lines)), (ANSWER, 1), said(found))
         self.assertIn("nothing is proved here", lines[0])
         self.assertEqual(self.ran(["make", "lib"], top, path).stdout, b"build/libunix_path.a\n")
+        self.assertEqual(self.ran(["make", "upath"], top, path).stdout, b"build/upath\n")
         self.ran(["make", "install", f"PREFIX={self.place}"], top, path)
         self.assertEqual(files_below(self.place), INSTALLED)
         self.assertEqual(run([f"{self.place}/bin/pathtool"], given=LINE).stdout, ANSWER)
@@ -209,15 +210,17 @@ class Builds(BuildCase):
 class Refuses(BuildCase):
     """Targets of make that stop with a sentence, before anything is built or installed."""
 
-    def try_refused(self, top, path, why, *words):
+    def try_refused(self, top, path, why, *words, count=1):
+        """Runs `make install`, which has to fail with this number of lines, the last of which is a
+        sentence that says why."""
         found = run(["make", "install", f"PREFIX={self.place}", *words], top, path)
         lines = [it for it in found.stderr.decode().splitlines() if not it.startswith("make: ***")
                  and "nothing is proved here" not in it]
         self.assertNotEqual(found.returncode, 0, said(found))
+        self.assertEqual(len(lines), count, lines)
         self.assertRegex(lines[-1], why)
         built = [it for it in ("pathtool", "libunix_path.a") if os.path.exists(f"{top}/build/{it}")]
         self.assertEqual((built, os.path.exists(self.place)), ([], False), said(found))
-        return lines
 
     def test_damaged(self):
         """A damaged or missing file of asm/ or include/ is refused, and another digest of them."""
@@ -225,14 +228,16 @@ class Refuses(BuildCase):
         names = [f"asm/{TARGET}/unix_path.s", f"asm/{TARGET}/pathtool.s", f"asm/{TARGET}/upath.s",
                  "asm/support.c", "asm/NOTICES.txt", "asm/PROVED.txt", "include/unix_path.h",
                  "include/unix_path.hpp"]
+        # If one of these is missing, a command that reads it before the check says so too.
+        read_first = "asm/PROVED.txt", "include/unix_path.h"
         for name in names:
             with self.row(name):
                 change_byte(f"{top}/{name}", b"1.1" if name == "asm/PROVED.txt" else None)
-                lines = self.try_refused(top, path, rf"^{re.escape(name)} .*damaged")
-                self.assertEqual(len(lines), 1, lines)
+                self.try_refused(top, path, rf"^{re.escape(name)} .*damaged")
             with self.row(f"{name} is missing"):
                 os.remove(f"{top}/{name}")
-                self.try_refused(top, path, rf"^{re.escape(name)} is missing")
+                self.try_refused(top, path, rf"^{re.escape(name)} is missing",
+                                 count=2 if name in read_first else 1)
             shutil.copy(f"{ROOT}/{name}", f"{top}/{name}")
         for text in "PROVED = ", f"PROVED = {'0' * 64}":
             with self.row(f"Makefile: {text}"):
@@ -256,7 +261,7 @@ class Refuses(BuildCase):
                 os.remove(f"{path}/{name}")
                 if lines:
                     write(f"{path}/{name}", "#!/bin/sh", *lines, mode=0o755)
-                self.try_refused(top, path, why)
+                self.try_refused(top, path, why, count=3 if lines == old else 1)
         with self.row("UNIX_PATH_FROM=elsewhere"):
             why = "UNIX_PATH_FROM is asm or rt"
             self.try_refused(top, self.posix_only(), why, "UNIX_PATH_FROM=elsewhere")
@@ -504,12 +509,12 @@ mod code;
 
 
 def write_package(folder, crates):
-    """Writes the program tests/rust/constants.rs, which depends on the crate in these directories,
-    by name."""
+    """Writes the program tests/rust_asm/constants.rs, which depends on the crate in each of these
+    directories, by the name for it."""
     lines = [f'{name} = {{ package = "unix_path_rattle", path = "{crate}" }}'
              for name, crate in crates.items()]
     write(f"{folder}/Cargo.toml", PACKAGE.format("\n".join(lines)))
-    shutil.copy(f"{ROOT}/tests/rust/constants.rs", f"{folder}/main.rs")
+    shutil.copy(f"{ROOT}/tests/rust_asm/constants.rs", f"{folder}/main.rs")
 
 
 def build_constants(folder, crate, profile):
@@ -549,7 +554,7 @@ class Rust(BuildCase):
         write(f"{folder}/code.rs", ONLY_CODE.format(f"{CRATE}/{CODE}"))
         words = ["rustc", "--edition", "2021", "--target", target]
         how = {"cwd": folder, "RUSTC_BOOTSTRAP": "1"}
-        found = run([*words, "--crate-type", "rlib", f"{ROOT}/tests/rust/no_core.rs"], **how)
+        found = run([*words, "--crate-type", "rlib", f"{ROOT}/tests/rust_asm/no_core.rs"], **how)
         return found if found.returncode else run(
             [*words, "--crate-type", "lib", "--emit", "obj", "--extern",
              "no_core=libno_core.rlib", "code.rs"], **how)
@@ -593,12 +598,13 @@ class Rust(BuildCase):
         self.each(self.try_clang, TARGETS)
 
     def test_package(self):
-        """cargo packs the crates with the assembly and both licences, and verifies them."""
+        """cargo packs the crates with the assembly, notices and licences, and verifies them."""
         self.ran(["cargo", "package", "--workspace", "--offline", "--allow-dirty", "--target-dir",
                   self.folder], CRATE)
         own = r"src/[\w/]+\.rs|Cargo\.(toml|toml\.orig|lock)|README\.md|build\.rs|" \
               r"\.cargo_vcs_info\.json"
-        assembly = ["asm/PROVED.txt", *(f"asm/{it}/unix_path.s" for it in TARGETS.values())]
+        assembly = ["asm/PROVED.txt", "asm/NOTICES.txt",
+                    *(f"asm/{it}/unix_path.s" for it in TARGETS.values())]
         for name, more in ("unix_path_rattle", assembly), ("unix_path_typed", []):
             with self.row(name), tarfile.open(
                     f"{self.folder}/package/{name}-{VERSION}.crate") as archive:

@@ -118,10 +118,10 @@ def started_feeding(process, data, step=None):
 
 @functools.lru_cache(maxsize=None)
 def shim(name):
-    """Compiles a file of this folder that is loaded before the C library."""
+    """Compiles a file of tests/c that is loaded before the C library."""
     file = f"{SHIMS.name}/{name}.so"
-    subprocess.run(["cc", "-O2", "-Wall", "-shared", "-fPIC", f"{ROOT}/tests/{name}.c", "-o", file,
-                    "-ldl"], check=True)
+    subprocess.run(["cc", "-O2", "-Wall", "-shared", "-fPIC", f"{ROOT}/tests/c/{name}.c", "-o",
+                    file, "-ldl"], check=True)
     return file
 
 

@@ -41,13 +41,12 @@ def by_program(vectors):
 
 
 class Vectors(support.Case):
-    @unittest.skipUnless("UNIX_PATH_PROGRAM" in os.environ or shutil.which("rt"),
+    @unittest.skipUnless(os.environ.get("UNIX_PATH_PROGRAM") or shutil.which("rt"),
                          "UNIX_PATH_PROGRAM isn't set, and rt isn't on the path")
     def test_replay(self):
         with tempfile.TemporaryDirectory() as made, tempfile.TemporaryDirectory() as folder:
-            vectors = list(tables.vectors(made))
-            is_named = "UNIX_PATH_PROGRAM" in os.environ
-            for name, is_same, said in by_program(vectors) if is_named else by_rt(vectors, folder):
+            vectors, program = list(tables.vectors(made)), os.environ.get("UNIX_PATH_PROGRAM")
+            for name, is_same, said in by_program(vectors) if program else by_rt(vectors, folder):
                 with self.row(name):
                     self.assertTrue(is_same, said)
 

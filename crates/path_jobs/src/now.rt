@@ -1,14 +1,13 @@
-//! The calls whose names or errors the baseline has otherwise, and the jobs that it can't run.
-//! bench/start puts another form of this file in its place, bench/start.rt.in.
+//! The calls that have other names or errors at the baseline, and the jobs that it can't run. For
+//! a checkout of the baseline, bench/start replaces this file by bench/start.rt.in.
 mod keyed;
 mod server;
 
+pub(crate) use path_within::relative::relative_path;
+pub(crate) use path_within::within::escapes;
 use path_within::within::{WithinError, join_verbatim, join_within};
 use std::alloc::{AllocError, Global};
 use unix_path::{Path, PathBuf};
-
-pub(crate) use path_within::relative::relative_path;
-pub(crate) use path_within::within::escapes;
 
 // Returns the join, or `None` if the request is refused.
 #[inline]
