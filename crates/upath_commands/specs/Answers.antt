@@ -10,7 +10,7 @@ use Rattle.unix_path.specs.Parents.{ancestors_of, parent_of}
 use Rattle.unix_path.specs.Parts.{is_rooted, value_bytes, values}
 use Rattle.unix_path.specs.Pointers.{cow_bytes}
 use Rattle.unix_path.specs.Prefixes.{stripped_of}
-use Rattle.unix_path.specs.declared.pointers.cow.CowPath.{CowPath}
+use Rattle.unix_path.specs.declared.kept.cow.CowPath.{CowPath}
 use Rattle.path_runs.specs.Spelling.{spelling_of}
 use Rattle.path_within.specs.Below.{below_of, has_nul, names_below}
 use Rattle.path_within.specs.Escapes.{has_root_or_parent_dir}
