@@ -191,9 +191,8 @@ def count_calls(checkout, library):
         subprocess.run([*compiler(), "-std=c11", "-O2", f"-I{ROOT}/include",
                         f"{ROOT}/tools/counting/calls.c", library, *linked, "-o",
                         f"{folder}/calls"], check=True)
-        with open(f"{folder}/records", "wb") as file:
-            file.writelines(records_of(asked))
-        found = counts(f"{folder}/calls", ["records"], options=[*options, "--dump-after=end_row"])
+        found = counts(f"{folder}/calls", [], b"".join(records_of(asked)),
+                       [*options, "--dump-after=end_row"])
     if len(found) != len(asked) + 1:
         sys.exit(f"{len(asked)} rows of calls from C were asked for, and {len(found) - 1} counted")
     return {row.name: count for row, count in zip(asked, found)}
