@@ -120,9 +120,7 @@ def digest_of(data):
 
 def sources():
     """Returns the digest of the sources."""
-    run = subprocess.run([f"{ROOT}/tools/asm_sources"], stdout=subprocess.PIPE, text=True,
-                         check=True)
-    return run.stdout.strip()
+    return subprocess.check_output([f"{ROOT}/tools/asm_sources"], text=True).strip()
 
 
 def read_files():

@@ -76,15 +76,9 @@ def in_order(below, names):
     """Returns these crates and all crates that they depend on. Each comes after its
     dependencies."""
     order = []
-
-    def add(name):
-        for library in below[name]:
-            add(library)
-        if name not in order:
-            order.append(name)
-
     for name in names:
-        add(name)
+        found = [*in_order(below, below[name]), name]
+        order += [it for it in found if it not in order]
     return order
 
 
