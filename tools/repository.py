@@ -84,9 +84,8 @@ def in_order(below, names):
 
 def version():
     """Returns what `rt version` prints, or None if there is no toolchain."""
-    if not shutil.which("rt"):
-        return None
-    return subprocess.run(["rt", "version"], stdout=subprocess.PIPE, text=True).stdout.strip()
+    rt = shutil.which("rt")
+    return subprocess.check_output([rt, "version"], text=True).strip() if rt else None
 
 
 def check_toolchain():

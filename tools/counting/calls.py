@@ -147,9 +147,11 @@ def families():
         yield title, lambda n, make=make: (make(n), b""), sizes, "from_key key_range_end"
 
 
-def rows(calls):
-    """Returns the rows of these calls, family by family. A call that no family lists is counted on
-    plain paths."""
+def rows_of(checkout):
+    """Returns the rows of the calls from C that the header of a checkout declares, family by
+    family. A call that no family lists is counted on plain paths."""
+    with open(f"{checkout}/include/unix_path.h", encoding="utf-8") as file:
+        calls = set(re.findall(r"^\w+ unix_path_(\w+)\(const", file.read(), re.M))
     found = [*families()]
     others = calls.difference(*(named.split() for *_, named in found))
     found.append(("plain", lambda n: (plain(n), b"new.rs"), EDGES, " ".join(sorted(others))))
@@ -161,12 +163,6 @@ def rows(calls):
 def compiler():
     """Returns the command of the C compiler, as words."""
     return shlex.split(os.environ.get("CC") or "cc")
-
-
-def rows_of(checkout):
-    """Returns the rows of the calls from C that the header of a checkout declares."""
-    with open(f"{checkout}/include/unix_path.h", encoding="utf-8") as file:
-        return rows(set(re.findall(r"^\w+ unix_path_(\w+)\(const", file.read(), re.M)))
 
 
 def records_of(asked):
