@@ -1,4 +1,4 @@
-"""Counts the instructions of the calls from C, each on the families of paths that suit it.
+"""The calls from C that tools/count counts, each on the families of paths that suit it.
 
 A family is a shape of paths: it makes two paths from a size, and lists the calls that are counted
 on it. A call with one path uses the first. A row is a call, a family and a size. A family is here
@@ -7,16 +7,8 @@ because one of its rows is above the baseline, or because its calls take much of
 calls.c makes the calls. It doesn't check their results, because tests check them.
 """
 import collections
-import os
 import re
-import shlex
 import struct
-import subprocess
-import sys
-import tempfile
-
-from counting.callgrind import counts
-from repository import ROOT
 
 # A row: its name, the call, and the pairs of paths whose instructions are added up.
 Row = collections.namedtuple("Row", "name call pairs")
@@ -160,11 +152,6 @@ def rows_of(checkout):
             for size, lengths in sizes.items()]
 
 
-def compiler():
-    """Returns the command of the C compiler, as words."""
-    return shlex.split(os.environ.get("CC") or "cc")
-
-
 def records_of(asked):
     """Yields the input of calls.c: the calls of these rows, with the paths of each."""
     for row in asked:
@@ -172,21 +159,3 @@ def records_of(asked):
             yield struct.pack("<4I", len(row.call), len(first), len(second),
                               number == len(row.pairs))
             yield row.call.encode() + first + second
-
-
-def count_calls(checkout, library):
-    """Returns the rows of the calls from C. In a checkout that lacks a call, the other calls are
-    counted."""
-    asked = rows_of(checkout)
-    linked = [] if checkout == ROOT else ["-Wl,--unresolved-symbols=ignore-all"]
-    # Only the instructions inside the calls count, not those of the program around them.
-    options = [f"--toggle-collect=unix_path_{it}" for it in sorted({row.call for row in asked})]
-    with tempfile.TemporaryDirectory() as folder:
-        subprocess.run([*compiler(), "-std=c11", "-O2", f"-I{ROOT}/include",
-                        f"{ROOT}/tools/counting/calls.c", library, *linked, "-o",
-                        f"{folder}/calls"], check=True)
-        found = counts(f"{folder}/calls", [], b"".join(records_of(asked)),
-                       [*options, "--dump-after=end_row"])
-    if len(found) != len(asked) + 1:
-        sys.exit(f"{len(asked)} rows of calls from C were asked for, and {len(found) - 1} counted")
-    return {row.name: count for row, count in zip(asked, found)}
