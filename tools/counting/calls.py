@@ -46,27 +46,18 @@ def respelled_once(path):
     return path[:at] + b"/." + path[at:]
 
 
-def respelled_each(path):
-    return path.replace(b"/", b"/./")
-
-
-def above(size):
-    """Returns the parent of a path of this many bytes."""
-    return plain(size).rpartition(b"/")[0]
-
-
 # Families of pairs: the function that makes both paths from a size, the sizes, and the calls.
 TWO = "equal compare starts_with ends_with strip_prefix"
-PREFIX = "starts_with strip_prefix compare"
 PAIRS = [
     ("same", lambda n: (plain(n), plain(n)), EDGES, TWO),
     ("next_listed", lambda n: (plain(n - 4) + b"-007", plain(n - 4) + b"-008"), EDGES,
      f"{TWO} common_dir relative_path"),
     ("respelled_once", lambda n: (plain(n), respelled_once(plain(n))), EDGES, TWO),
-    ("respelled_each", lambda n: (plain(n), respelled_each(plain(n))), EDGES,
+    ("respelled_each", lambda n: (plain(n), plain(n).replace(b"/", b"/./")), EDGES,
      f"{TWO} relative_path"),
     ("ups_respelled", lambda n: (cut(n, b"../"), cut(n, b".././")), EDGES, TWO),
-    ("folder_above", lambda n: (plain(n), above(n)), EDGES, f"relative_path equal {PREFIX}"),
+    ("folder_above", lambda n: (plain(n), plain(n).rpartition(b"/")[0]), EDGES,
+     "relative_path equal starts_with strip_prefix compare"),
     ("up_or_name", lambda n: (b"../" * n + b"a/x", b"../" * n + b"../x"), DEPTHS,
      "compare equal"),
     ("last_name_below", lambda n: (plain(n - 8) + b"/main.rs", b"src/main.rs"), EDGES,
@@ -94,7 +85,7 @@ PATHS = [
     ("gap_first", lambda n: (b"a//" + plain(n - 3), b""), EDGES, FORMS),
     ("gap_each", lambda n: (cut(n, b"a/./"), b""), EDGES,
      f"{FORMS} next next_back next_ancestor hash parent key"),
-    ("gap_each_name", lambda n: (respelled_each(plain(n)), b""), EDGES, FORMS),
+    ("gap_each_name", lambda n: (plain(n).replace(b"/", b"/./"), b""), EDGES, FORMS),
     ("name_before_gap", lambda n: (name(n - 3) + b"/./a", b""), EDGES, FORMS),
     ("name_behind_gap", lambda n: (b"a//" + name(n - 3), b""), EDGES, FORMS),
     ("double_slashes", lambda n: (cut(n, b"abcdefghijklmnop//"), b""), EDGES, f"{FORMS} key"),
