@@ -140,8 +140,7 @@ def proved_lines():
 
 
 def name_in(line):
-    """Returns the name of the file whose digest is in a line of PROVED.txt. It is empty if the line
-    has a fact."""
+    """Returns the name of the file whose digest a line of PROVED.txt has; empty for a fact."""
     found = DIGEST.fullmatch(line)
     return found[1] if found else ""
 
