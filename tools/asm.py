@@ -120,9 +120,7 @@ def digest_of(data):
 
 def sources():
     """Returns the digest of the sources."""
-    run = subprocess.run([f"{ROOT}/tools/asm_sources"], stdout=subprocess.PIPE, text=True,
-                         check=True)
-    return run.stdout.strip()
+    return subprocess.check_output([f"{ROOT}/tools/asm_sources"], text=True).strip()
 
 
 def read_files():
@@ -142,8 +140,7 @@ def proved_lines():
 
 
 def name_in(line):
-    """Returns the name of the file whose digest is in a line of PROVED.txt. It is empty if the line
-    has a fact."""
+    """Returns the name of the file whose digest a line of PROVED.txt has; empty for a fact."""
     found = DIGEST.fullmatch(line)
     return found[1] if found else ""
 

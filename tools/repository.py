@@ -76,23 +76,16 @@ def in_order(below, names):
     """Returns these crates and all crates that they depend on. Each comes after its
     dependencies."""
     order = []
-
-    def add(name):
-        for library in below[name]:
-            add(library)
-        if name not in order:
-            order.append(name)
-
     for name in names:
-        add(name)
+        found = [*in_order(below, below[name]), name]
+        order += [it for it in found if it not in order]
     return order
 
 
 def version():
     """Returns what `rt version` prints, or None if there is no toolchain."""
-    if not shutil.which("rt"):
-        return None
-    return subprocess.run(["rt", "version"], stdout=subprocess.PIPE, text=True).stdout.strip()
+    rt = shutil.which("rt")
+    return subprocess.check_output([rt, "version"], text=True).strip() if rt else None
 
 
 def check_toolchain():

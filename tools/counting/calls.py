@@ -1,4 +1,4 @@
-"""Counts the instructions of the calls from C, each on the families of paths that suit it.
+"""The calls from C that tools/count counts, each on the families of paths that suit it.
 
 A family is a shape of paths: it makes two paths from a size, and lists the calls that are counted
 on it. A call with one path uses the first. A row is a call, a family and a size. A family is here
@@ -7,17 +7,8 @@ because one of its rows is above the baseline, or because its calls take much of
 calls.c makes the calls. It doesn't check their results, because tests check them.
 """
 import collections
-import os
 import re
-import shlex
-import shutil
 import struct
-import subprocess
-import sys
-import tempfile
-
-from counting.callgrind import counts
-from repository import ROOT
 
 # A row: its name, the call, and the pairs of paths whose instructions are added up.
 Row = collections.namedtuple("Row", "name call pairs")
@@ -55,27 +46,18 @@ def respelled_once(path):
     return path[:at] + b"/." + path[at:]
 
 
-def respelled_each(path):
-    return path.replace(b"/", b"/./")
-
-
-def above(size):
-    """Returns the parent of a path of this many bytes."""
-    return plain(size).rpartition(b"/")[0]
-
-
 # Families of pairs: the function that makes both paths from a size, the sizes, and the calls.
 TWO = "equal compare starts_with ends_with strip_prefix"
-PREFIX = "starts_with strip_prefix compare"
 PAIRS = [
     ("same", lambda n: (plain(n), plain(n)), EDGES, TWO),
     ("next_listed", lambda n: (plain(n - 4) + b"-007", plain(n - 4) + b"-008"), EDGES,
      f"{TWO} common_dir relative_path"),
     ("respelled_once", lambda n: (plain(n), respelled_once(plain(n))), EDGES, TWO),
-    ("respelled_each", lambda n: (plain(n), respelled_each(plain(n))), EDGES,
+    ("respelled_each", lambda n: (plain(n), plain(n).replace(b"/", b"/./")), EDGES,
      f"{TWO} relative_path"),
     ("ups_respelled", lambda n: (cut(n, b"../"), cut(n, b".././")), EDGES, TWO),
-    ("folder_above", lambda n: (plain(n), above(n)), EDGES, f"relative_path equal {PREFIX}"),
+    ("folder_above", lambda n: (plain(n), plain(n).rpartition(b"/")[0]), EDGES,
+     "relative_path equal starts_with strip_prefix compare"),
     ("up_or_name", lambda n: (b"../" * n + b"a/x", b"../" * n + b"../x"), DEPTHS,
      "compare equal"),
     ("last_name_below", lambda n: (plain(n - 8) + b"/main.rs", b"src/main.rs"), EDGES,
@@ -103,7 +85,7 @@ PATHS = [
     ("gap_first", lambda n: (b"a//" + plain(n - 3), b""), EDGES, FORMS),
     ("gap_each", lambda n: (cut(n, b"a/./"), b""), EDGES,
      f"{FORMS} next next_back next_ancestor hash parent key"),
-    ("gap_each_name", lambda n: (respelled_each(plain(n)), b""), EDGES, FORMS),
+    ("gap_each_name", lambda n: (plain(n).replace(b"/", b"/./"), b""), EDGES, FORMS),
     ("name_before_gap", lambda n: (name(n - 3) + b"/./a", b""), EDGES, FORMS),
     ("name_behind_gap", lambda n: (b"a//" + name(n - 3), b""), EDGES, FORMS),
     ("double_slashes", lambda n: (cut(n, b"abcdefghijklmnop//"), b""), EDGES, f"{FORMS} key"),
@@ -148,27 +130,17 @@ def families():
         yield title, lambda n, make=make: (make(n), b""), sizes, "from_key key_range_end"
 
 
-def rows(calls):
-    """Returns the rows of these calls, family by family. A call that no family lists is counted on
-    plain paths."""
+def rows_of(checkout):
+    """Returns the rows of the calls from C that the header of a checkout declares, family by
+    family. A call that no family lists is counted on plain paths."""
+    with open(f"{checkout}/include/unix_path.h", encoding="utf-8") as file:
+        calls = set(re.findall(r"^\w+ unix_path_(\w+)\(const", file.read(), re.M))
     found = [*families()]
     others = calls.difference(*(named.split() for *_, named in found))
     found.append(("plain", lambda n: (plain(n), b"new.rs"), EDGES, " ".join(sorted(others))))
     return [Row(f"{call} {title} {size}", call, [make(length) for length in lengths])
             for title, make, sizes, named in found for call in named.split() if call in calls
             for size, lengths in sizes.items()]
-
-
-def compiler():
-    """Returns the command of the C compiler, as words; None if it doesn't exist."""
-    words = shlex.split(os.environ.get("CC") or "cc")
-    return words if shutil.which(words[0]) else None
-
-
-def rows_of(checkout):
-    """Returns the rows of the calls from C that the header of a checkout declares."""
-    with open(f"{checkout}/include/unix_path.h", encoding="utf-8") as file:
-        return rows(set(re.findall(r"^\w+ unix_path_(\w+)\(const", file.read(), re.M)))
 
 
 def records_of(asked):
@@ -178,22 +150,3 @@ def records_of(asked):
             yield struct.pack("<4I", len(row.call), len(first), len(second),
                               number == len(row.pairs))
             yield row.call.encode() + first + second
-
-
-def count_calls(checkout, library):
-    """Returns the rows of the calls from C. In a checkout that lacks a call, the other calls are
-    counted."""
-    asked = rows_of(checkout)
-    linked = [] if checkout == ROOT else ["-Wl,--unresolved-symbols=ignore-all"]
-    # Only the instructions inside the calls count, not those of the program around them.
-    options = [f"--toggle-collect=unix_path_{it}" for it in sorted({row.call for row in asked})]
-    with tempfile.TemporaryDirectory() as folder:
-        subprocess.run([*compiler(), "-std=c11", "-O2", f"-I{ROOT}/include",
-                        f"{ROOT}/tools/counting/calls.c", library, *linked, "-o",
-                        f"{folder}/calls"], check=True)
-        with open(f"{folder}/records", "wb") as file:
-            file.writelines(records_of(asked))
-        found = counts(f"{folder}/calls", ["records"], options=[*options, "--dump-after=end_row"])
-    if len(found) != len(asked) + 1:
-        sys.exit(f"{len(asked)} rows of calls from C were asked for, and {len(found) - 1} counted")
-    return {row.name: count for row, count in zip(asked, found)}
