@@ -64,6 +64,13 @@ def write(path, *lines, mode=0o644):
     os.chmod(path, mode)
 
 
+def write_package(folder, program, crates, *more):
+    """Writes a Rust program, which depends on the crates of these lines."""
+    write(f"{folder}/Cargo.toml", "[package]", "name = 'outside'", "version = '0.1.0'",
+          "edition = '2021'", "[workspace]", "[dependencies]", *crates, *more)
+    write(f"{folder}/src/main.rs", program)
+
+
 def shim(name, folder):
     """Compiles a file of tests/c that is loaded before the C library. Returns its path."""
     path = f"{folder}/{name}.so"

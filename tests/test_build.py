@@ -13,7 +13,7 @@ import shutil
 import tarfile
 
 from support import (CALLS, ROOT, SONAME, TARGET, VERSION, VERSIONED, Case, copy_repository,
-                     link_commands, main, needs, read, run, said, write)
+                     link_commands, main, needs, read, run, said, write, write_package)
 from repository import MAP
 
 # The POSIX utilities that a machine has, and what is needed in addition.
@@ -395,18 +395,6 @@ class CMake(BuildCase):
             shutil.copy(f"{ROOT}/{name}", f"{top}/{name}")
 
 
-# A program that depends on the crate for Rust, in these directories.
-PACKAGE = """[package]
-name = "outside"
-version = "0.1.0"
-edition = "2021"
-[[bin]]
-name = "outside"
-path = "main.rs"
-[dependencies]
-{}
-[workspace]
-"""
 CRATE = f"{ROOT}/bindings/rust"
 CODE = "src/ffi/code.rs"
 # How a program is compiled: its optimisation level, its LTO, and its codegen units.
@@ -432,18 +420,17 @@ mod code;
 """
 
 
-def write_package(folder, crates):
+def write_constants(folder, **crates):
     """Writes the program tests/rust_asm/constants.rs, which depends on the crate in each of these
     directories, by the name for it."""
-    lines = [f'{name} = {{ package = "unix_path_rattle", path = "{crate}" }}'
-             for name, crate in crates.items()]
-    write(f"{folder}/Cargo.toml", PACKAGE.format("\n".join(lines)))
-    shutil.copy(f"{ROOT}/tests/rust_asm/constants.rs", f"{folder}/main.rs")
+    write_package(folder, read("tests/rust_asm/constants.rs").decode(), [
+        f"{name} = {{ package = 'unix_path_rattle', path = '{crate}' }}"
+        for name, crate in crates.items()])
 
 
 def build_constants(folder, crate, profile):
     """Builds and runs the program with a crate. Returns how the last command ended."""
-    write_package(folder, {"unix_path_rattle": crate})
+    write_constants(folder, unix_path_rattle=crate)
     names = ("OPT_LEVEL", "LTO", "CODEGEN_UNITS")
     found = run(["cargo", "build", "--offline"], folder, CARGO_TARGET_DIR=f"{folder}/target",
                 **{f"CARGO_PROFILE_DEV_{name}": it for name, it in zip(names, profile)})
@@ -466,7 +453,7 @@ class Rust(BuildCase):
         top = copy_repository(self.folder)
         run(["sed", "-i", 's/^version = .*/version = "99.0.0"/',
              f"{top}/bindings/rust/Cargo.toml"])
-        write_package(f"{self.folder}/program", {"older": CRATE, "newer": f"{top}/bindings/rust"})
+        write_constants(f"{self.folder}/program", older=CRATE, newer=f"{top}/bindings/rust")
         found = run(["cargo", "build", "--offline"], f"{self.folder}/program")
         self.fails(found, "links to the native library `unix_path`, but it conflicts with a "
                           "previous package")

@@ -20,7 +20,7 @@ import unittest
 import zipfile
 
 from support import (NEEDED, ROOT, TARGET, VERSION, Case, copy_repository, link_commands, main,
-                     needs, read, run, said, write)
+                     needs, read, run, said, write, write_package)
 from asm import NOTICES, PROVED, proved_lines
 from repository import read_programs, read_version, toolchain_folder
 from test_processors import find_wine, running_wine
@@ -483,13 +483,10 @@ class Uses(Packages):
     @needs("rustc", "cargo")
     def test_crates(self):
         """A Rust program is built from both crates, and from no other package."""
-        project = "[package]\nname = 'use'\nversion = '0.1.0'\n[dependencies]\n"
         for name in CRATES:
             self.unpack(f"{name}-{VERSION}.crate", f"{self.top}/try")
-            project += f"{name} = {{ path = '{name}-{VERSION}' }}\n"
-        project += f"[patch.crates-io]\n{CRATES[0]} = {{ path = '{CRATES[0]}-{VERSION}' }}\n"
-        write(f"{self.top}/try/Cargo.toml", project)
-        write(f"{self.top}/try/src/main.rs", CRATES_MAIN)
+        lines = [f"{it} = {{ path = '{it}-{VERSION}' }}" for it in CRATES]
+        write_package(f"{self.top}/try", CRATES_MAIN, lines, "[patch.crates-io]", lines[0])
         self.enter("cargo run --offline --quiet")
 
 
