@@ -66,15 +66,10 @@ REFUSED = [
 ]
 
 
-def run(words, stdin, **more):
+def run(words, **more):
     """Returns the status, standard output and standard error of a run."""
-    found = subprocess.run(words, timeout=SECONDS, check=False, **{**PIPES, **stdin, **more})
+    found = subprocess.run(words, timeout=SECONDS, check=False, **{**PIPES, **more})
     return found.returncode, found.stdout, found.stderr
-
-
-def answer(words, data, **more):
-    """Returns the same for a run with this input."""
-    return run(words, {"input": data}, **more)
 
 
 def from_file(words, data, **more):
@@ -82,7 +77,7 @@ def from_file(words, data, **more):
     with tempfile.TemporaryFile() as file:
         file.write(data)
         file.seek(0)
-        return run(words, {"stdin": file}, **more)
+        return run(words, stdin=file, **more)
 
 
 def limited(words, kibibytes, data):
@@ -154,22 +149,22 @@ class Ends(Faults):
         for tool, count in itertools.product(TOOLS, (1, 100_000, 0)):
             with self.row("a full output", tool.name, count), open("/dev/full", "wb") as full:
                 fails = (tool.status, None, tool.head + WRITE)
-                self.same(answer(tool.words, tool.lines(count)[0], stdout=full),
+                self.same(run(tool.words, input=tool.lines(count)[0], stdout=full),
                           fails if count else (0, None, b""))
         with self.row("a full output, pathtool, an empty line"), open("/dev/full", "wb") as full:
-            self.same(answer([PROGRAM], b"\n", stdout=full), (1, None, WRITE))
+            self.same(run([PROGRAM], input=b"\n", stdout=full), (1, None, WRITE))
 
     def test_full_error_output(self):
         """The message can't be written either, and the status stays the same."""
         for tool in TOOLS:
             with self.row("a full error output", tool.name), open("/dev/full", "wb") as full:
-                found = answer(tool.words, tool.lines(1)[0], stdout=full, stderr=full)
+                found = run(tool.words, input=tool.lines(1)[0], stdout=full, stderr=full)
                 self.same(found, (tool.status, None, None))
 
     def test_closed_output(self):
         for tool in TOOLS:
             with self.row("a closed output", tool.name):
-                found = answer(tool.words, tool.lines(100)[0], stdout=None,
+                found = run(tool.words, input=tool.lines(100)[0], stdout=None,
                                preexec_fn=lambda: os.close(1))
                 self.same(found, (tool.status, None, tool.head + WRITE))
 
@@ -179,7 +174,7 @@ class Ends(Faults):
             with self.row("a pipe without a reader", tool.name):
                 reader, writer = os.pipe()
                 os.close(reader)
-                found = answer(tool.words, tool.lines(100)[0], stdout=writer)
+                found = run(tool.words, input=tool.lines(100)[0], stdout=writer)
                 os.close(writer)
                 self.same(found, (tool.status, None, tool.no_reader))
 
@@ -198,10 +193,10 @@ class Ends(Faults):
         for tool in TOOLS:
             fails = (tool.status, b"", tool.head + READ)
             with self.row("a closed input", tool.name):
-                self.same(run(tool.words, {}, preexec_fn=lambda: os.close(0)), fails)
+                self.same(run(tool.words, preexec_fn=lambda: os.close(0)), fails)
             with self.row("a directory", tool.name):
                 folder = os.open("/", os.O_RDONLY)
-                self.same(run(tool.words, {"stdin": folder}), fails)
+                self.same(run(tool.words, stdin=folder), fails)
                 os.close(folder)
 
     def test_cut_off_input(self):
@@ -214,7 +209,7 @@ class Ends(Faults):
                 tty.setraw(writer)
                 os.write(writer, b"b//a\nc\nb/a\na")
                 os.close(writer)
-                found = run([UPATH, *words.split()], {"stdin": reader})
+                found = run([UPATH, *words.split()], stdin=reader)
                 os.close(reader)
                 self.same(found, (3, wanted, b"upath: read error\n"))
 
@@ -224,7 +219,7 @@ class Ends(Faults):
                               (b"parts\ta\nparts\t./b", b"a\n.\tb\n"),
                               (b"parts\ta\n\n", b"a\nbad command\n")]:
             with self.row("pathtool", data):
-                self.same(answer([PROGRAM], data), (0, answers, b""))
+                self.same(run([PROGRAM], input=data), (0, answers, b""))
 
     def test_input_by_bytes(self):
         for tool in TOOLS:
@@ -253,7 +248,7 @@ class Large(Faults):
         """50 MB of random bytes, in which no line is a command."""
         data = random_bytes(50_000_000)
         count = data.count(b"\n") + (not data.endswith(b"\n"))
-        self.same(answer([PROGRAM], data), (0, b"bad command\n" * count, b""))
+        self.same(run([PROGRAM], input=data), (0, b"bad command\n" * count, b""))
 
     def test_random_paths(self):
         """50 MB of random bytes, with a path to show on each line."""
@@ -261,14 +256,14 @@ class Large(Faults):
         answers = [b"bad command" if b"\t" in line else line.decode(errors="replace").encode()
                    for line in lines]
         data = b"".join(b"show\t" + line + b"\n" for line in lines)
-        self.same(answer([PROGRAM], data), (0, b"\n".join(answers) + b"\n", b""))
+        self.same(run([PROGRAM], input=data), (0, b"\n".join(answers) + b"\n", b""))
 
     def test_no_newline(self):
         """100 MB without a newline: many components, and then no command."""
         count = 50_000_000
-        self.same(answer([PROGRAM], b"parts\t" + b"a/" * count),
+        self.same(run([PROGRAM], input=b"parts\t" + b"a/" * count),
                   (0, b"a\t" * (count - 1) + b"a\n", b""))
-        self.same(answer([PROGRAM], b"/." * count), (0, b"bad command\n", b""))
+        self.same(run([PROGRAM], input=b"/." * count), (0, b"bad command\n", b""))
 
 
 def growing_answers():
@@ -298,7 +293,7 @@ class Memory(Faults):
         needs. The system places the heap differently from run to run, so a limit just below what
         is enough may sometimes be enough."""
         whole = (0, answers, b"")
-        self.same(answer([PROGRAM], data), whole)
+        self.same(run([PROGRAM], input=data), whole)
         low = least(lambda limit: limited(["/bin/true"], limit, b"")[0] == 0, 0, 1 << 20)
         enough = least(lambda limit: limited([PROGRAM], limit, data) == whole, low, 1 << 20)
         limits = [low + (enough - 1 - low) * place // (LIMITS - 1) for place in range(LIMITS)]
@@ -344,9 +339,9 @@ class Requests(Faults):
         """Runs a command with its first allocation failing, then with its second, up to its last.
         Its input has paths that are answered and paths that are not."""
         words, data = [UPATH, *line.split()], b"b/../x\n/a//b\n\n..\n61006200\na/b\n/a/b\n"
-        whole = answer(words, data)[1]
+        whole = run(words, input=data)[1]
         for number in itertools.count(1):
-            status, output, error = answer(words, data, env={
+            status, output, error = run(words, input=data, env={
                 **os.environ, "LD_PRELOAD": preload, "REFUSED_REQUEST": str(number)})
             if b"refused: 0 bytes\n" in error:
                 break

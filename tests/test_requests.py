@@ -71,8 +71,7 @@ def public_calls():
     for crate in CRATES:
         for path in glob.glob(f"{ROOT}/crates/{crate}/src/**/*.rt", recursive=True):
             if "/tests" not in os.path.relpath(path, ROOT):
-                with open(path, encoding="utf-8") as file:
-                    yield from calls_of(file.read().split("\n"))
+                yield from calls_of(read(path).decode().split("\n"))
 
 
 @functools.lru_cache(maxsize=None)
