@@ -20,15 +20,6 @@ PATHTOOL = [f"tests/c/{name}.c" for name in ("pathtool", "answers", "edits")]
 Build = collections.namedtuple("Build", "label words linked runner", defaults=[()])
 
 
-def first_difference(found, wanted):
-    """Returns a description of the first line in which two outputs differ."""
-    pairs = zip(found.split(b"\n") + [b""], wanted.split(b"\n") + [b""])
-    for number, (line, other) in enumerate(pairs, 1):
-        if line != other:
-            return f"line {number}: {line[:500]} and not {other[:500]}"
-    return "more or fewer lines than are wanted"
-
-
 class CTest(Case):
     """Tests of programs that a compiler builds."""
 
@@ -45,19 +36,10 @@ class CTest(Case):
 
     def refused(self, words, why, **options):
         """Runs a command that has to fail, and to print what `why` matches."""
-        run = subprocess.run(words, cwd=ROOT, stdin=subprocess.DEVNULL, stdout=subprocess.PIPE,
-                             stderr=subprocess.STDOUT, check=False, **options)
-        self.assertNotEqual(run.returncode, 0)
-        self.assertRegex(run.stdout.decode(errors="replace"), why)
-
-    def answers(self, words, given, wanted, **options):
-        """Runs a command with the file `given` as its input. It has to print the file `wanted`."""
-        with open(given, "rb") as lines, open(wanted, "rb") as answers:
-            run = subprocess.run(words, cwd=ROOT, stdin=lines, stdout=subprocess.PIPE,
-                                 stderr=subprocess.PIPE, check=False, **options)
-            wanted = answers.read()
-        self.assertEqual(run.returncode, 0, run.stderr[-4000:])
-        self.assertTrue(run.stdout == wanted, first_difference(run.stdout, wanted))
+        found = subprocess.run(words, cwd=ROOT, stdin=subprocess.DEVNULL, stdout=subprocess.PIPE,
+                               stderr=subprocess.STDOUT, check=False, **options)
+        self.assertNotEqual(found.returncode, 0)
+        self.assertRegex(found.stdout.decode(errors="replace"), why)
 
     def all_rows(self, words, **options):
         """Runs a command that replays rows.txt. It prints how many rows it tried and how many it

@@ -9,7 +9,7 @@ import os
 import re
 import sys
 
-from support import ROOT
+from support import ROOT, read
 
 WORDS = {"!none", "!separator", "!escapes", "!nul_in_request", "!not_a_key", "!no_end",
          "!no_relative_path"}
@@ -82,8 +82,8 @@ Request = collections.namedtuple("Request", "call test crate requests size other
 
 def lines_of(name):
     """Returns the lines of a table that aren't empty or a comment."""
-    with open(f"{ROOT}/tests/{name}", encoding="ascii") as file:
-        return [it for it in file.read().splitlines() if it and not it.startswith("#")]
+    text = read(f"tests/{name}").decode("ascii")
+    return [it for it in text.splitlines() if it and not it.startswith("#")]
 
 
 def refuse(name, line, why="is no row"):
@@ -112,8 +112,8 @@ def spelled_row(call, fields):
 def calls():
     """Returns the calls of the library by their names without `unix_path_`: each as its shape, and
     the type in C that it returns if it answers a question."""
-    with open(f"{ROOT}/tests/calls.inc", encoding="ascii") as file:
-        found = re.findall(r"^(\w+)\((?:(\w+), )?(\w+)\)$", file.read(), re.M)
+    text = read("tests/calls.inc").decode("ascii")
+    found = re.findall(r"^(\w+)\((?:(\w+), )?(\w+)\)$", text, re.M)
     return {name: (shape, answer) for shape, answer, name in found}
 
 

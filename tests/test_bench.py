@@ -10,12 +10,10 @@ and the history of Git.
 import os
 import random
 import shutil
-import subprocess
 import sys
-import tempfile
 import unittest
 
-from support import PROGRAM, ROOT, UPATH, Case, main, needs
+from support import PROGRAM, ROOT, UPATH, Case, main, needs, read, run
 
 sys.path.append(f"{ROOT}/bench")
 os.environ["UNIX_PATH_UPATH"] = UPATH
@@ -29,20 +27,15 @@ SEED = int(os.environ.get("SEED") or random.SystemRandom().randrange(1 << 64))
 
 def names_of(*files):
     """Returns the names of the jobs of these files of bench/."""
-    names = []
-    for file in files:
-        with open(f"{ROOT}/bench/{file}.txt", encoding="utf-8") as lines:
-            names += [line.split()[0] for line in lines if line.strip()]
-    return names
+    return [line.split()[0] for file in files
+            for line in read(f"bench/{file}.txt").decode().splitlines() if line.strip()]
 
 
 def has_baseline():
     """Returns true if Git knows the commit of the first line of docs/PERF.md."""
-    with open(f"{ROOT}/docs/PERF.md", encoding="utf-8") as file:
-        commit = file.readline().split()[-1].rstrip(".")
-    return bool(shutil.which("git")) and subprocess.run(
-        ["git", "cat-file", "-e", f"{commit}^{{commit}}"], cwd=ROOT, check=False,
-        stderr=subprocess.DEVNULL).returncode == 0
+    commit = read("docs/PERF.md").decode().splitlines()[0].split()[-1].rstrip(".")
+    return bool(shutil.which("git")) and run(
+        ["git", "cat-file", "-e", f"{commit}^{{commit}}"]).returncode == 0
 
 
 class Baseline(Case):
@@ -51,12 +44,9 @@ class Baseline(Case):
     @unittest.skipUnless(has_baseline(), "the history of Git lacks the baseline")
     def test_start(self):
         """bench/start makes the jobs compile there, and they print today's digests."""
-        with tempfile.TemporaryDirectory() as folder:
-            printed = self.call(f"{ROOT}/bench/start", "--try", f"{folder}/start").split()
-        with open(f"{ROOT}/crates/path_jobs/stdout", "rb") as file:
-            wanted = [line.split() for line in file]
+        printed = self.call("bench/start", "--try", f"{self.folder}/start").split()
         names = [it.encode() for it in names_of("workloads")]
-        for name, digest in wanted:
+        for name, digest in map(bytes.split, read("crates/path_jobs/stdout").splitlines()):
             if name in names or name in printed:
                 with self.row(name.decode()):
                     self.assertEqual(printed[printed.index(name) + 1], digest)
@@ -81,11 +71,6 @@ class Rust(Case):
         take longer than they save."""
         return self.call("cargo", *words, "--offline", "--quiet", "--target-dir", self.folder,
                          cwd=f"{ROOT}/bench/{crate}")
-
-    def setUp(self):
-        made = tempfile.TemporaryDirectory()
-        self.addCleanup(made.cleanup)
-        self.folder = made.name
 
     def test_calls(self):
         """bench/calls compiles, its tests pass, and both sides of a call answer the same."""

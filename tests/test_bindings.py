@@ -27,19 +27,18 @@ import unittest
 
 from c_tests import CALL_TESTS, STRICT, Build, CTest
 from repository import MAP, read_version, read_versions
-from support import LIBRARY, PROGRAM, ROOT, main, needs
+from support import (CALLS, LIBRARY, NEEDED, PROGRAM, ROOT, SONAME, VERSION, VERSIONED, main, needs,
+                     read, run, said, write)
 
-SHARED = f"{os.path.dirname(LIBRARY)}/libunix_path.so"
-SONAME = f"libunix_path.so.{read_version().partition('.')[0]}"
+BUILT = os.path.dirname(LIBRARY)
+SHARED = f"{BUILT}/libunix_path.so"
 # The shared library, with a run path so that programs find it where it is now.
-LINKED = [SHARED, f"-Wl,-rpath,{os.path.dirname(LIBRARY)}"]
+LINKED = [SHARED, f"-Wl,-rpath,{BUILT}"]
 SANITIZED = ["-g", "-O0", "-fsanitize=address,undefined", "-fno-sanitize-recover=all"]
 LIBCXX = "-stdlib=libc++"
 # More warnings that a program may turn on when it includes the headers.
 QUIET = [*STRICT, "-Wsign-conversion", "-Wshadow", "-Wundef", "-Wcast-qual", "-Wredundant-decls"]
 QUIET_CPP = [*QUIET, "-Wold-style-cast", "-Wzero-as-null-pointer-constant", "-Weffc++"]
-# The functions of the C library that the archive may need.
-NEEDED = {"memcpy", "memmove", "memset", "memcmp"}
 # The versions of both languages, each with its names.
 VERSIONS = {"c": [["c11"], ["c17"], ["c23", "c2x"]],
             "c++": [["c++17"], ["c++20"], ["c++23", "c++2b"]]}
@@ -118,11 +117,7 @@ def builds(compilers, language, flags, linked=(), is_oldest=False):
 
 
 class Compiled(CTest):
-    """Tests of programs that compilers build, in a folder of their own."""
-
-    def setUp(self):
-        self.folder = tempfile.mkdtemp()
-        self.addCleanup(shutil.rmtree, self.folder)
+    """Tests of programs that compilers build."""
 
     def try_all(self, do, builds, names):
         """Calls do(build, name) for each of these builds and names."""
@@ -132,9 +127,9 @@ class Compiled(CTest):
     def try_example(self, build, name):
         """Builds an example and compares its answers. Returns the program."""
         name, _, language = name.partition(".")
-        path, folder = f"{ROOT}/examples/{language}/{name}", tempfile.mkdtemp(dir=self.folder)
-        program = self.compiled(build, [f"{path}.{language}"], f"{folder}/program")
-        self.answers([program], f"{path}.stdin", f"{path}.stdout")
+        program = self.compiled(build, [f"examples/{language}/{name}.{language}"],
+                                f"{tempfile.mkdtemp(dir=self.folder)}/program")
+        self.example([program], f"{language}/{name}")
         return program
 
     def try_head(self, build, header):
@@ -142,28 +137,17 @@ class Compiled(CTest):
         it says."""
         ending, *includes = {"unix_path.h": ("c", "stdio.h", "string.h"), "unix_path.hpp": (
             "cpp", "cstdio", "map", "string", "string_view")}[header]
-        with open(f"{ROOT}/include/{header}", encoding="utf-8") as file:
-            head = "\n".join(re.sub(r"^( \*|//) ?", "", it) for it in file.read().splitlines())
+        head = re.sub(r"(?m)^( \*|//) ?", "", read(f"include/{header}").decode())
         code = re.search(r"(?:^ {4}.*\n|^ *\n)+", head[head.index("\n    "):], re.M)[0]
         source = f"{tempfile.mkdtemp(dir=self.folder)}/head.{ending}"
-        with open(source, "w", encoding="utf-8") as file:
-            print(*(f"#include <{it}>" for it in (*includes, header)), sep="\n", file=file)
-            print(f"int main(void) {{\n{code}    return 0;\n}}", file=file)
-        said = self.passes([self.compiled(build, [source], f"{source}.program")])
-        self.assertEqual(said.decode(), re.search(r"It prints `(.*?)`", head)[1] + "\n")
+        write(source, *(f"#include <{it}>" for it in (*includes, header)),
+              f"int main(void) {{\n{code}    return 0;\n}}")
+        printed = self.passes([self.compiled(build, [source], f"{source}.program")])
+        self.assertEqual(printed.decode(), re.search(r"It prints `(.*?)`", head)[1] + "\n")
 
 
-@has_cc
-class C(Compiled):
-    """The calls from C. The vectors are replayed in the oldest version of C."""
-
-    def try_calls(self, flags, linked, is_oldest=False):
-        found = builds(CCS, "c", [*STRICT, *flags], linked, is_oldest)
-        self.try_all(self.try_test, found, CALL_TESTS)
-        self.try_all(self.try_example, found, ["join_beneath.c", "sorted_paths.c"])
-        self.try_all(self.try_head, found, ["unix_path.h"])
-        for build in builds(CCS, "c", [*STRICT, *flags], linked, True):
-            self.try_pathtool(build)
+class Calls:
+    """The tests of a language, whose try_calls builds programs with these flags and libraries."""
 
     def test_archive(self):
         self.try_calls(["-O2"], [LIBRARY])
@@ -176,25 +160,29 @@ class C(Compiled):
         self.try_calls(["-O2"], LINKED, True)
 
 
-@has_cpp
-class Cpp(Compiled):
-    """The calls from C++."""
+@has_cc
+class C(Calls, Compiled):
+    """The calls from C. The vectors are replayed in the oldest version of C."""
 
-    def try_calls(self, compilers, flags, linked, is_oldest=False):
+    def try_calls(self, flags, linked, is_oldest=False):
+        found = builds(CCS, "c", [*STRICT, *flags], linked, is_oldest)
+        self.try_all(self.try_test, found, CALL_TESTS)
+        self.try_all(self.try_example, found, ["join_beneath.c", "sorted_paths.c"])
+        self.try_all(self.try_head, found, ["unix_path.h"])
+        for build in builds(CCS, "c", [*STRICT, *flags], linked, True):
+            self.try_pathtool(build)
+
+
+@has_cpp
+class Cpp(Calls, Compiled):
+    """The calls from C++. With the archive, also over libc++."""
+
+    def try_calls(self, flags, linked, is_oldest=False):
+        compilers = CPPS if is_oldest else [*CPPS, *over_libcxx()]
         found = builds(compilers, "c++", [*STRICT, *flags], linked, is_oldest)
         self.try_all(self.try_test, found, ["view_rows", "view", "header"])
         self.try_all(self.try_example, found, ["sizes.cpp"])
         self.try_all(self.try_head, found, ["unix_path.hpp"])
-
-    def test_archive(self):
-        self.try_calls([*CPPS, *over_libcxx()], ["-O2"], [LIBRARY])
-
-    def test_sanitized(self):
-        self.try_calls([*CPPS, *over_libcxx()], SANITIZED, [LIBRARY])
-
-    @has_shared
-    def test_shared(self):
-        self.try_calls(CPPS, ["-O2"], LINKED, True)
 
 
 @has_cc
@@ -203,75 +191,66 @@ class Cpp(Compiled):
 class Symbols(Compiled):
     """The calls that the libraries export, and their versions."""
 
-    def shown(self, *words):
-        """Returns the names that nm prints."""
-        lines = self.call("nm", *words).decode().splitlines()
-        return {it.split()[2] for it in lines if len(it.split()) == 3}
-
     def test_names(self):
         """Both libraries export the calls that the header declares, the shared library each with
         its version, and nothing else."""
-        with open(f"{ROOT}/include/unix_path.h", encoding="utf-8") as file:
-            calls = set(re.findall(r"^\w+ (unix_path_\w+)\((?:const|void)", file.read(), re.M))
-        named = {f"unix_path_{name}@@UNIX_PATH_{version}"
-                 for version, names in read_versions().items() for name in names}
+        calls = set(re.findall(rb"^\w+ (unix_path_\w+)\((?:const|void)",
+                               read("include/unix_path.h"), re.M))
         nodes = {f"UNIX_PATH_{version}" for version in read_versions()}
         with self.row("archive"):
-            self.assertEqual(self.shown("-g", "--defined-only", LIBRARY), calls)
+            shown = self.symbols(LIBRARY, "-g", "--defined-only")
+            self.assertEqual({name.encode() for _, name in shown}, calls)
         with self.row("shared library"):
-            self.assertEqual(self.shown("-D", "--defined-only", SHARED), named | nodes)
+            shown = self.symbols(SHARED, "-D", "--defined-only")
+            self.assertEqual({name for _, name in shown}, VERSIONED | nodes)
 
     def test_versions(self):
         """A program also runs with a newer version. It isn't loaded with an older version that
         lacks its calls, nor with another major version."""
         major, minor = map(int, read_version().split("."))
-        newer, over = self.share_newer(f"{major}.{minor + 1}"), self.programs()
-        example = f"{ROOT}/examples/c/join_beneath"
+        newer, env = f"{major}.{minor + 1}", {
+            place: {**os.environ, "LD_LIBRARY_PATH": f"{self.folder}/{place}"}
+            for place in ("newer", "major")}
+        self.share_newer(newer, major)
+        newer_program, program = self.programs()
         with self.row("a program over a newer version"):
-            self.answers([over["join_beneath"]], f"{example}.stdin", f"{example}.stdout",
-                         env={**os.environ, "LD_LIBRARY_PATH": f"{self.folder}/newer"})
+            self.example([program], "c/join_beneath", env=env["newer"])
         with self.row("a newer program"):
-            self.passes([over["newer"]],
-                        env={**os.environ, "LD_LIBRARY_PATH": f"{self.folder}/newer"})
+            self.passes([newer_program], env=env["newer"])
         with self.row("a newer program over this version"):
-            self.refused([over["newer"]],
+            self.refused([newer_program],
                          rf"\A(?!(?s:.*)it runs).*version .UNIX_PATH_{re.escape(newer)}. not found",
-                         env={**os.environ, "LD_LIBRARY_PATH": os.path.dirname(SHARED)})
+                         env={**os.environ, "LD_LIBRARY_PATH": BUILT})
         # The loader only prints what it would load, since the system may also have a library of
         # this version.
         with self.row("a program over another major version"):
-            said = self.call(over["join_beneath"], env={
-                **os.environ, "LD_LIBRARY_PATH": f"{self.folder}/major",
-                "LD_TRACE_LOADED_OBJECTS": "1"}).decode()
-            self.assertIn(SONAME, said)
-            self.assertNotIn(self.folder, said)
+            printed = self.call(
+                program, env={**env["major"], "LD_TRACE_LOADED_OBJECTS": "1"}).decode()
+            self.assertIn(SONAME, printed)
+            self.assertNotIn(self.folder, printed)
 
-    def share_newer(self, newer):
+    def share_newer(self, newer, major):
         """Builds a shared library of this newer version, which has one more call, and one of the
-        next major version. Returns the newer version."""
-        shutil.copy(f"{ROOT}/{MAP}", f"{self.folder}/calls.map")
-        with open(f"{self.folder}/calls.map", "a", encoding="utf-8") as file:
-            file.write(f"UNIX_PATH_{newer} {{\nglobal:\n    unix_path_newer;\n}} "
-                       f"UNIX_PATH_{read_version()};\n")
-        major = int(newer.partition(".")[0])
+        next major version."""
+        write(f"{self.folder}/calls.map", read(MAP).decode() + f"UNIX_PATH_{newer} {{",
+              f"global:\n    unix_path_newer;\n}} UNIX_PATH_{read_version()};")
         for place, number in ("newer", major), ("major", major + 1):
             os.mkdir(f"{self.folder}/{place}")
             soname = f"libunix_path.so.{number}"
             self.call(*CCS[0], "-shared", "-fPIC", "tests/c/newer.c", "-Wl,--whole-archive",
                       LIBRARY, "-Wl,--no-whole-archive", f"-Wl,-soname,{soname}",
-                      f"-Wl,--version-script={file.name}", "-o", f"{self.folder}/{place}/{soname}")
+                      f"-Wl,--version-script={self.folder}/calls.map",
+                      "-o", f"{self.folder}/{place}/{soname}")
             os.symlink(soname, f"{self.folder}/{place}/libunix_path.so")
-        return newer
 
     def programs(self):
-        """Builds a program of this version and one of the newer version, and returns their
-        paths."""
-        sources = {"newer": ("tests/c/newer.c", f"{self.folder}/newer"),
-                   "join_beneath": ("examples/c/join_beneath.c", os.path.dirname(SHARED))}
-        for name, (source, place) in sources.items():
+        """Yields a program of the newer version and one of this version."""
+        for source, place in (("tests/c/newer.c", f"{self.folder}/newer"),
+                              ("examples/c/join_beneath.c", BUILT)):
+            program = f"{self.folder}/{os.path.basename(source)}.program"
             self.call(*CCS[0], "-DPROGRAM", "-Iinclude", source, f"-L{place}", "-lunix_path", "-o",
-                      f"{self.folder}/{name}_program")
-        return {name: f"{self.folder}/{name}_program" for name in sources}
+                      program)
+            yield program
 
 
 @has_cc
@@ -282,7 +261,7 @@ class Freestanding(Compiled):
     def test_needs(self):
         """The archive needs nothing that allocates or locks, and has no writable memory: its
         symbols are code and constants."""
-        symbols = re.findall(r"^[0-9a-f ]{16} (\w) (.+)$", self.call("nm", LIBRARY).decode(), re.M)
+        symbols = self.symbols(LIBRARY)
         self.assertTrue(symbols)
         with self.row("what it needs"):
             self.assertLessEqual({name for kind, name in symbols if kind == "U"}, NEEDED)
@@ -306,8 +285,7 @@ class Headers(Compiled):
                  for build in builds(compilers, language, warnings)]
         for header in "unix_path.h", "unix_path.hpp":
             source = f"{self.folder}/{header}.twice"
-            with open(source, "w", encoding="utf-8") as file:
-                file.write(f'#include "{header}"\n' * 2)
+            write(source, *[f'#include "{header}"'] * 2)
             for (build, language), form in itertools.product(found, forms):
                 if header == "unix_path.h" or language == "c++" and form != forms[2]:
                     jobs[f"{build.label} {header} {form}"] = (self.passes, [
@@ -319,9 +297,9 @@ class Headers(Compiled):
         and gives no call another name."""
         for words in CCS:
             with self.row(words[0]):
-                said = self.call(*words, "-E", "-dD", "-DUNIX_PATH_EXPORTS_ONLY",
-                                 "include/unix_path.h").decode()
-                files = re.split(r'^# \d+ "(.*)".*\n', said, flags=re.M)
+                printed = self.call(*words, "-E", "-dD", "-DUNIX_PATH_EXPORTS_ONLY",
+                                    "include/unix_path.h").decode()
+                files = re.split(r'^# \d+ "(.*)".*\n', printed, flags=re.M)
                 text = "".join(it for name, it in zip(files[1::2], files[2::2])
                                if name.endswith("unix_path.h"))
                 names = re.findall(r"^#define (\w+)", text, re.M)
@@ -333,21 +311,18 @@ class Headers(Compiled):
         plain = (r"(?:(?:typedef struct|enum) \{[^{}]*\}[^{}();]*"
                  r"|\w+\s+unix_path_\w+\([^(){}]*\));")
         self.assertRegex(text, rf"\A\s*(?:{plain}\s*)+\Z")
-        self.assertEqual(sorted(re.findall(r"\bunix_path_(\w+)\(", text)),
-                         sorted(it for calls in read_versions().values() for it in calls))
+        self.assertEqual(sorted(re.findall(r"\bunix_path_\w+(?=\()", text)), sorted(CALLS))
 
     @has_cpp
     def test_older_standard(self):
         """The header for C++ has one message for an older version of the language."""
-        with open(f"{self.folder}/older.cpp", "w", encoding="utf-8") as file:
-            print('#include "unix_path.hpp"', file=file)
+        source = f"{self.folder}/older.cpp"
+        write(source, '#include "unix_path.hpp"')
         for words in CPPS:
             with self.row(words[0]):
-                run = subprocess.run(
-                    [*words, "-std=c++14", "-Iinclude", "-fsyntax-only", file.name], cwd=ROOT,
-                    stdout=subprocess.PIPE, stderr=subprocess.STDOUT, text=True, check=False)
-                errors = re.findall(r"^.*error: .*", run.stdout, re.M)
-                self.assertEqual(len(errors), 1, run.stdout)
+                printed = said(run([*words, "-std=c++14", "-Iinclude", "-fsyntax-only", source]))
+                errors = re.findall(r"^.*error: .*", printed, re.M)
+                self.assertEqual(len(errors), 1, printed)
                 self.assertIn("needs C++17", errors[0])
 
 
@@ -401,14 +376,13 @@ class Installed(Compiled):
         """Installs the library below a directory. Returns the directory with the libraries."""
         places, libraries = PLACES[label]
         self.call("tools/install", "library", env={
-            **os.environ, "DESTDIR": "", "BUILD": os.path.dirname(LIBRARY), "MANDIR": "/man",
+            **os.environ, "DESTDIR": "", "BUILD": BUILT, "MANDIR": "/man",
             **{name: it.format(folder) for name, it in places.items()}})
         return f"{folder}/{libraries}"
 
     def check_needed(self, program, is_shared):
         """The program needs the shared library at run time, or contains the archive."""
-        with open(program, "rb") as file:
-            needed = set(re.findall(rb"\0(libunix_path\.so[^\0]*)", file.read()))
+        needed = set(re.findall(rb"\0(libunix_path\.so[^\0]*)", read(program)))
         self.assertEqual(needed, {SONAME.encode()} if is_shared else set())
 
     @needs("pkg-config")
@@ -418,7 +392,7 @@ class Installed(Compiled):
         for place, label in enumerate(PLACES):
             libraries = self.install(label, f"{self.folder}/{place}")
             words = shlex.split(self.call(
-                "pkg-config", "--cflags", "--libs", f"unix_path = {read_version()}.0",
+                "pkg-config", "--cflags", "--libs", f"unix_path = {VERSION}",
                 env={**os.environ, "PKG_CONFIG_PATH": f"{libraries}/pkgconfig"}).decode())
             ways = {"shared": [*words, f"-Wl,-rpath,{libraries}"], "-static": [*words, "-static"],
                     "archive": ["-l:libunix_path.a" if it == "-lunix_path" else it for it in words]}
@@ -447,8 +421,7 @@ class Installed(Compiled):
                 for library in "unix_path", "static":
                     with self.row(label, example, library):
                         program = f"{project}/built/{example.partition('/')[0]}_{library}"
-                        self.answers([program], f"{ROOT}/examples/{example}.stdin",
-                                     f"{ROOT}/examples/{example}.stdout")
+                        self.example([program], example)
                         self.check_needed(program, library == "unix_path")
 
 
@@ -532,7 +505,7 @@ class Rust(Cargo):
         self.passes(["cargo", "build", "--offline", "--manifest-path", manifest],
                     env=self.environment)
         self.answers([f"{self.folder}/debug/lookup", "examples/lookup/www"],
-                     f"{ROOT}/examples/lookup/requests.in", f"{ROOT}/examples/lookup/requests.out")
+                     "examples/lookup/requests.in", "examples/lookup/requests.out")
 
 
 @has_cc
@@ -540,8 +513,7 @@ class Rust(Cargo):
 @needs("cargo", "readelf")
 class SystemRust(Cargo):
     """The crates for Rust with the shared library, as if it were installed."""
-    flags = [f"-L native={os.path.dirname(LIBRARY)}",
-             f"-C link-arg=-Wl,-rpath,{os.path.dirname(LIBRARY)}"]
+    flags = [f"-L native={BUILT}", f"-C link-arg={LINKED[1]}"]
 
     def test_rows(self):
         for crate in ROW_TESTS:
@@ -575,17 +547,16 @@ class Sqlite(Compiled):
     """The example that keeps files in a table of SQLite."""
 
     def test_files(self):
-        package = subprocess.run(["pkg-config", "--cflags", "--libs", "sqlite3"], text=True,
-                                 stdout=subprocess.PIPE, stderr=subprocess.DEVNULL, check=False)
+        package = run(["pkg-config", "--cflags", "--libs", "sqlite3"])
         if package.returncode:
             self.leave_out("the example with SQLite", "libsqlite3-dev can't be found")
-        linked, example = [LIBRARY, *shlex.split(package.stdout)], "examples/sqlite/files"
+        linked, example = [LIBRARY, *shlex.split(package.stdout.decode())], "sqlite/files"
         for label, flags in ("sqlite", ["-O2"]), ("sanitized", SANITIZED):
             with self.row(label):
                 build = Build(label, [*CCS[0], "-std=c11", *STRICT, *flags], linked)
-                program = self.compiled(build, [f"{example}.c"], f"{self.folder}/{label}")
-                self.answers([program, f"{program}.database"], f"{ROOT}/{example}.stdin",
-                             f"{ROOT}/{example}.stdout")
+                program = self.compiled(build, [f"examples/{example}.c"],
+                                        f"{self.folder}/{label}")
+                self.example([program, f"{program}.database"], example)
 
 
 @has_shared

@@ -10,12 +10,11 @@ into a program. shellcheck reads each script. Needs make, cc, readelf and nm.
 import os
 import re
 import shutil
-import subprocess
 import tarfile
-import tempfile
 
-from support import ROOT, Case, main, needs
-from repository import MAP, read_version, read_versions
+from support import (CALLS, ROOT, SONAME, TARGET, VERSION, VERSIONED, Case, copy_repository,
+                     link_commands, main, needs, read, run, said, write, write_package)
+from repository import MAP
 
 # The POSIX utilities that a machine has, and what is needed in addition.
 POSIX = """awk basename cat chmod chown cksum cmp comm cp cut date dd diff dirname echo ed env expr
@@ -26,9 +25,6 @@ DIGESTS = ["sha256sum"]
 TOOLS = ["make", "cc", "as", "ld", "ar"]
 # The README's first line for pathtool, and its answer.
 LINE, ANSWER = b"canon\t.//a/./b/\n", b"./a/b\n"
-TARGET = "{}-{}".format(os.uname().machine, os.uname().sysname.lower())
-VERSION = f"{read_version()}.0"
-SONAME = f"libunix_path.so.{VERSION.partition('.')[0]}"
 SHARED = f"libunix_path.so.{VERSION}"
 INSTALLED = set(f"""bin/pathtool bin/upath include/unix_path.h include/unix_path.hpp
     lib/libunix_path.a lib/libunix_path.so lib/{SONAME} lib/{SHARED} lib/pkgconfig/unix_path.pc
@@ -37,38 +33,6 @@ INSTALLED = set(f"""bin/pathtool bin/upath include/unix_path.h include/unix_path
     share/zsh/site-functions/_upath share/fish/vendor_completions.d/upath.fish
     share/doc/unix_path/LICENSE-APACHE share/doc/unix_path/LICENSE-MIT
     share/doc/unix_path/NOTICES.txt""".split())
-# What make reads from the environment, besides the variables that begin with UNIX_PATH_.
-SETTINGS = """CC CXX AR CFLAGS CPPFLAGS LDFLAGS MAKEFLAGS MAKELEVEL PREFIX DESTDIR LIBDIR INCLUDEDIR
-    MANDIR""".split()
-
-
-def run(words, cwd=ROOT, path=None, given=b"", **variables):
-    """Runs a command with that path and these variables, and without the caller's settings."""
-    env = {name: it for name, it in os.environ.items()
-           if not name.startswith("UNIX_PATH_") and name not in SETTINGS}
-    env.update(PATH=path or env["PATH"], LC_ALL="C", **variables)
-    return subprocess.run(words, cwd=cwd, env=env, input=given, stdout=subprocess.PIPE,
-                          stderr=subprocess.PIPE, check=False)
-
-
-def said(found):
-    """Returns what a command printed, as text."""
-    return (found.stdout + found.stderr).decode(errors="replace")
-
-
-def read(name):
-    with open(f"{ROOT}/{name}", "rb") as file:
-        return file.read()
-
-
-def write(path, *lines, mode=0o644):
-    """Writes a file, in place of what has its name."""
-    if os.path.lexists(path):
-        os.remove(path)
-    os.makedirs(os.path.dirname(path), exist_ok=True)
-    with open(path, "w", encoding="utf-8") as file:
-        print(*lines, sep="\n", file=file)
-    os.chmod(path, mode)
 
 
 def change_byte(path, at=None):
@@ -80,26 +44,6 @@ def change_byte(path, at=None):
         file.write(bytes([held[place] ^ 1]))
 
 
-def copy_repository(folder):
-    """Returns a copy of the repository, without what was built and the mutants."""
-    def built(place, names):
-        made = (".git", "out", "target", "build", "dist", "__pycache__", "must-fail")
-        return [it for it in names if it in made and os.path.isdir(f"{place}/{it}")]
-
-    return shutil.copytree(ROOT, f"{folder}/top", symlinks=True, ignore=built)
-
-
-def link_commands(folder, names, other=None):
-    """Returns a directory that has only these commands, as links; or as links to `other`, if it is
-    given."""
-    path = f"{folder}/path"
-    os.makedirs(path, exist_ok=True)
-    for name in names:
-        if shutil.which(name) or other:
-            os.symlink(other or shutil.which(name), f"{path}/{name}")
-    return path
-
-
 def files_below(top):
     return {os.path.relpath(f"{place}/{it}", top) for place, folders, files in os.walk(top)
             for it in files + [it for it in folders if os.path.islink(f"{place}/{it}")]}
@@ -109,27 +53,17 @@ class BuildCase(Case):
     """Tests in a directory of their own."""
 
     def setUp(self):
-        self.folder = tempfile.mkdtemp()
-        self.addCleanup(shutil.rmtree, self.folder)
         self.place = f"{self.folder}/place"
-
-    def ran(self, words, *rest, **options):
-        """Runs a command as `run` does. Fails with what the command printed if it fails."""
-        found = run(words, *rest, **options)
-        self.assertEqual(found.returncode, 0, f"{words}: {said(found)}")
-        return found
 
     def posix_only(self, name="posix"):
         return link_commands(f"{self.folder}/{name}", [*POSIX, *DIGESTS, *TOOLS])
 
     def check_library(self, library):
         """Checks the name of a shared library, and the version of each call in it."""
-        wanted = {f"unix_path_{it}@@UNIX_PATH_{version}"
-                  for version, calls in read_versions().items() for it in calls}
         named = re.findall(r"SONAME.*\[(.*)\]", said(run(["readelf", "-dW", library])))
-        shown = said(run(["nm", "-D", "--defined-only", library])).splitlines()
+        shown = self.symbols(library, "-D", "--defined-only")
         self.assertEqual(named, [SONAME])
-        self.assertEqual({it.split()[2] for it in shown if "unix_path_" in it}, wanted)
+        self.assertEqual({it for _, it in shown if "unix_path_" in it}, VERSIONED)
 
     def each_compiler(self, do):
         """Calls do(compiler) in a row for each compiler."""
@@ -290,17 +224,14 @@ class Installs(BuildCase):
                 path = link_commands(f"{self.folder}/{name}", [*POSIX, *DIGESTS])
                 write(f"{path}/{name}", "#!/bin/sh", f"echo {name} failed >&2; exit 1", mode=0o755)
                 found = self.install("program", "library", path=path)
-                self.assertNotEqual(found.returncode, 0)
-                self.assertIn(f"{name} failed", said(found))
+                self.fails(found, f"{name} failed")
                 self.assertEqual(self.install("program", "library").returncode, 0)
                 self.assertEqual(files_below(self.place), INSTALLED)
 
     def test_directory_there(self):
         """An installation fails if a directory has the name of one of its files."""
         os.makedirs(f"{self.place}/lib/libunix_path.so")
-        found = self.install("library")
-        self.assertNotEqual(found.returncode, 0)
-        self.assertIn("lib/libunix_path.so", said(found))
+        self.fails(self.install("library"), "lib/libunix_path.so")
         self.assertEqual(os.listdir(f"{self.place}/lib/libunix_path.so"), [])
 
     def test_places(self):
@@ -315,8 +246,7 @@ class Installs(BuildCase):
                 found = self.install("library", LIBDIR=libdir, INCLUDEDIR=includedir)
                 self.assertEqual(found.returncode, 0, said(found))
                 lib = f"{self.place}/{libdir}"
-                with open(f"{lib}/pkgconfig/unix_path.pc", encoding="utf-8") as file:
-                    text = file.read()
+                text = read(f"{lib}/pkgconfig/unix_path.pc").decode()
                 way = re.search(r"^includedir=\$\{libdir\}/(.*)$", text, re.M)[1]
                 self.assertFalse(os.path.isabs(way))
                 self.assertTrue(os.path.isfile(f"{lib}/pkgconfig/../{way}/unix_path.h"), way)
@@ -324,8 +254,8 @@ class Installs(BuildCase):
         with self.row("without GNU's realpath"):
             path = link_commands(self.folder, POSIX)
             self.assertEqual(self.install("library", path=path).returncode, 0)
-            with open(f"{self.place}/lib/pkgconfig/unix_path.pc", encoding="utf-8") as file:
-                self.assertIn(f"\nincludedir={self.place}/include\n", file.read())
+            text = read(f"{self.place}/lib/pkgconfig/unix_path.pc").decode()
+            self.assertIn(f"\nincludedir={self.place}/include\n", text)
 
     def test_apostrophe(self):
         """No directory is run by the shell, whatever characters it has."""
@@ -345,30 +275,26 @@ class Installs(BuildCase):
 class Objects(BuildCase):
     """What is assembled and linked, read with readelf and nm."""
 
-    def what_is_wrong(self, file, compiler):
-        """Returns what is wrong with an object: an executable stack, or code that has to be
-        relocated when it is loaded. None if nothing is."""
-        sections = said(run(["readelf", "-SW", file]))
-        note = re.search(r"\.note\.GNU-stack +PROGBITS( +[0-9a-f]+){4} (.*)", sections)
-        if not note or "X" in note[2]:
-            return "the stack is executable, by its sections"
+    def check_object(self, file, compiler):
+        """Checks that an object needs no executable stack, and has no code that has to be relocated
+        when it is loaded."""
         library = f"{self.folder}/whole.so"
         self.ran([compiler, "-shared", "-Wl,-z,notext", file, "-o", library])
-        if "TEXTREL" in said(run(["readelf", "-dW", library])):
-            return "it has text relocations"
-        flags = re.search(r"GNU_STACK.* (\S+) +\S+$", said(run(["readelf", "-lW", library])), re.M)
-        return None if flags and "E" not in flags[1] else "the stack is executable"
+        note = r"\.note\.GNU-stack +PROGBITS(?: +[0-9a-f]+){4} [^X\n]*$"
+        self.assertRegex(said(run(["readelf", "-SW", file])), f"(?m){note}")
+        shown = said(run(["readelf", "-dlW", library]))
+        self.assertNotIn("TEXTREL", shown)
+        self.assertRegex(shown, r"(?m)GNU_STACK.* [^\sE]+ +\S+$")
 
     def try_vendored(self, compiler):
         path = link_commands(f"{self.folder}/{compiler}.path", ["cc"], shutil.which(compiler))
-        empty, example = f"{self.folder}/{compiler}", "examples/c/sorted_paths"
+        empty = f"{self.folder}/{compiler}"
         os.makedirs(empty)
         lines = read("examples/c/vendored.sh").replace(b"x86_64-linux", TARGET.encode())
         found = self.ran(["sh", "-e"], empty, f"{path}:{os.environ['PATH']}", lines)
         self.assertEqual(said(found), "")
-        found = run([f"{empty}/sorted_paths"], given=read(f"{example}.stdin"))
-        self.assertEqual(found.stdout, read(f"{example}.stdout"))
-        self.assertIsNone(self.what_is_wrong(f"{empty}/unix_path.o", compiler))
+        self.example([f"{empty}/sorted_paths"], "c/sorted_paths")
+        self.check_object(f"{empty}/unix_path.o", compiler)
 
     def test_vendored(self):
         """The example of README.md is built in an empty directory."""
@@ -389,10 +315,12 @@ PROJECT = """cmake_minimum_required(VERSION 3.14)
 project(outside {language})
 {how}
 foreach(library unix_path static)
-    add_executable(program_${{library}} sorted_paths.{ending})
+    add_executable(program_${{library}} {source}.{ending})
     target_link_libraries(program_${{library}} unix_path::${{library}})
 endforeach()
 """
+# The ending of the source and the example that a project in each language builds.
+SOURCES = {"C": ("c", "sorted_paths"), "CXX": ("cpp", "sizes")}
 SUBDIRECTORY = f"add_subdirectory({ROOT} unix_path)"
 FETCH = """include(FetchContent)
 FetchContent_Declare(unix_path URL file://{})
@@ -405,11 +333,10 @@ class CMake(BuildCase):
 
     def configure(self, name, how, language="C", *words):
         """Configures a project that includes the library in this way. Returns how that ended."""
-        folder, ending = f"{self.folder}/{name}", {"C": "c", "CXX": "cpp"}[language]
+        folder, (ending, source) = f"{self.folder}/{name}", SOURCES[language]
         write(f"{folder}/CMakeLists.txt",
-              PROJECT.format(language=language, ending=ending, how=how))
-        source = {"C": "sorted_paths.c", "CXX": "sizes.cpp"}[language]
-        shutil.copy(f"{ROOT}/examples/{ending}/{source}", f"{folder}/sorted_paths.{ending}")
+              PROJECT.format(language=language, ending=ending, source=source, how=how))
+        shutil.copy(f"{ROOT}/examples/{ending}/{source}.{ending}", folder)
         return run(["cmake", "-S", folder, "-B", f"{folder}/built", *words])
 
     def archive(self):
@@ -421,10 +348,8 @@ class CMake(BuildCase):
 
     def try_programs(self, built, language):
         """Runs the programs that a project built, and checks the shared library."""
-        name = f"examples/{ {'C': 'c/sorted_paths', 'CXX': 'cpp/sizes'}[language] }"
         for library in "unix_path", "static":
-            found = run([f"{built}/program_{library}"], given=read(f"{name}.stdin"))
-            self.assertEqual(found.stdout, read(f"{name}.stdout"), library)
+            self.example([f"{built}/program_{library}"], "/".join(SOURCES[language]))
         library, = [it for it in files_below(built) if os.path.basename(it) == SHARED]
         self.check_library(f"{built}/{library}")
 
@@ -459,8 +384,7 @@ class CMake(BuildCase):
         with self.row("another machine"):
             found = self.configure("machine", SUBDIRECTORY, "C", "-DCMAKE_SYSTEM_NAME=Linux",
                                    "-DCMAKE_SYSTEM_PROCESSOR=riscv64")
-            self.assertNotEqual(found.returncode, 0)
-            self.assertIn("no assembly for riscv64-linux", said(found))
+            self.fails(found, "no assembly for riscv64-linux")
         top = copy_repository(self.folder)
         for name in f"asm/{TARGET}/unix_path.s", "include/unix_path.h", "include/unix_path.hpp":
             with self.row(name):
@@ -471,18 +395,6 @@ class CMake(BuildCase):
             shutil.copy(f"{ROOT}/{name}", f"{top}/{name}")
 
 
-# A program that depends on the crate for Rust, in these directories.
-PACKAGE = """[package]
-name = "outside"
-version = "0.1.0"
-edition = "2021"
-[[bin]]
-name = "outside"
-path = "main.rs"
-[dependencies]
-{}
-[workspace]
-"""
 CRATE = f"{ROOT}/bindings/rust"
 CODE = "src/ffi/code.rs"
 # How a program is compiled: its optimisation level, its LTO, and its codegen units.
@@ -508,18 +420,17 @@ mod code;
 """
 
 
-def write_package(folder, crates):
+def write_constants(folder, **crates):
     """Writes the program tests/rust_asm/constants.rs, which depends on the crate in each of these
     directories, by the name for it."""
-    lines = [f'{name} = {{ package = "unix_path_rattle", path = "{crate}" }}'
-             for name, crate in crates.items()]
-    write(f"{folder}/Cargo.toml", PACKAGE.format("\n".join(lines)))
-    shutil.copy(f"{ROOT}/tests/rust_asm/constants.rs", f"{folder}/main.rs")
+    write_package(folder, read("tests/rust_asm/constants.rs").decode(), [
+        f"{name} = {{ package = 'unix_path_rattle', path = '{crate}' }}"
+        for name, crate in crates.items()])
 
 
 def build_constants(folder, crate, profile):
     """Builds and runs the program with a crate. Returns how the last command ended."""
-    write_package(folder, {"unix_path_rattle": crate})
+    write_constants(folder, unix_path_rattle=crate)
     names = ("OPT_LEVEL", "LTO", "CODEGEN_UNITS")
     found = run(["cargo", "build", "--offline"], folder, CARGO_TARGET_DIR=f"{folder}/target",
                 **{f"CARGO_PROFILE_DEV_{name}": it for name, it in zip(names, profile)})
@@ -542,11 +453,10 @@ class Rust(BuildCase):
         top = copy_repository(self.folder)
         run(["sed", "-i", 's/^version = .*/version = "99.0.0"/',
              f"{top}/bindings/rust/Cargo.toml"])
-        write_package(f"{self.folder}/program", {"older": CRATE, "newer": f"{top}/bindings/rust"})
+        write_constants(f"{self.folder}/program", older=CRATE, newer=f"{top}/bindings/rust")
         found = run(["cargo", "build", "--offline"], f"{self.folder}/program")
-        self.assertNotEqual(found.returncode, 0)
-        self.assertIn("links to the native library `unix_path`, but it conflicts with a previous "
-                      "package", said(found))
+        self.fails(found, "links to the native library `unix_path`, but it conflicts with a "
+                          "previous package")
 
     def rustc(self, target):
         """Compiles the crate's file with the assembly for a target. Returns how that ended."""
@@ -561,9 +471,8 @@ class Rust(BuildCase):
 
     def check_calls(self, file):
         """Checks that an object has each call, and exports nothing else."""
-        wanted = {f"unix_path_{it}" for calls in read_versions().values()
-                  for it in calls}
-        self.assertEqual(set(re.findall(r" T (\S+)", said(run(["nm", "-g", file])))), wanted)
+        shown = self.symbols(file, "-g")
+        self.assertEqual({name for kind, name in shown if kind == "T"}, CALLS)
 
     def try_target(self, target):
         found = self.rustc(target)

@@ -7,6 +7,7 @@ function here does if Rust's library lacks the command. First come fixed lines: 
 runs of bytes, and the walks over all short paths with all short lists of turns. A command with a
 line that is answered differently fails with the shortest such line that is found. Needs rustc.
 """
+import collections
 import itertools
 import json
 import os
@@ -29,6 +30,7 @@ PIECES = {
     b"\xf0\x9f\x98\x80": 2, b"\xc3": 2, b"\xe2\x82": 2, b"\xed\xa0\x80": 2, b"\xf4\x90\x80\x80": 2,
     b"\xf0\x9f\x98": 1, b"\xc0\xaf": 1, b"n" * 255: 1, b"n" * 63 + b"/": 1, b"." * 70: 1,
 }
+WEIGHTS = [*itertools.accumulate(PIECES.values())]
 SIMPLE = b"a/."
 SPELLINGS = [b"//", b"/./", b"/.//", b"/"]
 ANY_BYTES = bytes(byte for byte in range(256) if byte not in b"\t\n")
@@ -45,17 +47,13 @@ class Lines:
     def __init__(self, seed, command):
         self.random = random.Random(f"{seed} {command}")
         self.command = command
-        self.pieces = [*PIECES]
-        self.weights = []
-        for weight in PIECES.values():
-            self.weights.append(weight + (self.weights[-1] if self.weights else 0))
 
     def path(self):
         rng = self.random.random
         if rng() < 0.05:
             return bytes(self.random.choices(ANY_BYTES, k=int(12 * rng())))
         count = int(12 * rng() ** 1.5)
-        return b"".join(self.random.choices(self.pieces, cum_weights=self.weights, k=count))
+        return b"".join(self.random.choices([*PIECES], cum_weights=WEIGHTS, k=count))
 
     def other_path(self, path):
         """Returns a path that is related to this one, or any path."""
@@ -166,11 +164,8 @@ def answers_of(program, lines):
     return found.stdout if found.returncode == 0 else f"status {found.returncode}"
 
 
-class Pair:
+class Pair(collections.namedtuple("Pair", "ours theirs")):
     """pathtool and the program that it is compared with."""
-
-    def __init__(self, ours, theirs):
-        self.ours, self.theirs = ours, theirs
 
     def answers(self, lines):
         ours = answers_of(self.ours, lines)
@@ -201,46 +196,28 @@ class Pair:
         """Returns the shortest line found that is also answered differently."""
         shorter = line
         while shorter is not None:
-            line = shorter
-            shorter = self.first_differing(simpler(line))
+            line, shorter = shorter, self.first_differing(simpler(shorter))
         return line
 
 
-def size(line):
-    """Returns the key by which lines are sorted: shorter lines first, and then simpler ones."""
-    return len(line), sum(SIMPLE.find(byte) % 4 for byte in line), line
-
-
 def simpler(line):
-    """Returns lines of the same command that are shorter, or that have a simpler byte somewhere.
-
-    The simplest lines come first.
-    """
-    command, *fields = line.split(b"\t")
-    found = set()
-    for at, field in enumerate(fields):
-        found.add((*fields[:at], *fields[at + 1:]))
-        for other in simpler_fields(field):
-            found.add((*fields[:at], other, *fields[at + 1:]))
-    for count in range(1, min(map(len, fields), default=0) + 1):
-        found.add(tuple(field[count:] for field in fields))
-        found.add(tuple(field[:len(field) - count] for field in fields))
-    lines = {b"\t".join([command, *fields]) for fields in found}
-    is_alone = is_ours_alone(command.decode(), len(fields))
-    return sorted((it for it in lines if size(it) < size(line)
-                   and is_ours_alone(command.decode(), it.count(b"\t")) == is_alone), key=size)
+    """Returns the line without some consecutive bytes of its fields, or with a simpler byte
+    somewhere. The shortest lines come first."""
+    command, tab, rest = line.partition(b"\t")
+    cuts = [(at, at + count, b"") for count in halves(len(rest))
+            for at in range(len(rest) - count + 1)]
+    cuts += [(at, at + 1, bytes([it])) for at, byte in enumerate(rest) if byte != ord("\t")
+             for it in SIMPLE.partition(bytes([byte]))[0]]
+    lines = [command + tab + rest[:at] + new + rest[end:] for at, end, new in cuts]
+    is_alone = is_ours_alone(command.decode(), line.count(b"\t"))
+    return [it for it in lines if is_ours_alone(command.decode(), it.count(b"\t")) == is_alone]
 
 
-def simpler_fields(field):
-    """Yields the field without some consecutive bytes, or with a simpler byte somewhere."""
-    count = len(field)
+def halves(count):
+    """Yields the number, its half, the half of that, and so on down to 1."""
     while count:
-        for at in range(len(field) - count + 1):
-            yield field[:at] + field[at + count:]
+        yield count
         count //= 2
-    for at in range(len(field)):
-        for simple in SIMPLE:
-            yield field[:at] + bytes([simple]) + field[at + 1:]
 
 
 def printable(line):

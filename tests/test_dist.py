@@ -19,23 +19,19 @@ import tempfile
 import unittest
 import zipfile
 
-from support import ROOT, Case, main, needs
+from support import (NEEDED, ROOT, TARGET, VERSION, Case, copy_repository, link_commands, main,
+                     needs, read, run, said, write, write_package)
 from asm import NOTICES, PROVED, proved_lines
 from repository import read_programs, read_version, toolchain_folder
-from test_build import copy_repository, link_commands, run, said
 from test_processors import find_wine, running_wine
 
-VERSION = f"{read_version()}.0"
 PACKAGES = "libunix-path1 libunix-path-dev unix-path-tools".split()
 CRATES = ["unix_path_rattle", "unix_path_typed"]
 SYSTEMS = {"x86_64-linux": "amd64", "aarch64-linux": "arm64"}
-TARGET = f"{os.uname().machine}-{os.uname().sysname.lower()}"
 DATED = {"SOURCE_DATE_EPOCH": "1700000000", "MAINTAINER": "Ada <ada@debian.org>"}
 ARM = ("qemu-aarch64", "aarch64-linux-gnu-gcc")
 WINDOWS_GCC = "x86_64-w64-mingw32-gcc"
-# The functions of the C library that may be called, and the names that the compiler's start files
-# use if they are defined.
-CALLED = {"memcpy", "memmove", "memset", "memcmp"}
+# The names that the compiler's start files use if they are defined.
 WEAK = {"__cxa_finalize", "__gmon_start__", "_ITM_deregisterTMCloneTable",
         "_ITM_registerTMCloneTable"}
 # The directories of the small system into which packages are installed. All others are the
@@ -121,11 +117,6 @@ int main(void) {
 """
 
 
-def write(path, text):
-    os.makedirs(os.path.dirname(path), exist_ok=True)
-    pathlib.Path(path).write_text(text, "utf-8")
-
-
 def names_in(top):
     """Returns the names of the files and directories below a directory."""
     return {str(it.relative_to(top)) for it in pathlib.Path(top).rglob("*")}
@@ -150,11 +141,6 @@ class Packages(Case):
             Packages.out = f"{copy_repository(folder.name)}/dist"
             Packages.found = run(["tools/dist"], os.path.dirname(cls.out), **DATED)
         assert cls.found.returncode == 0, said(cls.found)
-
-    def setUp(self):
-        folder = tempfile.TemporaryDirectory()
-        self.addCleanup(folder.cleanup)
-        self.folder = folder.name
 
     def written(self, ending, start=""):
         """Returns the names of the packages with this start and this ending."""
@@ -201,9 +187,8 @@ class Contents(Packages):
         other = copy_repository(f"{self.folder}/a longer name")
         for name in names_in(other):
             os.utime(f"{other}/{name}", (86400, 86400), follow_symlinks=False)
-        found = run(["sh", "-c", "umask 077; tools/dist"], other, TZ="Asia/Tokyo",
-                    TMPDIR=self.folder, **DATED)
-        self.assertEqual(found.returncode, 0, said(found))
+        self.ran(["sh", "-c", "umask 077; tools/dist"], other, TZ="Asia/Tokyo",
+                 TMPDIR=self.folder, **DATED)
         self.call("diff", "-r", self.out, f"{other}/dist")
 
     def test_times(self):
@@ -224,8 +209,7 @@ class Contents(Packages):
     def test_maintainer(self):
         """MAINTAINER is the only address in Debian's packages. Without it they are unreleased."""
         top = copy_repository(self.folder)
-        found = run(["tools/dist"], top)
-        self.assertEqual(found.returncode, 0, said(found))
+        self.ran(["tools/dist"], top)
         for name in self.written(".deb"):
             with self.row(name):
                 text = self.papers(shutil.copy(f"{self.out}/{name}", self.folder))
@@ -239,10 +223,9 @@ class Contents(Packages):
     def test_damaged(self):
         """With a damaged file of asm/ nothing is written, and dist/ stays as it was."""
         top = copy_repository(self.folder)
-        write(f"{top}/dist/kept", "")
-        write(f"{top}/asm/support.c", "")
-        found = run(["tools/dist"], top)
-        self.assertTrue(found.returncode and "asm/support.c" in said(found), said(found))
+        write(f"{top}/dist/kept")
+        write(f"{top}/asm/support.c")
+        self.fails(run(["tools/dist"], top), "asm/support.c")
         self.assertEqual(os.listdir(f"{top}/dist"), ["kept"])
 
     def test_lacking(self):
@@ -256,9 +239,8 @@ class Contents(Packages):
             with self.row(missing):
                 path = link_commands(f"{self.folder}/{missing}", [
                     it for it in names if not re.search(missing, it)])
-                found = run(["tools/dist"], top, path)
-                self.assertEqual(found.returncode, 0, said(found))
-                self.assertEqual(re.findall("^left out: (.*), since", said(found), re.M),
+                printed = said(self.ran(["tools/dist"], top, path))
+                self.assertEqual(re.findall("^left out: (.*), since", printed, re.M),
                                  [*wanted, "the zip for Windows", "the crates"])
 
     def test_sums(self):
@@ -267,7 +249,7 @@ class Contents(Packages):
             with self.row(name):
                 top = self.unpacked(name)
                 self.call("sha256sum", "-c", "SHA256SUMS", cwd=top)
-                listed = pathlib.Path(top, "SHA256SUMS").read_text("utf-8").splitlines()
+                listed = read(f"{top}/SHA256SUMS").decode().splitlines()
                 self.assertEqual({it.split("  ")[1] for it in listed} | {"SHA256SUMS"}, {
                     it for it in names_in(top) if os.path.isfile(f"{top}/{it}")
                     and not os.path.islink(f"{top}/{it}")})
@@ -292,7 +274,7 @@ class Contents(Packages):
                 text = self.call("readelf", "-sdlW", "--dyn-syms",
                                  f"{top}/lib/libunix_path.so.{VERSION}").decode()
                 called = set(re.findall(r" UND (\w+)(?:@(?:GLIBC_)?\S+)?", text))
-                self.assertTrue({"memcpy"} <= called <= CALLED | WEAK, called)
+                self.assertTrue({"memcpy"} <= called <= NEEDED | WEAK, called)
                 versions = re.findall(r" UND \w+@GLIBC_([\d.]+)", text)
                 self.assertLessEqual(max([int(it) for it in version.split(".")]
                                          for version in versions), [2, 17])
@@ -313,11 +295,11 @@ class Contents(Packages):
             with self.row(name):
                 top = self.unpacked(name)
                 library, = pathlib.Path(top).rglob(f"*.so.{VERSION}")
-                shown = self.call("nm", "-D", "--defined-only", str(library)).decode()
-                head, *lines = pathlib.Path(top, "DEBIAN/symbols").read_text("utf-8").splitlines()
+                shown = self.symbols(library, "-D", "--defined-only")
+                head, *lines = read(f"{top}/DEBIAN/symbols").decode().splitlines()
                 self.assertEqual(head, "libunix_path.so.1 libunix-path1 #MINVER#")
                 self.assertEqual({it.split()[0] for it in lines if "UNIX_PATH_" != it[1:11]},
-                                 set(re.findall(r" T (\S+)", shown.replace("@@", "@"))))
+                                 {it.replace("@@", "@") for kind, it in shown if kind == "T"})
                 for line in lines:
                     self.assertRegex(line, r"^ \S+@UNIX_PATH_([\d.]+) \1$")
 
@@ -328,7 +310,7 @@ class Notices(Packages):
     def read(self):
         """Returns the words of the notices, the lists of crates that are compiled in, by the name
         of the library or program, and the crates with a licence that is stated."""
-        text = pathlib.Path(ROOT, NOTICES).read_text("utf-8")
+        text = read(NOTICES).decode()
         lists = dict(it[len("compiled in "):].split(": ") for it in proved_lines()
                      if it.startswith("compiled in "))
         self.assertEqual(set(lists), {"unix_path", *read_programs()})
@@ -361,11 +343,10 @@ class Notices(Packages):
 
     def test_packed(self):
         """The notices are packed with every binary and with asm/."""
-        wanted = pathlib.Path(ROOT, NOTICES).read_bytes()
         for name in set(os.listdir(self.out)) - {"SHA256SUMS", f"{CRATES[1]}-{VERSION}.crate"}:
             with self.row(name):
                 found = list(pathlib.Path(self.unpacked(name)).rglob("NOTICES.txt"))
-                self.assertEqual([it.read_bytes() for it in found], [wanted])
+                self.assertEqual([it.read_bytes() for it in found], [read(NOTICES)])
 
     def test_copyright(self):
         """The copyright of each Debian package names each binary, and what is compiled into it."""
@@ -418,7 +399,7 @@ class Uses(Packages):
             run(["ln", "-sf", f"/rust/bin/{name}", f"{self.top}/usr/bin/{name}"])
         state = said(run(["dpkg-query", "-s", "libc6"])) if shutil.which("dpkg-query") else ""
         write(f"{self.top}/var/lib/dpkg/status", state)
-        write(f"{self.top}/etc/passwd", "root:x:0:0::/tmp:/bin/sh\n")
+        write(f"{self.top}/etc/passwd", "root:x:0:0::/tmp:/bin/sh")
         write(f"{self.top}/try/use.rs", RUST)
         for name in "tests/cmake/*", "examples/c/join_beneath.*", "examples/cpp/sizes.*":
             for path in pathlib.Path(ROOT).glob(name):
@@ -431,10 +412,9 @@ class Uses(Packages):
 
     def enter(self, script, **variables):
         """Runs a script as root of the system. It has to succeed."""
-        found = run(["unshare", "-rm", "sh", "-ec", ENTER, "sh", self.top, self.rust or "",
-                     *(f"{name}={value}" for name, value in variables.items()),
-                     "sh", "-ec", f"cd /try\n{script}"])
-        self.assertEqual(found.returncode, 0, said(found))
+        self.ran(["unshare", "-rm", "sh", "-ec", ENTER, "sh", self.top, self.rust or "",
+                  *(f"{name}={value}" for name, value in variables.items()),
+                  "sh", "-ec", f"cd /try\n{script}"])
 
     def use_here(self, place, lib, **cmake):
         """Uses the package below a directory in all ways."""
@@ -503,13 +483,10 @@ class Uses(Packages):
     @needs("rustc", "cargo")
     def test_crates(self):
         """A Rust program is built from both crates, and from no other package."""
-        project = "[package]\nname = 'use'\nversion = '0.1.0'\n[dependencies]\n"
         for name in CRATES:
             self.unpack(f"{name}-{VERSION}.crate", f"{self.top}/try")
-            project += f"{name} = {{ path = '{name}-{VERSION}' }}\n"
-        project += f"[patch.crates-io]\n{CRATES[0]} = {{ path = '{CRATES[0]}-{VERSION}' }}\n"
-        write(f"{self.top}/try/Cargo.toml", project)
-        write(f"{self.top}/try/src/main.rs", CRATES_MAIN)
+        lines = [f"{it} = {{ path = '{it}-{VERSION}' }}" for it in CRATES]
+        write_package(f"{self.top}/try", CRATES_MAIN, lines, "[patch.crates-io]", lines[0])
         self.enter("cargo run --offline --quiet")
 
 

@@ -6,7 +6,7 @@ Inputs are made here with their expected answers, except pathtool's stored input
 limit an address space, and cc for interrupt_call.c and refuse_request.c, which change one call.
 """
 import collections
-import functools
+import contextlib
 import itertools
 import os
 import random
@@ -18,9 +18,10 @@ import threading
 import time
 import tty
 
-from support import PROGRAM, ROOT, UPATH, Case, main, needs
+from support import PROGRAM, UPATH, Case, main, needs, read, shim
 
 SECONDS = 100
+PIPES = {"stdout": subprocess.PIPE, "stderr": subprocess.PIPE}
 READ, WRITE, MEMORY = b"read error\n", b"write error\n", b"out of memory\n"
 # The exit statuses of a program for which the system or the loader has too little memory.
 NOT_STARTED = (127, 126, -9, -11, 137, 139)
@@ -54,8 +55,6 @@ CANON = Tool("upath canon", [UPATH, "canon"], copies(b"a//b\n", b"a/b\n"), 3, b"
 SORT, UNIQ = (CANON._replace(name=f"upath {it}", words=[UPATH, it], lines=numbered)
               for it in ("sort", "uniq"))
 TOOLS = [PATHTOOL, CANON, SORT, UNIQ]
-# The programs that answer each line before they read much more.
-STREAMED = [PATHTOOL, CANON]
 
 # Commands of upath whose allocations fail one after the other.
 REFUSED = [
@@ -67,35 +66,24 @@ REFUSED = [
 ]
 
 
-def run(words, stdin, stdout=subprocess.PIPE, **more):
+def run(words, **more):
     """Returns the status, standard output and standard error of a run."""
-    found = subprocess.run(words, stdout=stdout, timeout=SECONDS, stderr=subprocess.PIPE,
-                           check=False, **stdin, **more)
+    found = subprocess.run(words, timeout=SECONDS, check=False, **{**PIPES, **more})
     return found.returncode, found.stdout, found.stderr
 
 
-def answer(words, data, **more):
-    """Returns the same for a run with this input."""
-    return run(words, {"input": data}, **more)
-
-
-def limited(words, kibibytes, data):
-    """Returns the same for a run in an address space of this size. The input is a file."""
-    line = ["bash", "-c", 'ulimit -v "$1" && shift && exec "$@"', "bash", str(kibibytes), *words]
+def from_file(words, data, **more):
+    """Returns the same for a run whose input is a file."""
     with tempfile.TemporaryFile() as file:
         file.write(data)
         file.seek(0)
-        return run(line, {"stdin": file})
+        return run(words, stdin=file, **more)
 
 
-def start(tool):
-    """Starts the program with a pipe at each end. It is killed after SECONDS."""
-    process = subprocess.Popen(tool.words, stdin=subprocess.PIPE, stdout=subprocess.PIPE,
-                               stderr=subprocess.PIPE)
-    watch = threading.Timer(SECONDS, process.kill)
-    watch.daemon = True
-    watch.start()
-    return process
+def limited(words, kibibytes, data):
+    """Returns the same for a run in an address space of this size."""
+    line = ["bash", "-c", 'ulimit -v "$1" && shift && exec "$@"', "bash", str(kibibytes), *words]
+    return from_file(line, data)
 
 
 def feed(pipe, data, step=None):
@@ -109,23 +97,18 @@ def feed(pipe, data, step=None):
         pass
 
 
-def started_feeding(process, data, step=None):
-    """Starts a thread that feeds the process."""
-    feeder = threading.Thread(target=feed, args=(process.stdin, data, step))
-    feeder.start()
-    return feeder
-
-
-@functools.lru_cache(maxsize=None)
-def shim(name):
-    """Compiles a file of tests/c that is loaded before the C library."""
-    file = f"{SHIMS.name}/{name}.so"
-    subprocess.run(["cc", "-O2", "-Wall", "-shared", "-fPIC", f"{ROOT}/tests/c/{name}.c", "-o",
-                    file, "-ldl"], check=True)
-    return file
-
-
-SHIMS = tempfile.TemporaryDirectory()
+@contextlib.contextmanager
+def fed(tool, data, step=None):
+    """Yields the running program, with a pipe at each end, while a thread feeds it. It is killed
+    after SECONDS."""
+    with subprocess.Popen(tool.words, stdin=subprocess.PIPE, **PIPES) as process:
+        watch = threading.Timer(SECONDS, process.kill)
+        watch.daemon = True
+        watch.start()
+        feeder = threading.Thread(target=feed, args=(process.stdin, data, step))
+        feeder.start()
+        yield process
+        feeder.join()
 
 
 def random_bytes(count):
@@ -166,23 +149,22 @@ class Ends(Faults):
         for tool, count in itertools.product(TOOLS, (1, 100_000, 0)):
             with self.row("a full output", tool.name, count), open("/dev/full", "wb") as full:
                 fails = (tool.status, None, tool.head + WRITE)
-                self.same(answer(tool.words, tool.lines(count)[0], stdout=full),
+                self.same(run(tool.words, input=tool.lines(count)[0], stdout=full),
                           fails if count else (0, None, b""))
         with self.row("a full output, pathtool, an empty line"), open("/dev/full", "wb") as full:
-            self.same(answer([PROGRAM], b"\n", stdout=full), (1, None, WRITE))
+            self.same(run([PROGRAM], input=b"\n", stdout=full), (1, None, WRITE))
 
     def test_full_error_output(self):
         """The message can't be written either, and the status stays the same."""
         for tool in TOOLS:
             with self.row("a full error output", tool.name), open("/dev/full", "wb") as full:
-                found = subprocess.run(tool.words, input=tool.lines(1)[0], stdout=full,
-                                       stderr=full, timeout=SECONDS, check=False)
-                self.assertEqual(found.returncode, tool.status)
+                found = run(tool.words, input=tool.lines(1)[0], stdout=full, stderr=full)
+                self.same(found, (tool.status, None, None))
 
     def test_closed_output(self):
         for tool in TOOLS:
             with self.row("a closed output", tool.name):
-                found = answer(tool.words, tool.lines(100)[0], stdout=None,
+                found = run(tool.words, input=tool.lines(100)[0], stdout=None,
                                preexec_fn=lambda: os.close(1))
                 self.same(found, (tool.status, None, tool.head + WRITE))
 
@@ -192,19 +174,17 @@ class Ends(Faults):
             with self.row("a pipe without a reader", tool.name):
                 reader, writer = os.pipe()
                 os.close(reader)
-                found = answer(tool.words, tool.lines(100)[0], stdout=writer)
+                found = run(tool.words, input=tool.lines(100)[0], stdout=writer)
                 os.close(writer)
                 self.same(found, (tool.status, None, tool.no_reader))
 
     def test_reader_goes_away(self):
         """The reader of a pipe reads some bytes of more than the pipe can hold, and closes it."""
         for tool in TOOLS:
-            with self.row("a reader that goes away", tool.name), start(tool) as process:
-                data, answers = tool.lines(100_000)
-                feeder = started_feeding(process, data)
+            data, answers = tool.lines(100_000)
+            with self.row("a reader that goes away", tool.name), fed(tool, data) as process:
                 begun = process.stdout.read(3)
                 process.stdout.close()
-                feeder.join()
                 found = process.wait(), begun, process.stderr.read()
                 self.same(found, (tool.status, answers[:3], tool.no_reader))
 
@@ -213,10 +193,10 @@ class Ends(Faults):
         for tool in TOOLS:
             fails = (tool.status, b"", tool.head + READ)
             with self.row("a closed input", tool.name):
-                self.same(run(tool.words, {}, preexec_fn=lambda: os.close(0)), fails)
+                self.same(run(tool.words, preexec_fn=lambda: os.close(0)), fails)
             with self.row("a directory", tool.name):
                 folder = os.open("/", os.O_RDONLY)
-                self.same(run(tool.words, {"stdin": folder}), fails)
+                self.same(run(tool.words, stdin=folder), fails)
                 os.close(folder)
 
     def test_cut_off_input(self):
@@ -229,7 +209,7 @@ class Ends(Faults):
                 tty.setraw(writer)
                 os.write(writer, b"b//a\nc\nb/a\na")
                 os.close(writer)
-                found = run([UPATH, *words.split()], {"stdin": reader})
+                found = run([UPATH, *words.split()], stdin=reader)
                 os.close(reader)
                 self.same(found, (3, wanted, b"upath: read error\n"))
 
@@ -239,28 +219,25 @@ class Ends(Faults):
                               (b"parts\ta\nparts\t./b", b"a\n.\tb\n"),
                               (b"parts\ta\n\n", b"a\nbad command\n")]:
             with self.row("pathtool", data):
-                self.same(answer([PROGRAM], data), (0, answers, b""))
+                self.same(run([PROGRAM], input=data), (0, answers, b""))
 
     def test_input_by_bytes(self):
         for tool in TOOLS:
-            with self.row("input byte by byte", tool.name), start(tool) as process:
-                data, answers = tool.lines(1500)
-                feeder = started_feeding(process, data, 1)
+            data, answers = tool.lines(1500)
+            with self.row("input byte by byte", tool.name), fed(tool, data, 1) as process:
                 output, error = process.stdout.read(), process.stderr.read()
-                feeder.join()
                 self.same((process.wait(), output, error), (0, answers, b""))
 
     def test_slow_reader(self):
         """Reads a few bytes at a time, of more than a pipe holds, with pauses."""
         for tool in TOOLS:
-            with self.row("a slow reader", tool.name), start(tool) as process:
-                data, answers = tool.lines(40_000)
-                feeder, output = started_feeding(process, data), b""
+            data, answers = tool.lines(40_000)
+            with self.row("a slow reader", tool.name), fed(tool, data) as process:
+                output = b""
                 for count in [1] * 50 + [997] * 150:
                     time.sleep(0.001)
                     output += os.read(process.stdout.fileno(), count)
                 output += process.stdout.read()
-                feeder.join()
                 self.same((process.wait(), output, process.stderr.read()), (0, answers, b""))
 
 
@@ -271,7 +248,7 @@ class Large(Faults):
         """50 MB of random bytes, in which no line is a command."""
         data = random_bytes(50_000_000)
         count = data.count(b"\n") + (not data.endswith(b"\n"))
-        self.same(answer([PROGRAM], data), (0, b"bad command\n" * count, b""))
+        self.same(run([PROGRAM], input=data), (0, b"bad command\n" * count, b""))
 
     def test_random_paths(self):
         """50 MB of random bytes, with a path to show on each line."""
@@ -279,14 +256,14 @@ class Large(Faults):
         answers = [b"bad command" if b"\t" in line else line.decode(errors="replace").encode()
                    for line in lines]
         data = b"".join(b"show\t" + line + b"\n" for line in lines)
-        self.same(answer([PROGRAM], data), (0, b"\n".join(answers) + b"\n", b""))
+        self.same(run([PROGRAM], input=data), (0, b"\n".join(answers) + b"\n", b""))
 
     def test_no_newline(self):
         """100 MB without a newline: many components, and then no command."""
         count = 50_000_000
-        self.same(answer([PROGRAM], b"parts\t" + b"a/" * count),
+        self.same(run([PROGRAM], input=b"parts\t" + b"a/" * count),
                   (0, b"a\t" * (count - 1) + b"a\n", b""))
-        self.same(answer([PROGRAM], b"/." * count), (0, b"bad command\n", b""))
+        self.same(run([PROGRAM], input=b"/." * count), (0, b"bad command\n", b""))
 
 
 def growing_answers():
@@ -316,7 +293,7 @@ class Memory(Faults):
         needs. The system places the heap differently from run to run, so a limit just below what
         is enough may sometimes be enough."""
         whole = (0, answers, b"")
-        self.same(answer([PROGRAM], data), whole)
+        self.same(run([PROGRAM], input=data), whole)
         low = least(lambda limit: limited(["/bin/true"], limit, b"")[0] == 0, 0, 1 << 20)
         enough = least(lambda limit: limited([PROGRAM], limit, data) == whole, low, 1 << 20)
         limits = [low + (enough - 1 - low) * place // (LIMITS - 1) for place in range(LIMITS)]
@@ -354,18 +331,18 @@ class Requests(Faults):
     """Each allocation of upath fails in turn: the status is 3, and the output a prefix."""
 
     def test_upath(self):
-        self.preload = shim("refuse_request")
+        preload = shim("refuse_request", self.folder)
         for line in REFUSED:
-            self.refuse_each(line)
+            self.refuse_each(line, preload)
 
-    def refuse_each(self, line):
+    def refuse_each(self, line, preload):
         """Runs a command with its first allocation failing, then with its second, up to its last.
         Its input has paths that are answered and paths that are not."""
         words, data = [UPATH, *line.split()], b"b/../x\n/a//b\n\n..\n61006200\na/b\n/a/b\n"
-        whole = answer(words, data)[1]
+        whole = run(words, input=data)[1]
         for number in itertools.count(1):
-            status, output, error = answer(words, data, env={
-                **os.environ, "LD_PRELOAD": self.preload, "REFUSED_REQUEST": str(number)})
+            status, output, error = run(words, input=data, env={
+                **os.environ, "LD_PRELOAD": preload, "REFUSED_REQUEST": str(number)})
             if b"refused: 0 bytes\n" in error:
                 break
             with self.row("upath", line, "allocation", number):
@@ -425,11 +402,7 @@ def inputs():
     """Returns four inputs: the stored input; the same, read and written byte by byte; long answers,
     each after a short one; and, byte by byte, an answer whose first nine bytes bypass the buffer,
     which then holds the rest."""
-    stored = []
-    for name in ("stdin", "stdout"):
-        with open(f"{ROOT}/crates/pathtool/{name}", "rb") as file:
-            stored.append(file.read())
-    data, answers = stored[0], stored[1].splitlines(True)
+    data, answers = read("crates/pathtool/stdin"), read("crates/pathtool/stdout").splitlines(True)
     names = BUFFER // 2 + 4
     return [Lines(data, answers), Lines(data, answers, 1),
             Lines((LINE + b"parts\t" + b"a/" * 5000 + b"\n") * 9,
@@ -437,29 +410,27 @@ def inputs():
             Lines(b"parts\t" + b"a/" * names, [b"a\t" * (names - 1) + b"a\n"], 1)]
 
 
-def counted(words, data, changed, most=None):
-    """Returns the status, standard output and error, reads and writes of a run with these
-    variables, in which each call moves at most `most` bytes."""
-    changed = {"LD_PRELOAD": shim("interrupt_call"), **changed}
-    changed.update({"MOST_BYTES": str(most)} if most else {})
-    with tempfile.TemporaryFile() as file:
-        file.write(data)
-        file.seek(0)
-        status, output, error = run(words, {"stdin": file}, env={**os.environ, **changed})
-    made = COUNTS.fullmatch(error)
-    return (status, output, made[1], int(made[2]), int(made[3])) if made else (
-        status, output, error, 0, 0)
-
-
 @needs("cc")
 class Calls(Faults):
     """Each read and each write is changed once, also if each moves one byte."""
+
+    def setUp(self):
+        self.preload = shim("interrupt_call", self.folder)
+
+    def counted(self, words, data, most, **changed):
+        """Returns the status, standard output and error, reads and writes of a run with these
+        variables, in which each call moves at most `most` bytes."""
+        env = {**os.environ, "LD_PRELOAD": self.preload, **changed}
+        env.update({"MOST_BYTES": str(most)} if most else {})
+        status, output, error = from_file(words, data, env=env)
+        made = COUNTS.fullmatch(error) or [error, error, 0, 0]
+        return status, output, made[1], int(made[2]), int(made[3])
 
     def test_counted(self):
         """Each input of pathtool takes the expected number of reads and writes."""
         for lines in inputs():
             with self.row("counted, pathtool", len(lines.data), lines.most):
-                self.same(counted([PROGRAM], lines.data, {}, lines.most),
+                self.same(self.counted([PROGRAM], lines.data, lines.most),
                           lines.wanted("counted", None, 0))
 
     def test_pathtool(self):
@@ -469,7 +440,8 @@ class Calls(Faults):
                  ("failed", "WRITE"), ("empty", "WRITE")]
         for (kind, call), lines in itertools.product(kinds, inputs()):
             self.each(lambda number: self.same(
-                counted([PROGRAM], lines.data, {f"{kind.upper()}_{call}": str(number)}, lines.most),
+                self.counted([PROGRAM], lines.data, lines.most,
+                             **{f"{kind.upper()}_{call}": str(number)}),
                 lines.wanted(kind, call, number)),
                 numbers(lines.reads if call == "READ" else len(lines.writes)))
 
@@ -477,7 +449,7 @@ class Calls(Faults):
         """The same for upath, whose output is a beginning of the answers if a call fails."""
         for tool, most in itertools.product((CANON, SORT, UNIQ), (None, 1)):
             data = tool.lines(30)[0]
-            whole = counted(tool.words, data, {}, most)
+            whole = self.counted(tool.words, data, most)
             self.same(whole[:3], (0, tool.lines(30)[1], b""))
             for call, number in [("READ", it) for it in numbers(whole[3])] + [
                     ("WRITE", it) for it in numbers(whole[4])]:
@@ -487,10 +459,10 @@ class Calls(Faults):
     def change(self, tool, whole, call, number, most):
         """Interrupts this call, and then lets it fail."""
         data = tool.lines(30)[0]
-        found = counted(tool.words, data, {f"INTERRUPTED_{call}": str(number)}, most)
+        found = self.counted(tool.words, data, most, **{f"INTERRUPTED_{call}": str(number)})
         self.same(found, (*whole[:3], whole[3] + (call == "READ"), whole[4] + (call == "WRITE")))
         for kind in ["FAILED"] + ["EMPTY"] * (call == "WRITE"):
-            found = counted(tool.words, data, {f"{kind}_{call}": str(number)}, most)
+            found = self.counted(tool.words, data, most, **{f"{kind}_{call}": str(number)})
             self.assertTrue(whole[1].startswith(found[1]), found)
             self.same((found[0], found[2]),
                       (tool.status, tool.head + (READ if call == "READ" else WRITE)))

@@ -7,17 +7,15 @@ that asm/PROVED.txt names. A compiler that is missing is left out too.
 import importlib.machinery
 import importlib.util
 import os
+import pathlib
 import re
 import shutil
 import tempfile
 from unittest import mock
 
-from support import ROOT, Case, main, needs
+from support import NEEDED, ROOT, Case, copy_repository, main, needs, read
 from asm import BY_HAND, MAIN, MOST_BYTES, PROVED, all_faults, exports_of, read_fact, read_files
-from test_build import copy_repository
 
-# The names that a program with the library may need from the C library.
-NEEDED = {"memcpy", "memmove", "memset", "memcmp"}
 # Every name of a shared library has to be defined, and the linker may write nothing into the code.
 LINKED = ["-shared", "-Wl,-z,defs", "-Wl,-z,text"]
 FATAL = ["-Wall", "-Werror", "-Wl,--fatal-warnings"]
@@ -98,30 +96,21 @@ class Damage(Case):
     """What is found in a copy of the repository."""
 
     def setUp(self):
-        folder = tempfile.TemporaryDirectory()
-        self.addCleanup(folder.cleanup)
-        self.top = copy_repository(folder.name)
-
-    def put(self, name, data):
-        """Gives a file of the copy these bytes, or removes it. Returns its bytes before."""
-        path = f"{self.top}/{name}"
-        with open(path, "rb") as file:
-            before = file.read()
-        os.remove(path)
-        if data is not None:
-            with open(path, "wb") as file:
-                file.write(data)
-        return before
+        self.top = copy_repository(self.folder)
 
     def check_refused(self, name, data, named):
         """Checks that `make digests` names a file if a file has these bytes, or is missing."""
-        before = self.put(name, data)
+        path = pathlib.Path(self.top, name)
+        before = path.read_bytes()
+        if data is None:
+            path.unlink()
+        else:
+            path.write_bytes(data)
         try:
             with self.assertRaisesRegex(AssertionError, re.escape(named)):
                 self.call("make", "-s", "digests", cwd=self.top)
         finally:
-            with open(f"{self.top}/{name}", "wb") as file:
-                file.write(before)
+            path.write_bytes(before)
 
     def test_bytes(self):
         """Each file of asm/ and each header is refused with a changed byte, or if it is missing."""
@@ -135,8 +124,7 @@ class Damage(Case):
 
     def test_digest(self):
         """A Makefile with another digest, or without one, is refused."""
-        with open(f"{self.top}/Makefile", "rb") as file:
-            data = file.read()
+        data = read(f"{self.top}/Makefile")
         digest = re.search(rb"^PROVED = (\w{64})\n", data, re.M)
         for name, makefile in (("another", turned(data, digest.start(1))),
                                ("none", data.replace(digest[0], b""))):
@@ -172,10 +160,9 @@ class Assemblers(Case):
 
     def check_names(self, name, nm, made):
         """Checks which names an object exports and needs, according to this nm."""
-        lines = [line.split()[-2:] for line in self.call(nm, "-g", made).decode().splitlines()
-                 if line.strip()]
-        needed = {it[1] for it in lines if it[0] == "U"}
-        self.assertEqual({it[1] for it in lines if it[0] != "U"}, exports_of(name))
+        shown = self.symbols(made, "-g", nm=nm)
+        needed = {it for kind, it in shown if kind == "U"}
+        self.assertEqual({it for kind, it in shown if kind != "U"}, exports_of(name))
         self.assertFalse(exports_of(name) != {MAIN} and needed - NEEDED, needed)
 
     def assemble(self, row):

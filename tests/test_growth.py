@@ -51,28 +51,18 @@ EDITS = [b"push:b", b"push:.", b"push:..", b"push:/b", b"push:", b"push:" + b"b"
          b"name:b", b"name:..", b"name:", b"ext:x", b"ext:", b"add:x", b"add:"]
 
 
-def just(piece):
-    """Returns a function that makes a piece of a path that is short at every size."""
-    return lambda size: piece
-
-
-def run(repeated, first=b""):
-    """Returns a function that makes a long piece of a path: the first bytes, and then these bytes
-    repeated."""
-    return lambda size: first + repeated * (size // len(repeated))
-
-
-FILLERS = {"slashes": run(b"/"), "root_dots": run(b"/."), "dots": run(b"./")}
-BEGINNINGS = {"": just(b""), "root": just(b"/"), "b": just(b"b")}
-PARTS = {"": just(b""), "a": just(b"a"), "up": just(b".."), "dot": just(b".")}
-LONG_PARTS = {"name": run(b"a"), "hidden_name": run(b"a", b"."), "dotted_name": run(b"a."),
-              "extension": run(b"a", b"a."), "ups": run(b"../"), "root_ups": run(b"/..")}
-TAILS = {"": just(b""), **FILLERS}
+# The pieces of paths, by their labels in the names of rows: the first bytes of each, and the bytes
+# that are repeated after them if the piece is long.
+FILLERS = {"slashes": (b"", b"/"), "root_dots": (b"", b"/."), "dots": (b"", b"./")}
+BEGINNINGS = {"": (b"", b""), "root": (b"/", b""), "b": (b"b", b"")}
+PARTS = {"": (b"", b""), "a": (b"a", b""), "up": (b"..", b""), "dot": (b".", b"")}
+LONG_PARTS = {"name": (b"", b"a"), "hidden_name": (b".", b"a"), "dotted_name": (b"", b"a."),
+              "extension": (b"a.", b"a"), "ups": (b"", b"../"), "root_ups": (b"", b"/..")}
+TAILS = {"": (b"", b""), **FILLERS}
 
 
 def ends():
-    """Yields the paths with a long end: for each, its label in the row's name, and the functions
-    that make its pieces from a size."""
+    """Yields the paths with a long end: for each, its label in the row's name, and its pieces."""
     for named in [*itertools.product(BEGINNINGS.items(), FILLERS.items(), PARTS.items(),
                                      TAILS.items()),
                   *itertools.product(LONG_PARTS.items(), TAILS.items())]:
@@ -83,7 +73,8 @@ def ends():
 def path_of(pieces, size):
     """Joins the pieces, with a slash between two that would otherwise be one component."""
     path = b""
-    for piece in [make(size) for make in pieces]:
+    for first, repeated in pieces:
+        piece = first + repeated * (size // max(1, len(repeated)))
         needs_slash = path and piece and not path.endswith(b"/") and not piece.startswith(b"/")
         path += b"/" * bool(needs_slash) + piece
     return path
@@ -117,9 +108,10 @@ def fields_of(command, path):
 
 def call_rows():
     """Yields the rows of single commands and edits."""
-    places = {"after": lambda filler: [just(b"a"), just(b"/b"), filler],
-              "before": lambda filler: [just(b"a"), filler, just(b"b")],
-              "in front": lambda filler: [filler, just(b"a"), just(b"/b")]}
+    a, b, below = (b"a", b""), (b"b", b""), (b"/b", b"")
+    places = {"after": lambda filler: [a, below, filler],
+              "before": lambda filler: [a, filler, b],
+              "in front": lambda filler: [filler, a, below]}
     for command, (filler, piece), (place, pieces) in itertools.product(
             commands(), FILLERS.items(), places.items()):
         for number in range(len(fields_of(command, b""))):

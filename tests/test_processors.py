@@ -16,15 +16,14 @@ import collections
 import contextlib
 import json
 import os
-import pathlib
 import re
 import shutil
 import subprocess
 import tempfile
 
 import tables
-from c_tests import CALL_TESTS, STRICT, Build, CTest, first_difference
-from support import ROOT, main, needs
+from c_tests import CALL_TESTS, STRICT, Build, CTest
+from support import main, needs, read, run, write
 
 # A system: the directory of asm/, the compiler for it with its flags, and the words that run a
 # program there.
@@ -92,16 +91,10 @@ def running_wine():
 class Processors(CTest):
     """Tests over the C library of a system."""
 
-    def setUp(self):
-        folder = tempfile.TemporaryDirectory()
-        self.addCleanup(folder.cleanup)
-        self.folder = folder.name
-
     def check_links(self, system):
         """Leaves the test out if the compiler links no program."""
-        found = subprocess.run([*system.compiler, "-x", "c", "-", "-o", f"{self.folder}/program"],
-                               input=b"int main(void) { return 0; }\n", stderr=subprocess.PIPE,
-                               check=False)
+        found = run([*system.compiler, "-x", "c", "-", "-o", f"{self.folder}/program"],
+                    given=b"int main(void) { return 0; }\n")
         if found.returncode:
             self.leave_out(f"the tests of {system.label}", f"{system.compiler[0]} links no program")
 
@@ -127,12 +120,11 @@ class Processors(CTest):
         self.replay(f"{system.label} program", [*build.runner, pathtool])
         upath = self.compiled(build, [f"{folder}/upath.s", "asm/support.c"],
                               f"{self.folder}/upath")
-        runner = pathlib.Path(self.folder, "run_upath")
-        runner.write_text(f'#!/bin/sh\nexec {" ".join([*build.runner, upath])} "$@"\n', "utf-8")
-        runner.chmod(0o755)
+        runner = f"{self.folder}/run_upath"
+        write(runner, "#!/bin/sh", f'exec {" ".join([*build.runner, upath])} "$@"', mode=0o755)
         with self.row(system.label, "random runs of upath"):
             self.call("tests/test_upath.py", "-k", "Random", env={
-                **os.environ, "UNIX_PATH_UPATH": str(runner), "runs": "150", "seed": "1"})
+                **os.environ, "UNIX_PATH_UPATH": runner, "runs": "150", "seed": "1"})
 
     def try_system(self, system):
         self.check_links(system)
@@ -170,25 +162,21 @@ class Wasm(CTest):
 
     def write_page(self, path, files):
         """Writes a page that asks the module all rows, and answers the lines of these files."""
-        module = pathlib.Path(ROOT, "asm/wasm64/unix_path.wasm").read_bytes()
+        module = read("asm/wasm64/unix_path.wasm")
         given = {"module": base64.b64encode(module).decode(), "rows": list(self.given_rows()),
-                 "files": [pathlib.Path(it).read_bytes().decode("latin-1") for it in files],
+                 "files": [read(it).decode("latin-1") for it in files],
                  "commands": [[it.name, [it.fewest, it.most]] for it in tables.commands()]}
-        scripts = "\n".join(pathlib.Path(ROOT, "tests/wasm", it).read_text("utf-8")
-                            for it in SCRIPTS)
-        with open(path, "w", encoding="utf-8") as file:
-            file.write(PAGE.format(scripts=scripts,
-                                   given=json.dumps(given).replace("<", "\\u003C")))
+        scripts = "\n".join(read(f"tests/wasm/{it}").decode() for it in SCRIPTS)
+        write(path, PAGE.format(scripts=scripts,
+                                given=json.dumps(given).replace("<", "\\u003C")))
 
     def answers_in_chromium(self, files, folder):
         """Returns the answers of a page."""
         self.write_page(f"{folder}/page.html", files)
-        run = subprocess.run(["env", f"HOME={folder}", *LIMIT, *CHROMIUM,
-                              f"--user-data-dir={folder}/chromium", f"file://{folder}/page.html"],
-                             stdin=subprocess.DEVNULL, stdout=subprocess.PIPE,
-                             stderr=subprocess.PIPE, check=False)
-        found = re.search(rb'<pre id="answers">([\w+/=]+)</pre>', run.stdout)
-        self.assertIsNotNone(found, run.stderr[-4000:])
+        shown = run([*LIMIT, *CHROMIUM, f"--user-data-dir={folder}/chromium",
+                     f"file://{folder}/page.html"], HOME=folder)
+        found = re.search(rb'<pre id="answers">([\w+/=]+)</pre>', shown.stdout)
+        self.assertIsNotNone(found, shown.stderr[-4000:])
         answers = json.loads(base64.b64decode(found[1]).decode("latin-1"))
         self.assertIn("rows", answers, answers.get("error"))
         return answers
@@ -205,16 +193,14 @@ class Wasm(CTest):
     @needs("chromium")
     def test_wasm64(self):
         """The module answers all rows and vectors, in one page."""
-        with tempfile.TemporaryDirectory() as folder:
-            files = list(tables.vectors(folder))
-            answers = self.answers_in_chromium([given for _, given, _ in files], folder)
-            with self.row("wasm64: rows"):
-                self.check_rows(answers["rows"])
-            self.assertEqual(len(answers["files"]), len(files))
-            for (name, _, path), text in zip(files, answers["files"]):
-                with self.row(f"wasm64: {name}"):
-                    found, wanted = text.encode("latin-1"), pathlib.Path(path).read_bytes()
-                    self.assertTrue(found == wanted, first_difference(found, wanted))
+        files = list(tables.vectors(self.folder))
+        answers = self.answers_in_chromium([given for _, given, _ in files], self.folder)
+        with self.row("wasm64: rows"):
+            self.check_rows(answers["rows"])
+        self.assertEqual(len(answers["files"]), len(files))
+        for (name, _, path), text in zip(files, answers["files"]):
+            with self.row(f"wasm64: {name}"):
+                self.same_lines(text.encode("latin-1"), read(path))
 
 
 if __name__ == "__main__":

@@ -19,13 +19,11 @@ import functools
 import glob
 import os
 import re
-import shutil
 import subprocess
-import tempfile
 import unittest
 
 import tables
-from support import PROGRAM, ROOT, Case, main, needs
+from support import PROGRAM, ROOT, Case, main, needs, read, shim
 
 CRATES = ("unix_bytes", "unix_path", "path_runs", "path_table", "path_within", "path_keys",
           "path_tree")
@@ -73,8 +71,7 @@ def public_calls():
     for crate in CRATES:
         for path in glob.glob(f"{ROOT}/crates/{crate}/src/**/*.rt", recursive=True):
             if "/tests" not in os.path.relpath(path, ROOT):
-                with open(path, encoding="utf-8") as file:
-                    yield from calls_of(file.read().split("\n"))
+                yield from calls_of(read(path).decode().split("\n"))
 
 
 @functools.lru_cache(maxsize=None)
@@ -89,11 +86,7 @@ def input_of(name):
     """Returns the input of pathtool that has this name in the table, and its answers."""
     if name == "line_of_under":
         return b"under\t/a\t/a//b/./c\t/d\t/a/b/c\n", b"b/c\n"
-    texts = []
-    for part in {"stored_lines": ("stdin", "stdout")}[name]:
-        with open(f"{ROOT}/crates/pathtool/{part}", "rb") as file:
-            texts.append(file.read())
-    return texts
+    return [read(f"crates/pathtool/{it}") for it in {"stored_lines": ("stdin", "stdout")}[name]]
 
 
 def ends_of_test(run):
@@ -115,13 +108,8 @@ def ends_of_program(answers, run):
 class Requests(Case):
     """Allocations that fail, one at a time."""
 
-    @classmethod
-    def setUpClass(cls):
-        folder = tempfile.mkdtemp()
-        cls.addClassCleanup(shutil.rmtree, folder)
-        cls.refuser = f"{folder}/refuse_request.so"
-        subprocess.run(["cc", "-O2", "-Wall", "-shared", "-fPIC",
-                        f"{ROOT}/tests/c/refuse_request.c", "-o", cls.refuser, "-ldl"], check=True)
+    def setUp(self):
+        self.refuser = shim("refuse_request", self.folder)
 
     def run_refusing(self, number, command, data, ends_of):
         """Runs a command while the allocation with this number fails. Returns how it ended, and how

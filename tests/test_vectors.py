@@ -8,7 +8,6 @@ vector is a row.
 import os
 import re
 import shutil
-import subprocess
 import tempfile
 import unittest
 
@@ -22,9 +21,8 @@ def by_rt(vectors, folder):
     for name, given, wanted in vectors:
         shutil.copy(given, f"{folder}/{name}")
         shutil.copy(wanted, f"{folder}/{name}.stdout")
-    run = subprocess.run(["rt", "try", "--cases", folder], cwd=f"{support.ROOT}/crates/pathtool",
-                         stdout=subprocess.PIPE, stderr=subprocess.STDOUT, check=False)
-    said = run.stdout.decode(errors="replace")
+    found = support.run(["rt", "try", "--cases", folder], f"{support.ROOT}/crates/pathtool")
+    said = support.said(found)
     same = set(re.findall(r"^case=(\S+) run=ended status=0 .*output=expected", said, re.M))
     yield from ((name, name in same, said[-4000:]) for name, _, _ in vectors)
 
@@ -33,10 +31,8 @@ def by_program(vectors):
     """Yields the name of each vector, and true if the program answers it correctly, with how the
     program ended."""
     for name, given, wanted in vectors:
-        with open(given, "rb") as lines, open(wanted, "rb") as answers:
-            run = subprocess.run([support.PROGRAM], stdin=lines, stdout=subprocess.PIPE,
-                                 stderr=subprocess.PIPE, check=False)
-            is_same = (run.returncode, run.stdout, run.stderr) == (0, answers.read(), b"")
+        run = support.run([support.PROGRAM], given=support.read(given))
+        is_same = (run.returncode, run.stdout, run.stderr) == (0, support.read(wanted), b"")
         yield name, is_same, f"it ended with {run.returncode}: {run.stderr[-4000:]}"
 
 
