@@ -43,7 +43,9 @@ fn arguments_of(rt: &HostRuntime) -> Result<Vec<Vec<u8>>, AllocError> {
 
 // Does what the arguments ask for. Returns the exit status.
 fn answer(rt: &HostRuntime, arguments: &[Vec<u8>]) -> Result<u8, RunError> {
-    let paths = argument_paths(rt.alloc(), arguments)?;
+    let Ok(paths) = argument_paths(rt.alloc(), arguments) else {
+        return Err(RunError::Arguments);
+    };
     let texts = Texts {
         general: GENERAL,
         version: VERSION,
@@ -60,13 +62,21 @@ fn answer(rt: &HostRuntime, arguments: &[Vec<u8>]) -> Result<u8, RunError> {
     )
 }
 
-fn main(rt: HostRuntime) -> ExitCode {
-    let Ok(arguments) = arguments_of(&rt) else {
-        let _ = eprintln!(rt; "upath: out of memory");
-        return ExitCode::from(3);
+// Does what the arguments ask for, unless they can't be kept.
+fn answer_arguments(rt: &HostRuntime) -> Result<u8, RunError> {
+    let Ok(arguments) = arguments_of(rt) else {
+        return Err(RunError::Arguments);
     };
-    match answer(&rt, arguments.as_slice()) {
+    answer(rt, arguments.as_slice())
+}
+
+fn main(rt: HostRuntime) -> ExitCode {
+    match answer_arguments(&rt) {
         Ok(status) => ExitCode::from(status),
+        Err(RunError::Arguments) => {
+            let _ = eprintln!(rt; "upath: out of memory");
+            ExitCode::from(3)
+        }
         Err(_) => ExitCode::from(3),
     }
 }

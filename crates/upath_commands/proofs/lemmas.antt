@@ -14,4 +14,8 @@ pub mod AnswerLemmas
 pub mod PartLemmas
 pub mod HexLemmas
 pub mod KeyTextLemmas
+pub mod OperandLemmas
+pub mod ItemLemmas
+pub mod MeaningLemmas
+pub mod RequestLemmas
 pub mod KeyLawLemmas

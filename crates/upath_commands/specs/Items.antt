@@ -1,5 +1,5 @@
 -- What arguments say before a command is known: options, their values, operands and requests.
-use Rattle.std.specs.Prelude.{ℕ, Bool, true, false, ◌==◌, ◌&&◌, not, List, [], ◌∷◌, ◌++◌}
+use Rattle.std.specs.Prelude.{ℕ, Bool, ◌==◌, ◌&&◌, not, List, [], ◌∷◌, ◌++◌}
 use Rattle.std.specs.Prelude.{Option, Some, None, codes, map, drop, take, unwrap_or}
 use Rattle.std.specs.Prelude.{if◌then◌else◌, find}
 use Rattle.std.specs.Option.{is_some}
@@ -13,7 +13,6 @@ use Rattle.upath_commands.specs.declared.items.ItemKind.TheVariants as kind
 use Rattle.upath_commands.specs.declared.options.Flag.{Flag}
 use Rattle.upath_commands.specs.declared.options.Flag.TheVariants as option
 use Rattle.upath_commands.specs.declared.options.Request.{Request}
-use Rattle.upath_commands.specs.declared.options.Request.TheVariants as request
 use Rattle.upath_commands.specs.declared.usage.UsageErrorKind.TheVariants.{UnknownOption}
 use Rattle.upath_commands.specs.declared.usage.UsageErrorKind.TheVariants.{UnknownLetter}
 use Rattle.upath_commands.specs.declared.usage.UsageErrorKind.TheVariants.{MissingValue}

@@ -9,6 +9,7 @@ pub mod Records
 pub mod Hex
 pub mod Shown
 pub mod KeyTexts
+pub mod ArgumentLaws
 pub mod KeyLaws
 pub mod Escaping
 pub mod Answers

@@ -7,7 +7,7 @@ use Rattle.upath_commands.specs.declared.output.Output.{Output}
 use Rattle.upath_commands.specs.declared.output.Messages.{Messages}
 use Rattle.upath_commands.specs.declared.output.RunError.{RunError}
 use Rattle.upath_commands.specs.declared.output.RunError.TheVariants.{Read, Write, Closed}
-use Rattle.upath_commands.specs.declared.output.RunError.TheVariants.{Memory}
+use Rattle.upath_commands.specs.declared.output.RunError.TheVariants.{Memory, Arguments}
 
 -- the message that an error of a run is displayed as
 abbrev pub error_text : RunError → List ℕ
@@ -15,6 +15,7 @@ error_text Read = codes "read error"
 error_text Write = codes "write error"
 error_text Closed = codes "output is closed"
 error_text Memory = codes "out of memory"
+error_text Arguments = codes "out of memory"
 
 -- the error is one of a write, neither of a read nor of an allocation
 abbrev pub IsOfWrite : RunError → Type 0

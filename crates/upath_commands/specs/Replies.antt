@@ -1,5 +1,5 @@
 -- What a run does to the writers of answers and messages.
-use Rattle.std.specs.Prelude.{◌≡◌, ℕ, Bool, true, false, ◌&&◌, ◌||◌, List, [], ◌++◌, Option}
+use Rattle.std.specs.Prelude.{◌≡◌, ℕ, Bool, true, false, ◌&&◌, ◌||◌, List, [], Option}
 use Rattle.std.specs.List.{list_all, list_any}
 use Rattle.upath_commands.specs.Outputs.{Emits, EmitsPrefix, Tells, TellsPrefix, has_failed}
 use Rattle.upath_commands.specs.Outputs.{told_to, unwritten, written_to}

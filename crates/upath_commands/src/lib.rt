@@ -5,10 +5,16 @@
 //! buffer grows, and fails if the allocation fails. After a failed allocation the contents of that
 //! buffer are unspecified. Everything here is lexical: symbolic links are not followed. Indices and
 //! lengths count bytes.
+//!
+//! Three modules have laws, each of which a proof can use if it calls a function. [`argument_laws`]
+//! has those of arguments: `paths_after_dashes`, `paths_after_root`, `help_first`,
+//! `help_after_command`, `options_follow_operands`, `letters_join` and `value_after_equals_sign`.
+//! [`key_laws`] has those of keys, and [`sort_laws`] those of the order.
 #![tactic(auto)]
 
 mod ancestors;
 mod answer;
+pub mod argument_laws;
 mod arguments;
 mod bases;
 mod command;

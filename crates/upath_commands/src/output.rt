@@ -37,6 +37,9 @@ pub enum RunError {
     Closed,
     /// An allocation failed.
     Memory,
+    /// An allocation failed before the arguments were understood. Nothing was read or written, and
+    /// the caller reports it.
+    Arguments,
 }
 
 /// Converts a failed allocation to `Memory`.
@@ -263,7 +266,7 @@ fn message_of(error: RunError) -> &'static [u8]
         RunError::Read => b"read error",
         RunError::Write => b"write error",
         RunError::Closed => b"output is closed",
-        RunError::Memory => b"out of memory",
+        RunError::Memory | RunError::Arguments => b"out of memory",
     }
 }
 

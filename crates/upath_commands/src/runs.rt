@@ -381,7 +381,7 @@ fn refuse<W: Write, E: Write>(
 ///
 /// For wrong usage nothing is read or written, and a message says what is wrong. After an error a
 /// prefix of the output was written, and a message says what failed, unless the option `-q` is given,
-/// nobody reads the output any more, or memory is out before the arguments are understood.
+/// nobody reads the output any more, or the error is `Arguments`, which the caller reports.
 ///
 /// For `equal`, `a` and `a/.` the status is 0.
 pub fn run_arguments<R: Read, W: Write, E: Write>(
@@ -417,7 +417,7 @@ pub fn run_arguments<R: Read, W: Write, E: Write>(
         → reader.new ≡ reader.old }
 {
     match invocation_of(alloc, arguments) {
-        Err(_) => Err(RunError::Memory),
+        Err(_) => Err(RunError::Arguments),
         Ok(Ok(invocation)) => run_invocation(alloc, &invocation, texts, reader, replies),
         Ok(Err(usage)) => refuse(usage, replies),
     }

@@ -9,7 +9,6 @@ use Rattle.upath_commands.specs.Selections.{selected, taken}
 use Rattle.upath_commands.specs.Tasks.{TaskValue}
 use Rattle.upath_commands.specs.declared.selection.Selection.{Selection}
 use Rattle.upath_commands.proofs.lemmas.ReplyLemmas.{Answered-nil, Answered-then, Stopped-as}
-use Rattle.upath_commands.proofs.lemmas.ReplyLemmas.{Stopped-of}
 use Rattle.upath_commands.proofs.lemmas.SelectionLemmas.{selected-nil, selected-splits}
 
 -- of `all` paths those before `left` were answered, as far as they were selected

@@ -1,5 +1,5 @@
 -- Answers and messages, one after the other.
-use Rattle.std.proofs.Common.{◌≡◌, ℕ, Bool, true, false, ◌&&◌, ◌||◌, List, [], ◌∷◌, ◌++◌, length}
+use Rattle.std.proofs.Common.{◌≡◌, ℕ, Bool, true, false, ◌&&◌, ◌||◌, List, [], ◌++◌, length}
 use Rattle.std.proofs.Common.{take, drop, Option, Some, None, IfSome, Result, Ok, Err, OnOk, OnErr}
 use Rattle.std.proofs.Common.{IfOk, IfErr, refl, sym, ap, subst, ◌∙◌, append_assoc, append-nil}
 use Rattle.std.proofs.Common.{take-append-drop}
@@ -8,7 +8,7 @@ use Rattle.std.proofs.lemmas.Grind.{flat_map-append}
 use Rattle.std.proofs.lemmas.List.Folds.{list_all-append, list_any-append}
 use Rattle.std.specs.List.{list_all, list_any}
 use Rattle.upath_commands.specs.Commands.{text_for}
-use Rattle.upath_commands.specs.Outputs.{AppendsPrefix, Emits, EmitsPrefix, Tells, TellsPrefix}
+use Rattle.upath_commands.specs.Outputs.{Tells, TellsPrefix}
 use Rattle.upath_commands.specs.Replies.{Answered, State, Stopped}
 use Rattle.upath_commands.specs.Tasks.{TaskValue, answers, message_of, messages_of, output_of}
 use Rattle.upath_commands.proofs.lemmas.OutputLemmas.{Emits-added, Emits-then, Emits-fail}

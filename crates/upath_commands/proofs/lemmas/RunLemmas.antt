@@ -1,6 +1,6 @@
 -- Whole runs.
-use Rattle.std.proofs.Common.{◌≡◌, ℕ, Bool, true, false, ◌&&◌, ◌||◌, List, [], ◌∷◌, ◌++◌, take}
-use Rattle.std.proofs.Common.{Option, refl, sym, ap, ap₂, subst, ◌∙◌, append-nil, if◌then◌else◌}
+use Rattle.std.proofs.Common.{◌≡◌, ℕ, Bool, false, ◌&&◌, ◌||◌, List, [], ◌++◌, take}
+use Rattle.std.proofs.Common.{refl, sym, ap, ap₂, subst, ◌∙◌, append-nil, if◌then◌else◌}
 use Rattle.std.proofs.Common.{true≢false}
 use Rattle.std.specs.Io.KnownBytes.{Appends}
 use Rattle.std.specs.List.{list_all, list_any}
@@ -11,7 +11,7 @@ use Rattle.upath_commands.specs.Replies.{Answered, IsNew, State, Stopped}
 use Rattle.upath_commands.specs.Runs.{Broken, Done, Failed, command_yes, yes_of}
 use Rattle.upath_commands.specs.Sorting.{chosen, firsts_if, is_gathered, is_uniq}
 use Rattle.upath_commands.specs.Tasks.{TaskValue, answers, messages_of, output_of}
-use Rattle.upath_commands.proofs.lemmas.OutputLemmas.{Emits-finish, Emits-finish_fail, Tells-none}
+use Rattle.upath_commands.proofs.lemmas.OutputLemmas.{Emits-finish, Emits-finish_fail}
 use Rattle.upath_commands.proofs.lemmas.OutputLemmas.{Tells-then}
 use Rattle.upath_commands.proofs.lemmas.ReplyLemmas.{Answered-nil, Stopped-of, TellsPrefix-then}
 

@@ -1,9 +1,8 @@
 -- The reply to one path.
-use Rattle.std.proofs.Common.{◌≡◌, ℕ, Bool, true, false, ◌&&◌, ◌||◌, List, [], ◌∷◌, ◌++◌}
+use Rattle.std.proofs.Common.{◌≡◌, ℕ, Bool, true, false, ◌&&◌, ◌||◌, List, [], ◌∷◌}
 use Rattle.std.proofs.Common.{sym, ap, subst, ◌∙◌, append-nil, refl}
 use Rattle.upath_commands.specs.Commands.{text_for}
 use Rattle.upath_commands.specs.Outputs.{Emits, EmitsPrefix, Tells}
-use Rattle.upath_commands.specs.Refusals.{message_for}
 use Rattle.upath_commands.specs.Replies.{Answered, State, Stopped}
 use Rattle.upath_commands.specs.Tasks.{TaskValue, answers, message_of}
 use Rattle.upath_commands.proofs.lemmas.OutputLemmas.{EmitsPrefix-of}

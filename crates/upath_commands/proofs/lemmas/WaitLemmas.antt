@@ -1,5 +1,5 @@
 -- The write of pending answers before a read.
-use Rattle.std.proofs.Common.{◌≡◌, Bool, List, [], sym, ap, subst, ◌∙◌}
+use Rattle.std.proofs.Common.{◌≡◌, [], sym, subst, ◌∙◌}
 use Rattle.std.specs.Io.KnownBytes.{Appends}
 use Rattle.std.proofs.KnownBytes.{Appends-nil}
 use Rattle.upath_commands.specs.Outputs.{Emits, EmitsPrefix, Tells}

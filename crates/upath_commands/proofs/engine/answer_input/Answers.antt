@@ -1,4 +1,4 @@
-use Rattle.std.proofs.Common.{rules, arith, refl, ap, sym, ◌∙◌, take}
+use Rattle.std.proofs.Common.{rules, arith, refl, ap, ◌∙◌, take}
 use Rattle.std.proofs.lemmas.List.{take_rest}
 use Rattle.upath_commands.proofs.lemmas.BlockLemmas.{Reading-init, Reading-stop, Reading-wait, Reading-wait_fail}
 use Rattle.upath_commands.proofs.lemmas.BlockLemmas.{Reading-more, Reading-block, Reading-block_fail, Reading-end}

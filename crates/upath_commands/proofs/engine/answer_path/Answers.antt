@@ -1,6 +1,5 @@
-use Rattle.std.proofs.Common.{[], rules, sym, ap, ◌∙◌, append-nil}
 use Rattle.upath_commands.proofs.lemmas.OutputLemmas.{OnErr-of, Tells-none}
-use Rattle.upath_commands.proofs.lemmas.StepLemmas.{Answered-one, Stopped-said, Stopped-written}
+use Rattle.upath_commands.proofs.lemmas.StepLemmas.{Stopped-said, Stopped-written}
 use Rattle.upath_commands.proofs.engine.answer_path.Goals as goal
 
 pub returns-in_err-is_answered-clause-err : goal.returns-in_err-is_answered-clause-err

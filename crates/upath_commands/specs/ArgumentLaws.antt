@@ -1,0 +1,71 @@
+-- Laws of the meaning of arguments: the conventions of GNU's `getopt_long`, but for requests, which
+-- are the first argument or follow the command, and for `--`, after which nothing is read.
+use Rattle.std.specs.Prelude.{◌≡◌, ◌≢◌, ◌<◌, ◌⊎◌, ℕ, Bool, true, false, ◌==◌, not, List, [], ◌∷◌}
+use Rattle.std.specs.Prelude.{◌++◌, codes, length, Ok, None, Some, IsTrue}
+use Rattle.std.specs.List.{All, list_all, starts_with}
+use Rattle.std.specs.Option.{is_some}
+use Rattle.std.specs.Str.{byte}
+use Rattle.upath_commands.specs.declared.command.JoinRule.TheVariants.{Beneath}
+use Rattle.upath_commands.specs.Arguments.{first_word, meaning_of}
+use Rattle.upath_commands.specs.Invocations.{Canon, Each, Help, Join, SettingsValue}
+use Rattle.upath_commands.specs.Options.{request_by_word, verb_by_name}
+
+-- the argument doesn't begin with a dash
+abbrev pub is_plain : List ℕ → Bool
+is_plain argument = not (starts_with ◌==◌ argument (codes "-"))
+
+-- a dash and these letters
+abbrev pub short : List ℕ → List ℕ
+short letters = byte "-" ∷ letters
+
+-- settings with `null` only
+abbrev pub null_only : SettingsValue
+null_only = record { null = true; pair = false; quiet = false; or = None }
+
+-- after `-z` and `--`, exactly the arguments are paths, whatever their bytes are
+abbrev pub PathsAfterDashes : Type 0
+PathsAfterDashes = (paths : List (List ℕ))
+    → meaning_of (codes "canon" ∷ codes "-z" ∷ codes "--" ∷ paths)
+    ≡ Ok (Each Canon null_only (Some paths))
+
+-- so are those after ROOT and `--`
+abbrev pub PathsAfterRoot : Type 0
+PathsAfterRoot = (root : List ℕ) (paths : List (List ℕ)) → IsTrue (is_plain root)
+    → meaning_of (codes "join" ∷ codes "-z" ∷ codes "--beneath" ∷ root ∷ codes "--" ∷ paths)
+    ≡ Ok (Each (Join Beneath root) null_only (Some paths))
+
+-- `--help` as the first argument asks for help on what the next argument names, whatever follows
+abbrev pub HelpFirst : Type 0
+HelpFirst = (after : List (List ℕ))
+    → meaning_of (codes "--help" ∷ after) ≡ Ok (Help (first_word after))
+
+-- `--help` just after a command asks for help on it, whatever follows
+abbrev pub HelpAfterCommand : Type 0
+HelpAfterCommand = (name : List ℕ) (after : List (List ℕ)) → IsTrue (is_some (verb_by_name name))
+    → meaning_of (name ∷ codes "--help" ∷ after) ≡ Ok (Help name)
+
+-- a short option but `-h` means the same before and after arguments without dashes, the first of
+-- which isn't `help`, unless it parts the command from a request
+abbrev pub OptionsFollowOperands : Type 0
+OptionsFollowOperands = (letter : ℕ) (before after : List (List ℕ))
+    → IsTrue (list_all is_plain before) → first_word before ≢ codes "help"
+    → letter ≢ byte "-" → letter ≢ byte "h"
+    → (length before ≢ 1) ⊎ (request_by_word (first_word after) ≡ None)
+    → meaning_of (before ++ short (letter ∷ []) ∷ after)
+    ≡ meaning_of (short (letter ∷ []) ∷ before ++ after)
+
+-- short options mean the same joined and apart, but for `-h`, if the first ones are ASCII, so that
+-- no character is cut; the first of the arguments before them isn't `help`
+abbrev pub LettersJoin : Type 0
+LettersJoin = (a b : ℕ) (letters more : List ℕ) (before after : List (List ℕ))
+    → IsTrue (list_all is_plain before) → first_word before ≢ codes "help"
+    → a ≢ byte "-" → b ≢ byte "-"
+    → a ∷ letters ≢ codes "h" → b ∷ more ≢ codes "h" → All (λ b. b < 128) (a ∷ letters)
+    → meaning_of (before ++ short ((a ∷ letters) ++ b ∷ more) ∷ after)
+    ≡ meaning_of (before ++ short (a ∷ letters) ∷ short (b ∷ more) ∷ after)
+
+-- a value means the same as the next argument and after a `=`
+abbrev pub ValueAfterEqualsSign : Type 0
+ValueAfterEqualsSign = (dir : List ℕ) (after : List (List ℕ))
+    → meaning_of (codes "relative" ∷ codes "--from" ∷ dir ∷ after)
+    ≡ meaning_of (codes "relative" ∷ (codes "--from=" ++ dir) ∷ after)
