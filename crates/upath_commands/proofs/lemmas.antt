@@ -18,4 +18,5 @@ pub mod OperandLemmas
 pub mod ItemLemmas
 pub mod MeaningLemmas
 pub mod RequestLemmas
+pub mod LetterLemmas
 pub mod KeyLawLemmas

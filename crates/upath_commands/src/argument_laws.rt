@@ -1,5 +1,6 @@
 //! Laws of arguments: facts about their meaning, each available to a proof that calls it.
 ghost use Rattle.upath_commands.specs.ArgumentLaws.{HelpAfterCommand, HelpFirst, LettersJoin};
+ghost use Rattle.upath_commands.specs.ArgumentLaws.{LettersJoinInKind};
 ghost use Rattle.upath_commands.specs.ArgumentLaws.{OptionsFollowOperands, PathsAfterDashes};
 ghost use Rattle.upath_commands.specs.ArgumentLaws.{PathsAfterRoot, ValueAfterEqualsSign};
 
@@ -24,9 +25,10 @@ pub fn help_first()
     ensures { HelpFirst }
 {}
 
-/// `--help` just after a command asks for help on it, whatever follows.
+/// `--help` just after a command asks for help on it, whatever options precede the command, and
+/// whatever follows.
 ///
-/// `upath canon --help -x` asks for help on `canon`, although `-x` is no option.
+/// `upath -z canon --help -x` asks for help on `canon`, although `-x` is no option.
 pub fn help_after_command()
     ensures { HelpAfterCommand }
 {}
@@ -42,10 +44,12 @@ pub fn options_follow_operands()
 
 /// Short options mean the same joined in one argument and in two arguments.
 ///
-/// `upath canon -zp` means the same as `upath canon -z -p`. The request `-h` is left out. The first
-/// argument's letters are ASCII, since a message shows whole characters.
+/// `upath canon -zp` means the same as `upath canon -z -p`. The law leaves out the request `-h`. A
+/// message shows the whole character that is no option. So the letters of the first argument are
+/// ASCII (`whole`), or the kind of wrong usage is the same (`kind`).
 pub fn letters_join()
-    ensures { LettersJoin }
+    ensures whole { LettersJoin }
+    ensures kind { LettersJoinInKind }
 {}
 
 /// The value of `--from` means the same as an argument of its own and after a `=`.
