@@ -60,7 +60,7 @@ Examples:\n\
 \x20 a path for a request from outside, or a message:\n\
 \x20   upath join --beneath /srv -- \"$request\"\n\
 \x20 whether a path is at /srv or below it:\n\
-\x20   if upath under -q /srv -- \"$path\"; then echo yes; fi\n\
+\x20   if upath under -qz /srv -- \"$path\"; then echo yes; fi\n\
 \x20 a link in bin to lib/tool:\n\
 \x20   ln -s -- \"$(upath relative --from=bin lib/tool)\" bin/tool\n\
 \n\
