@@ -111,7 +111,8 @@ test:
 	@UNIX_PATH_FROM=$(FROM) tools/test
 
 bench: $(BUILD)/pathtool
-	@cd bench/calls && $(OVER) cargo run --release --offline --quiet -- \
+	@cd bench/calls && cargo build --release --offline --quiet && \
+		$(OVER) cargo run --release --offline --quiet -- \
 		$(foreach it,only reps,$(if $($(it)),$(call quoted,$(it)=$($(it)))))
 
 count: programs $(LIBRARIES)
