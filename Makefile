@@ -1,135 +1,139 @@
+# GNU make builds, installs and tests by these targets; `make help` lists them.
+#
 # The SHA-256 of asm/PROVED.txt, which tools/generate writes here.
 PROVED = 9ef17ee05ec7169d4306409852c1bb5fcba6f72f2e5e6f3951fd3e1c98a55acd
 PREFIX ?= /usr/local
 LIBDIR ?= $(PREFIX)/lib
 INCLUDEDIR ?= $(PREFIX)/include
 MANDIR ?= $(PREFIX)/share/man
-# rt proves and builds in crates/. If rt is missing, or UNIX_PATH_FROM is asm, the proved code of
-# asm/ is built in build/. UNIX_PATH_LIB names another archive; the other libraries are next to it.
+CFLAGS ?= -O2
+# What make builds is in BUILD. rt proves the sources first. If rt is missing, or UNIX_PATH_FROM is
+# asm, make builds the proved code of asm/TARGET instead.
+BUILD = build
+TARGET := $(shell uname -m)-$(shell uname -s | tr A-Z a-z)
 FROM := $(or $(UNIX_PATH_FROM),$(if $(shell command -v rt 2> /dev/null),rt,asm))
 ifeq ($(filter $(FROM),rt asm),)
 $(error UNIX_PATH_FROM is asm or rt, and not $(FROM))
 endif
-# The programs, each of which has a manual page.
-PROGRAMS := $(patsubst man/%.1,%,$(wildcard man/*.1))
-BUILT_PROGRAMS = $(foreach it,$(PROGRAMS),$(if $(filter asm,$(FROM)),build,crates/$(it)/out)/$(it))
-PROGRAM = $(filter %/pathtool,$(BUILT_PROGRAMS))
-UPATH = $(filter %/upath,$(BUILT_PROGRAMS))
-BUILT = $(if $(filter asm,$(FROM)),build,crates/unix_path_c/out)/libunix_path.a
-LIBRARIES = $(dir $(or $(UNIX_PATH_LIB),$(BUILT)))
-# Tools find the program and the archive by these variables.
-OVER = UNIX_PATH_PROGRAM='$(abspath $(PROGRAM))' UNIX_PATH_UPATH='$(abspath $(UPATH))' \
-	UNIX_PATH_LIB='$(abspath $(or $(UNIX_PATH_LIB),$(BUILT)))'
-INSTALL = PREFIX='$(PREFIX)' LIBDIR='$(LIBDIR)' INCLUDEDIR='$(INCLUDEDIR)' MANDIR='$(MANDIR)' \
-	DESTDIR='$(DESTDIR)' PROGRAMS='$(BUILT_PROGRAMS)' LIBRARIES='$(LIBRARIES)' tools/install
-JOBS = crates/path_jobs/out/path_jobs
-SOURCES := $(shell find crates.txt crates -name out -prune -o \
-	\( -name '*.rt' -o -name '*.antt' -o -name crates.txt \) -print)
 
-.PHONY: help run upath check test lib test-bindings install install_program install_library \
-	uninstall program_to_install library_to_install bench bench_tools count differential \
-	io-faults dist always
+# The programs, each of which has a manual page, and the libraries.
+PROGRAMS := $(patsubst man/%.1,$(BUILD)/%,$(wildcard man/*.1))
+VERSION := $(shell sed -n 's/^.define UNIX_PATH_VERSION "\(.*\)"/\1.0/p' include/unix_path.h)
+SONAME := libunix_path.so.$(firstword $(subst ., ,$(VERSION)))
+ARCHIVE := $(BUILD)/libunix_path.a
+SHARED := $(BUILD)/libunix_path.so.$(VERSION)
+LIBRARIES := $(ARCHIVE) $(SHARED)
+# Programs and libraries are linked with these flags, and then with LDFLAGS and, only programs, with
+# PROGRAM_LDFLAGS. In the shared library, each call's symbol has the version that added the call.
+HARDENED = -Wl,-z,relro -Wl,-z,now
+CALLS = crates/unix_path_c/calls.map
+SHARE = -shared -Wl,-soname,$(SONAME) -Wl,--version-script=$(CALLS) -Wl,-z,defs
+
+# Returns a value as one word of the shell.
+quoted = '$(subst ','\'',$1)'
+# Returns the settings of these variables, for the environment of a command.
+settings = $(foreach it,$1,$(it)=$(call quoted,$($(it))))
+# Prints a sentence, and fails.
+stop = { echo $(call quoted,$1) >&2; exit 1; }
+# The tests find what was built by these variables.
+UNIX_PATH_PROGRAM = $(abspath $(BUILD)/pathtool)
+UNIX_PATH_UPATH = $(abspath $(BUILD)/upath)
+UNIX_PATH_LIB = $(abspath $(ARCHIVE))
+OVER = $(call settings,UNIX_PATH_PROGRAM UNIX_PATH_UPATH UNIX_PATH_LIB)
+INSTALL = $(call settings,PREFIX LIBDIR INCLUDEDIR MANDIR DESTDIR BUILD) tools/install
+
+.DELETE_ON_ERROR:
+.PHONY: help run upath check test programs lib test-bindings install install_program \
+	install_library uninstall bench count differential io-faults dist digests checked always
 
 help:
+	@echo 'These targets need GNU make.'
+	@echo
 	@echo 'make run           runs pathtool on standard input. Proves and builds it first'
 	@echo 'make upath         builds upath and prints its path. Proves it first'
 	@echo 'make check         proves every crate, in about ten minutes; later only what changed'
 	@echo 'make test          the full test suite: every proof, test, mutant and vector, from scratch;'
-	@echo '                   about an hour; tools/gate_times.txt has its parts'
-	@echo 'make bench         times the calls and pathtool, compared with Rust. During other work,'
-	@echo '                   building both sides took 8 minutes, and timing them less than 12.'
-	@echo '                   Proves and builds first; needs rustc. bench/calls/run lists its'
-	@echo '                   options, for example  make bench only=parts,eq corpus=deep reps=15'
+	@echo '                   about an hour'
+	@echo 'make bench         times the calls of asm/ and pathtool, compared with Rust. Proves and'
+	@echo '                   builds pathtool first; needs cargo. For example'
+	@echo '                   make bench only=components,equal reps=15'
 	@echo 'make count         counts the instructions of the jobs, of pathtool and of the calls from'
 	@echo '                   C in half a minute, and compares them with bench/counts.txt.'
 	@echo '                   Proves and builds first; needs valgrind and cc'
 	@echo 'make differential  asks pathtool and Rust the same random lines, a million in a'
 	@echo '                   quarter of a minute. Proves and builds first; needs rustc. Prints its'
 	@echo '                   seed; for example  make differential lines=1000000 seed=20'
-	@echo 'make io-faults     runs pathtool with failing inputs and outputs, little memory and'
-	@echo '                   large inputs. Proves and builds it first'
+	@echo 'make io-faults     runs the programs with failing inputs and outputs, little memory and'
+	@echo '                   large inputs. Proves and builds them first'
 	@echo 'make lib           builds the libraries for C, an archive and a shared library, and'
 	@echo '                   prints the path. Proves them first'
-	@echo 'make test-bindings tests the calls from C and from Rust, and the examples with SQLite and'
-	@echo '                   etcd. Proves and builds the library first; needs cc, cargo for the'
-	@echo '                   calls from Rust, and for etcd pathtool, as make run builds it'
-	@echo 'make install       installs the program, its manual page, the libraries, their headers,'
-	@echo '                   their files for pkg-config and CMake, and the licences. Proves and'
-	@echo '                   builds first what was not proved from these sources; file times do'
-	@echo '                   not matter.'
-	@echo '                   install_program and install_library install one of the two, and'
-	@echo '                   make uninstall removes both. The directories are PREFIX (/usr/local),'
-	@echo '                   LIBDIR (PREFIX/lib), INCLUDEDIR (PREFIX/include) and MANDIR'
-	@echo '                   (PREFIX/share/man), all below DESTDIR, which no file contains'
+	@echo 'make test-bindings tests the calls from C, C++, Rust and Python, and the examples, two of'
+	@echo '                   them with SQLite and etcd. Proves and builds the libraries first; needs'
+	@echo '                   cc. What lacks another command is left out, and named'
+	@echo 'make install       installs pathtool and upath with their manual pages and completions,'
+	@echo '                   the libraries with their headers and files for pkg-config and CMake,'
+	@echo '                   and the licences. Proves and builds first what was not proved from'
+	@echo '                   these sources. install_program and install_library install one of the'
+	@echo '                   two, and make uninstall removes both. If an installation fails, it may'
+	@echo '                   be repeated'
 	@echo 'make dist          writes packages of the code in asm/ to dist/, in seconds. Needs'
 	@echo '                   Python 3.8 and gcc. tools/dist says more'
 	@echo
-	@echo 'A first proof of the program (run, bench, differential, io-faults, install_program)'
-	@echo 'takes four to seven minutes on four cores, and one of the library (lib, test-bindings,'
-	@echo 'install_library) a little less; bench, count and install may prove a few crates more.'
-	@echo 'After a change only its crate and the crates above it are proved again.'
+	@echo 'The directories are PREFIX (/usr/local), LIBDIR (PREFIX/lib), INCLUDEDIR (PREFIX/include)'
+	@echo 'and MANDIR (PREFIX/share/man), all below DESTDIR, which no file contains. CC, AR, CPPFLAGS,'
+	@echo 'CFLAGS and LDFLAGS have their usual meaning. Code that rt builds is only linked with them,'
+	@echo 'into the shared library.'
 	@echo
-	@echo 'Without rt, or if UNIX_PATH_FROM is asm, nothing is proved: run, lib, install, io-faults,'
-	@echo 'differential and test-bindings build the proved code of asm/ with cc, in a second, and'
-	@echo 'test leaves out what needs rt. Everything else needs rt, the command of the Rattle'
-	@echo 'toolchain, in one of these versions:'
+	@echo 'A first proof of pathtool takes 379 seconds or more on four cores, and one of the library a'
+	@echo 'little less. After a change only its crate and the crates above it are proved again.'
+	@echo
+	@echo 'Without rt, or if UNIX_PATH_FROM is asm, nothing is proved: run, upath, lib, install,'
+	@echo 'io-faults, differential and test-bindings build the proved code of asm/ with cc, in a'
+	@echo 'second, and test leaves out what needs rt. Everything else needs rt, the command of the'
+	@echo 'Rattle toolchain, in one of these versions:'
 	@sed 's/^/  /' rattle-toolchain
 
-# Proof progress goes to standard error, so that standard output has only the answers.
-crates/pathtool/out/pathtool crates/upath/out/upath: $(SOURCES)
-	@tools/build $(notdir $@) >&2
+run: $(BUILD)/pathtool
+	@$<
 
-build/pathtool: always
-	@tools/from_asm build
+upath: $(BUILD)/upath
+	@echo $<
 
-build/upath: build/pathtool
+programs: $(PROGRAMS)
 
-run: $(PROGRAM)
-	@$(PROGRAM)
-
-upath: $(UPATH)
-	@echo $(UPATH)
+lib: $(LIBRARIES)
+	@echo $<
 
 check:
 	@tools/prove
 
 test:
-	@tools/$(if $(filter asm,$(FROM)),test_without_rt,test)
+	@UNIX_PATH_FROM=$(FROM) tools/test
 
-# The options for bench/calls/run that were set.
-BENCH = $(foreach name,part only corpus reps folder,$(if $($(name)),'$(name)=$($(name))'))
+bench: $(BUILD)/pathtool
+	@cd bench/calls && $(OVER) cargo run --release --offline --quiet -- \
+		$(foreach it,only reps,$(if $($(it)),$(call quoted,$(it)=$($(it)))))
 
-bench_tools:
-	@bench/calls/run --tools
-
-bench: bench_tools $(if $(filter binding,$(part)),$(if $(UNIX_PATH_LIB),,lib),$(PROGRAM))
-	@$(OVER) bench/calls/run $(BENCH)
-
-$(JOBS): $(SOURCES)
-	@tools/build path_jobs >&2
-
-count: $(JOBS) $(PROGRAM) $(if $(UNIX_PATH_LIB),,lib)
+count: programs $(LIBRARIES)
+	@tools/prove --build path_jobs >&2
 	@$(OVER) tools/count
 
-differential: $(PROGRAM)
-	@$(OVER) tools/differential $(if $(lines),'lines=$(lines)') $(if $(seed),'seed=$(seed)')
+differential: $(BUILD)/pathtool
+	@$(OVER) LINES=$(call quoted,$(lines)) SEED=$(call quoted,$(seed)) tests/test_differential.py
 
-io-faults: $(PROGRAM)
-	@$(OVER) tools/io_faults
+io-faults: programs
+	@$(OVER) tests/test_faults.py
 
-lib:
-	@$(if $(filter asm,$(FROM)),tools/from_asm build && echo $(BUILT),tools/library)
+test-bindings: $(LIBRARIES)
+	@$(OVER) tests/test_bindings.py
 
-test-bindings: $(if $(UNIX_PATH_LIB),,lib)
-	@$(OVER) tools/test_bindings
-
-install: program_to_install library_to_install
+install: programs $(LIBRARIES)
 	@$(INSTALL) program library
 
-install_program: program_to_install
+install_program: programs
 	@$(INSTALL) program
 
-install_library: library_to_install
+install_library: $(LIBRARIES)
 	@$(INSTALL) library
 
 uninstall:
@@ -138,21 +142,65 @@ uninstall:
 dist:
 	@tools/dist
 
-# Everything that is installed was proved from the current sources. This is checked by the contents
-# of files, not by their times. What is built from asm/ is what was committed.
+# Refuses damaged files of asm/ and include/.
+AGAIN = is missing or damaged: get it again, or run tools/generate (--headers for a header)
+digests:
+	@[ "$$(sha256sum < asm/PROVED.txt)" = '$(PROVED)  -' ] || $(call stop,asm/PROVED.txt $(AGAIN))
+	@found=$$(sed -n '/^[0-9a-f]\{64\}  /p' asm/PROVED.txt | sha256sum -c 2> /dev/null) || \
+		{ echo "$$found" | sed -n 's|: FAILED.*| $(AGAIN)|p' >&2; exit 1; }
+
+# Says what is built from asm/, or why it can't be.
+TARGETS = $(patsubst asm/%/pathtool.s,%,$(wildcard asm/*/pathtool.s))
+checked: digests
+	@[ -f asm/$(TARGET)/pathtool.s ] || \
+		$(call stop,asm/ has code for $(TARGETS) and this is $(TARGET): build with rt here)
+	@command -v $(firstword $(CC)) > /dev/null || \
+		$(call stop,$(CC) is not on the path: install gcc or clang or name a compiler by CC)
+	@command -v $(AR) > /dev/null || $(call stop,$(AR) is not on the path: install binutils)
+	@echo 'building unix_path $(VERSION) from asm/: this code was proved when asm/ was generated,' \
+		'and nothing is proved here' >&2
+	@[ "$$(tools/asm_sources)" = "$$(sed -n 's/^sources //p' asm/PROVED.txt)" ] || \
+		echo 'the sources in crates/ are not those that asm/ was generated from' >&2
+
+# What is in BUILD depends on this text, which has the digests of asm/ and of the sources. The times
+# of other files don't matter.
+MADE_FROM = $(FROM) $(TARGET) $(if $(filter rt,$(FROM)),$(shell rt version),$(PROVED)) \
+	$(CC) $(AR) $(CPPFLAGS) $(CFLAGS) $(LDFLAGS) $(PROGRAM_LDFLAGS)
+$(BUILD)/made-from: always $(if $(filter asm,$(FROM)),checked)
+	@mkdir -p $(BUILD)
+	@sources=$$(tools/asm_sources) && echo "$$sources" $(call quoted,$(MADE_FROM)) > $@.$$$$ && \
+		{ cmp -s $@.$$$$ $@ || cp $@.$$$$ $@; } && rm $@.$$$$
+
 ifeq ($(FROM),asm)
-program_to_install: $(PROGRAM)
+$(BUILD)/unix_path.o: $(BUILD)/made-from
+	@$(CC) $(CFLAGS) -c asm/$(TARGET)/unix_path.s -o $@ || \
+		$(call stop,$(CC) can't assemble asm/: it needs GNU as 2.35 or later or clang)
 
-library_to_install: $(if $(UNIX_PATH_LIB),,$(PROGRAM))
-	@tools/from_asm check '$(LIBRARIES)'
+$(PROGRAMS): $(BUILD)/%: $(BUILD)/made-from
+	@$(CC) $(CPPFLAGS) $(CFLAGS) $(HARDENED) $(LDFLAGS) $(PROGRAM_LDFLAGS) asm/$(TARGET)/$*.s \
+		asm/support.c -o $@ || $(call stop,$(CC) can't build $*: it needs the C library's headers)
 else
-program_to_install:
-	@for program in $(PROGRAMS); do \
-		tools/stamps.py check $$program || tools/build $$program >&2; \
-		tools/stamps.py check $$program || exit; done
+# rt proves what has changed since the last proof. Its archive becomes one object, which exports
+# only the calls.
+PARTS = $(BUILD)/parts
+$(BUILD)/unix_path.o: $(BUILD)/made-from
+	@tools/prove --build unix_path_c >&2
+	@rm -rf $(PARTS) && mkdir $(PARTS)
+	@ar x --output $(PARTS) crates/unix_path_c/out/libunix_path_c.a
+	@ld -r -o $(PARTS)/whole $(PARTS)/*.o
+	@objcopy --wildcard --keep-global-symbol 'unix_path_*' $(PARTS)/whole $@
+	@rm -r $(PARTS)
 
-library_to_install:
-	@$(if $(UNIX_PATH_LIB),,tools/library > /dev/null)
-	@tools/stamps.py check unix_path_c $(LIBRARIES) || \
-		{ echo '$(LIBRARIES) was not built from these sources' >&2; exit 1; }
+$(PROGRAMS): $(BUILD)/%: $(BUILD)/made-from
+	@tools/prove --build $* >&2
+	@rm -f $@ && cp crates/$*/out/$* $@
 endif
+
+$(ARCHIVE): $(BUILD)/unix_path.o
+	@rm -f $@
+	@$(AR) rc $@ $<
+
+$(SHARED): $(BUILD)/unix_path.o $(CALLS)
+	@$(CC) $(CFLAGS) $(HARDENED) $(LDFLAGS) $(SHARE) $< -o $@
+	@ln -sf $(notdir $@) $(BUILD)/$(SONAME)
+	@ln -sf $(SONAME) $(BUILD)/libunix_path.so

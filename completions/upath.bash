@@ -1,40 +1,41 @@
-# Completion of upath for bash. Made by tools/upath_texts from tools/upath.txt.
+# Completion of upath for bash. It reads the commands and options from the program's help.
+
+# Prints the commands that the help text of the program lists.
+_upath_commands() {
+    command "$1" --help 2> /dev/null | sed -nE '/^Commands:/,/^$/s/^  ([a-z]+).*/\1/p'
+}
+
+# Prints the options that a help text lists.
+_upath_options() {
+    command "$@" --help 2> /dev/null | sed -nE 's/^ {2,6}(-[a-z])?(, )?(--[a-z-]+=?)?.*/\1 \3/p'
+}
+
 _upath() {
-    local word=${COMP_WORDS[COMP_CWORD]} before=${COMP_WORDS[COMP_CWORD-1]} it
-    local command= ended= options='-z -p -q --null --pair --quiet --line-buffered --help --version'
+    local word=${COMP_WORDS[COMP_CWORD]} it command='' value='' ended='' found
     for it in "${COMP_WORDS[@]:1:COMP_CWORD-1}"; do
-        case $it in
-            --) ended=1 ;;
-            -*) ;;
+        # Readline makes three words of `--from=DIR`.
+        case $ended:$value:$it in
+            *:?*:=) ;;
+            *:?*:*) value= ;;
+            ::--) ended=1 ;;
+            ::--from | ::--or) value=$it ;;
+            ::-*) ;;
             *) command=${command:-$it} ;;
         esac
     done
-    case $command in
-        parts) options+=' -b' ;;
-        join) options+=' --beneath --in-root --verbatim' ;;
-        relative) options+=' --from=' ;;
-        escapes) options+=' -v --reason' ;;
-        under) options+=' -v --strip --by-parts' ;;
-        sort) options+=' -u -r' ;;
-    esac
-    # Readline cuts an option at its `=`, which is a word of its own.
-    if [ "$word" = = ]; then
-        word=
-    elif [ "$before" = = ]; then
-        before=${COMP_WORDS[COMP_CWORD-2]}
-    fi
-    COMPREPLY=()
-    case $ended:$before:$word in
-        :--from:*) compopt -o dirnames ;;
-        :*:-*)
-            COMPREPLY=($(compgen -W "$options" -- "$word"))
-            [[ $COMPREPLY == *= ]] && compopt -o nospace
+    case $value:$ended:$word in
+        --from:*) compopt -o dirnames ;;
+        --or:*) ;;
+        ::-*)
+            found="$(_upath_options "$1") ${command:+$(_upath_options "$1" "$command")}"
+            mapfile -t COMPREPLY < <(compgen -W "$found" -- "$word")
+            [[ ${COMPREPLY[0]} == *= ]] && compopt -o nospace
             ;;
-        *)
+        ::* | :1:*)
             if [ -n "$command" ]; then
                 compopt -o default
             else
-                COMPREPLY=($(compgen -W 'canon resolve parent name stem ext parts join strip relative key unkey escapes under sort uniq equal' -- "$word"))
+                mapfile -t COMPREPLY < <(compgen -W "$(_upath_commands "$1")" -- "$word")
             fi
             ;;
     esac

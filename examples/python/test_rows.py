@@ -9,10 +9,10 @@ from ctypes import POINTER, c_bool, c_int32, c_size_t, c_uint64
 
 from unix_paths import _OUT, _PATH, _Part, _Span, _Walk, _call
 
-sys.path.append(f"{os.path.dirname(os.path.abspath(__file__))}/../../tools")
+sys.path.append(f"{os.path.dirname(os.path.abspath(__file__))}/../../tests")
 
-from call_rows import read_rows, spelled, spelled_row, unescaped
-from call_shapes import read_calls
+import tables
+from tables import spelled, spelled_row, unescaped
 
 ERRORS = {2**64 - 7: "!separator", 2**64 - 2: "!escapes", 2**64 - 4: "!nul_in_request",
           2**64 - 5: "!not_a_key", 2**64 - 6: "!no_end", 2**64 - 8: "!no_relative_path"}
@@ -39,7 +39,7 @@ def asked(name, *paths):
     """Returns the field for the number or truth value that a call returns. A hash is unsigned and
     written in hexadecimal."""
     answer = _call(name, TYPES[ANSWERS[name]], _PATH * len(paths))(*words(paths))
-    return [f"0x{answer:016x}" if ANSWERS[name] == "u64" else str(answer).lower()]
+    return [f"0x{answer:016x}" if ANSWERS[name] == "uint64_t" else str(answer).lower()]
 
 
 def order(name, a, b):
@@ -110,14 +110,14 @@ SHAPES = {
     "FIND": (1, found), "FIND_OF_TWO": (2, found), "ASK": (1, asked), "ASK_TWO": (2, asked),
     "MAKE": (1, written), "MAKE_OF_TWO": (2, written),
 }
-CALLS = {it.name: SHAPES[it.shape] for it in read_calls() if it.shape in SHAPES}
+CALLS = {name: SHAPES[shape] for name, (shape, _) in tables.calls().items() if shape in SHAPES}
 CALLS["compare"] = (2, order)
-TYPES = {"bool": c_bool, "i32": c_int32, "u64": c_uint64, "usize": c_size_t}
-ANSWERS = {it.name: it.answer for it in read_calls()}
+TYPES = {"bool": c_bool, "int32_t": c_int32, "uint64_t": c_uint64, "size_t": c_size_t}
+ANSWERS = {name: answer for name, (_, answer) in tables.calls().items()}
 
 
 def main():
-    rows, wrong = read_rows(), 0
+    rows, wrong = tables.rows(), 0
     for row in rows:
         count, ask = CALLS[row.call]
         paths = row.fields[:count]

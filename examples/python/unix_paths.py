@@ -18,7 +18,10 @@ import functools
 import os
 from ctypes import POINTER, c_bool, c_char_p, c_int32, c_size_t, c_uint32, c_uint64
 
-_library = ctypes.CDLL(os.environ.get("UNIX_PATH_SO", "libunix_path.so.1"))
+try:
+    _library = ctypes.CDLL(os.environ.get("UNIX_PATH_SO", "libunix_path.so.1"))
+except OSError as error:
+    raise OSError(f"{error} (UNIX_PATH_SO may name the library)") from error
 
 # Constants of include/unix_path.h. A length is at most PTRDIFF_MAX. The calls accept no null
 # pointer, and ctypes never passes one for a Python `bytes`.

@@ -13,7 +13,7 @@ typedef struct {
     bool has_item;
 } request;
 
-// commands.h, which tools/cases.py writes from tools/commands.txt, has a line for each command.
+// commands.h, which tests/tables.py writes from tests/commands.txt, has a line for each command.
 #define COMMAND(name, fewest, most) bool answer_##name(request *line);
 #include "commands.h"
 #undef COMMAND

@@ -203,7 +203,7 @@ static void list_chunks(view a, view b) {
     CHECK_ROW(past == SIZE_MAX && same_chunk(chunk, no_chunk));
 }
 
-// One macro for each shape of call, by the shapes of tools/call_shapes.py. It defines `ask_NAME`,
+// One macro for each shape of call, by the shapes of tools/calls. It defines `ask_NAME`,
 // which makes the call and adds its result. ../calls.inc uses it for each call of the shape.
 #define FIND(name)                                                                                 \
     static void ask_##name(view a, view b) {                                                       \

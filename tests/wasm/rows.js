@@ -29,11 +29,11 @@ function askFind(name, paths) {
     return span ? [paths[0].substr(span.start, span.length), [String(span.start)]] : [["!none"]];
 }
 
-// Returns the field for the number or truth value that a call returns, given its type in Rust. A
+// Returns the field for the number or truth value that a call returns, given its type in C. A
 // hash is written in hexadecimal.
 function ask(name, paths, type) {
     const answer = call(name, paths);
-    if (type === "u64") {
+    if (type === "uint64_t") {
         return [["0x" + answer.toString(16).padStart(16, "0")]];
     }
     check(type !== "bool" || answer === 0 || answer === 1, "a bool");

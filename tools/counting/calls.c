@@ -1,11 +1,9 @@
 /* Makes calls from C on paths, for tools/count, which counts their instructions.
  *
- * calls FILE
- *
- * The file consists of records. A record has four numbers of 32 bits: the length of the call's
- * name, the lengths of two paths, and whether a row ends with this record. Then come the name
- * without `unix_path_`, and both paths. A call with one path or a key gets the first. At the end of
- * a row `end_row` is called, so that callgrind writes its counts and starts counting again.
+ * Standard input consists of records. A record has four numbers of 32 bits: the lengths of the
+ * call's name and of two paths, and whether a row ends with this record. Then come the name without
+ * `unix_path_`, and both paths. A call with one path or a key gets the first. At the end of a row
+ * `end_row` is called, so that callgrind writes its counts and starts counting again.
  */
 #define UNIX_PATH_EXPORTS_ONLY
 #include "unix_path.h"
@@ -18,12 +16,12 @@ typedef struct {
     size_t length;
 } path;
 
-static uint8_t *out;
-static size_t out_length;
+enum { MOST = 1 << 16 };
+static uint8_t record[MOST], out[3 * MOST];
 
 #define A a.bytes, a.length
 #define B b.bytes, b.length
-#define OUT out, out_length
+#define OUT out, sizeof out
 
 /* Makes the call if it has this name. */
 #define CALL(name, ...)                                                                           \
@@ -62,43 +60,17 @@ __attribute__((noinline)) void end_row(void)
     __asm__ volatile("" ::: "memory");
 }
 
-/* Returns the bytes of a file, and sets their number; NULL if it can't be read. */
-static uint8_t *read_all(const char *name, size_t *length)
+int main(void)
 {
-    FILE *file = fopen(name, "rb");
-    if (file == NULL || fseek(file, 0, SEEK_END) != 0)
-        return NULL;
-    *length = (size_t)ftell(file);
-    rewind(file);
-    uint8_t *bytes = malloc(*length + 1);
-    return bytes != NULL && fread(bytes, 1, *length, file) == *length ? bytes : NULL;
-}
-
-/* Runs the record at this address. Returns where it ends; NULL if there is no such call. */
-static const uint8_t *run_record(const uint8_t *record)
-{
-    uint32_t head[4];
-    memcpy(head, record, sizeof head);
-    const uint8_t *name = record + sizeof head, *first = name + head[0], *second = first + head[1];
-    if (!make_call(name, head[0], (path){first, head[1]}, (path){second, head[2]}))
-        return NULL;
-    if (head[3])
-        end_row();
-    return second + head[2];
-}
-
-int main(int count, char **words)
-{
-    size_t length;
-    const uint8_t *records = count == 2 ? read_all(words[1], &length) : NULL;
-    out_length = records == NULL ? 0 : 3 * length;
-    out = calloc(1, out_length + 1);
-    if (records == NULL || out == NULL)
-        return EXIT_FAILURE;
-    for (const uint8_t *at = records; at < records + length;) {
-        at = run_record(at);
-        if (at == NULL)
+    for (uint32_t head[4]; fread(head, sizeof head, 1, stdin) == 1;) {
+        size_t length = (size_t)head[0] + head[1] + head[2];
+        if (length > MOST || fread(record, 1, length, stdin) != length)
             return EXIT_FAILURE;
+        const uint8_t *first = record + head[0], *second = first + head[1];
+        if (!make_call(record, head[0], (path){first, head[1]}, (path){second, head[2]}))
+            return EXIT_FAILURE;
+        if (head[3])
+            end_row();
     }
     return EXIT_SUCCESS;
 }

@@ -1,73 +1,152 @@
-"""Counts the instructions of the calls from C, each on the families of paths that suit it.
+"""The calls from C that tools/count counts, each on the families of paths that suit it.
+
+A family is a shape of paths: it makes two paths from a size, and lists the calls that are counted
+on it. A call with one path uses the first. A row is a call, a family and a size. A family is here
+because one of its rows is above the baseline, or because its calls take much of a job's time.
 
 calls.c makes the calls. It doesn't check their results, because tests check them.
 """
-import os
+import collections
 import re
-import shlex
-import shutil
 import struct
-import subprocess
-import sys
-import tempfile
 
-import call_shapes
-from counting import families
-from counting.callgrind import counts
-from repository import ROOT
+# A row: its name, the call, and the pairs of paths whose instructions are added up.
+Row = collections.namedtuple("Row", "name call pairs")
 
+# The sizes around each size of a block that the library reads at once, and one size far above.
+EDGES = {16: (15, 16, 17), 32: (31, 32, 33), 64: (63, 64, 65), 4000: (4000,)}
+SHORT = {16: EDGES[16]}
+DEPTHS = {depth: (depth,) for depth in (0, 1, 4)}
+SCORES = {20: (20,), 4000: (4000,)}
 
-def compiler():
-    """Returns the command of the C compiler, as words; None if it doesn't exist."""
-    words = shlex.split(os.environ.get("CC") or "cc")
-    return words if shutil.which(words[0]) else None
+FOLDERS = b"usr/share/doc/packages/lib/main/www/static/img/include/"
 
 
-def read_calls(checkout):
-    """Returns the names of the calls that the header of a checkout declares."""
-    with open(f"{checkout}/include/unix_path.h", encoding="utf-8") as file:
-        return set(re.findall(r"^\w+ unix_path_(\w+)\(const", file.read(), re.M))
+def plain(size):
+    """Returns this many bytes of components that are names, without a root."""
+    path = (FOLDERS * (size // len(FOLDERS) + 1))[:size]
+    return path[:-1] + b"x" if path.endswith(b"/") else path
+
+
+def name(size):
+    """Returns one name of this many bytes, or no name for less than one."""
+    return b"n" * max(size, 0)
+
+
+def cut(size, repeated):
+    """Returns about this many bytes: as many whole repetitions as fit, and at least one."""
+    return repeated * max(size // len(repeated), 1)
+
+
+def respelled_once(path):
+    """Returns the path with another spelling of the first slash in its second half or, if there is
+    none, of its first slash."""
+    at = path.find(b"/", len(path) // 2)
+    at = path.find(b"/") if at < 0 else at
+    return path[:at] + b"/." + path[at:]
+
+
+# Families of pairs: the function that makes both paths from a size, the sizes, and the calls.
+TWO = "equal compare starts_with ends_with strip_prefix"
+PAIRS = [
+    ("same", lambda n: (plain(n), plain(n)), EDGES, TWO),
+    ("next_listed", lambda n: (plain(n - 4) + b"-007", plain(n - 4) + b"-008"), EDGES,
+     f"{TWO} common_dir relative_path"),
+    ("respelled_once", lambda n: (plain(n), respelled_once(plain(n))), EDGES, TWO),
+    ("respelled_each", lambda n: (plain(n), plain(n).replace(b"/", b"/./")), EDGES,
+     f"{TWO} relative_path"),
+    ("ups_respelled", lambda n: (cut(n, b"../"), cut(n, b".././")), EDGES, TWO),
+    ("folder_above", lambda n: (plain(n), plain(n).rpartition(b"/")[0]), EDGES,
+     "relative_path equal starts_with strip_prefix compare"),
+    ("up_or_name", lambda n: (b"../" * n + b"a/x", b"../" * n + b"../x"), DEPTHS,
+     "compare equal"),
+    ("last_name_below", lambda n: (plain(n - 8) + b"/main.rs", b"src/main.rs"), EDGES,
+     "ends_with"),
+    ("other_last_names", lambda n: (plain(n - 10) + b"/conf.json", plain(n - 9) + b"/app.json"),
+     EDGES, "ends_with"),
+    ("tail_dots", lambda n: (b"a" + b"/." * n, b"a"), SCORES, TWO),
+]
+
+# Families of paths, and of a path with its other arguments.
+FORMS = "canonical resolved"
+PLACES = "parent file_name file_stem extension file_prefix"
+TEXTS = "is_utf8 to_string_lossy next_chunk"
+PATHS = [
+    ("plain", lambda n: (plain(n), b"new.rs"), EDGES,
+     f"is_canonical {FORMS} {PLACES} {TEXTS} components next next_back as_path next_ancestor hash "
+     "join with_file_name key"),
+    ("plain", lambda n: (plain(n), b"rs"), EDGES, "with_extension with_added_extension"),
+    ("rooted", lambda n: (b"/" + plain(n - 1), b""), EDGES,
+     f"is_absolute is_canonical {FORMS} key"),
+    ("dotted_name", lambda n: (plain(n - 8) + b"/a.tar.gz", b"rs"), EDGES,
+     "file_stem extension file_prefix with_extension"),
+    ("broken_text", lambda n: (cut(n, b"caf\xe9/"), b""), EDGES, TEXTS),
+    ("accents", lambda n: (cut(n, b"caf\xc3\xa9/"), b""), EDGES, TEXTS),
+    ("gap_first", lambda n: (b"a//" + plain(n - 3), b""), EDGES, FORMS),
+    ("gap_each", lambda n: (cut(n, b"a/./"), b""), EDGES,
+     f"{FORMS} next next_back next_ancestor hash parent key"),
+    ("gap_each_name", lambda n: (plain(n).replace(b"/", b"/./"), b""), EDGES, FORMS),
+    ("name_before_gap", lambda n: (name(n - 3) + b"/./a", b""), EDGES, FORMS),
+    ("name_behind_gap", lambda n: (b"a//" + name(n - 3), b""), EDGES, FORMS),
+    ("double_slashes", lambda n: (cut(n, b"abcdefghijklmnop//"), b""), EDGES, f"{FORMS} key"),
+    ("tail_dots", lambda n: (b"a" + b"/." * n, b"b"), SCORES,
+     f"{FORMS} parent file_name components as_path with_file_name"),
+    ("comes_down", lambda n: (cut(n, b"a/../"), b""), EDGES, "resolved"),
+    ("up_late", lambda n: (plain(n - 5) + b"/../x", b""), EDGES, "resolved"),
+    ("ups", lambda n: (cut(n, b"../"), b""), EDGES, "key"),
+    ("key_rooted", lambda n: (b"\0\1" + plain(n).replace(b"/", b"\0") + b"\0", b""), EDGES,
+     "from_key"),
+]
+
+# Families of keys.
+KEYS = [
+    ("key_plain", lambda n: plain(n).replace(b"/", b"\0") + b"\0", EDGES),
+    ("key_ups", lambda n: cut(n, b"\0\3"), EDGES),
+]
+
+# Families of requests, for `escapes`, `check_request` and the joins with a root.
+REQUESTS = [
+    ("plain", plain, EDGES),
+    ("slash_end", lambda n: plain(n - 1) + b"/", EDGES),
+    ("escapes_late", lambda n: name(n - 6) + b"/../..", EDGES),
+    ("escapes_first", lambda n: b"../" + plain(n - 3), SHORT),
+    ("comes_down", lambda n: cut(n, b"a/../"), EDGES),
+    ("name_comes_down", lambda n: name(n - 5) + b"/../a", EDGES),
+    ("double_slashes", lambda n: cut(n, b"abcdefghijklmnop//"), EDGES),
+    ("gap_each", lambda n: cut(n, b"a/./"), EDGES),
+    ("leading_dot", lambda n: b"./" + plain(n - 2), EDGES),
+]
+SERVED = b"/srv/www"
+
+
+def families():
+    """Yields each family: its name, the function that makes its paths, its sizes, and the calls."""
+    yield from PAIRS + PATHS
+    for title, make, sizes in REQUESTS:
+        yield title, lambda n, make=make: (make(n), b""), sizes, "escapes check_request"
+        yield title, lambda n, make=make: (SERVED, make(n)), sizes, "join_verbatim join_beneath"
+    yield "rooted", lambda n: (SERVED, b"/" + plain(n - 1)), EDGES, "join_in_root"
+    for title, make, sizes in KEYS:
+        yield title, lambda n, make=make: (make(n), b""), sizes, "from_key key_range_end"
 
 
 def rows_of(checkout):
-    """Returns the rows of the calls from C that a checkout has. A call that no longer exists here
-    has no row."""
-    shapes = {it.name: it.shape for it in call_shapes.read_calls()}
-    rows = families.rows(read_calls(checkout), shapes)
-    lacking = read_calls(checkout) & read_calls(ROOT) - {row.call for row in rows}
-    if lacking:
-        sys.exit(f"no family of tools/counting/families.py has these calls: {', '.join(lacking)}")
-    return rows
+    """Returns the rows of the calls from C that the header of a checkout declares, family by
+    family. A call that no family lists is counted on plain paths."""
+    with open(f"{checkout}/include/unix_path.h", encoding="utf-8") as file:
+        calls = set(re.findall(r"^\w+ unix_path_(\w+)\(const", file.read(), re.M))
+    found = [*families()]
+    others = calls.difference(*(named.split() for *_, named in found))
+    found.append(("plain", lambda n: (plain(n), b"new.rs"), EDGES, " ".join(sorted(others))))
+    return [Row(f"{call} {title} {size}", call, [make(length) for length in lengths])
+            for title, make, sizes, named in found for call in named.split() if call in calls
+            for size, lengths in sizes.items()]
 
 
-def records_of(rows):
+def records_of(asked):
     """Yields the input of calls.c: the calls of these rows, with the paths of each."""
-    for row in rows:
+    for row in asked:
         for number, (first, second) in enumerate(row.pairs, 1):
             yield struct.pack("<4I", len(row.call), len(first), len(second),
                               number == len(row.pairs))
             yield row.call.encode() + first + second
-
-
-def build_calls(checkout, library, program):
-    """Builds calls.c with the library. In a checkout that lacks a call, the other calls are
-    counted."""
-    linked = [] if checkout == ROOT else ["-Wl,--unresolved-symbols=ignore-all"]
-    subprocess.run([*compiler(), "-std=c11", "-O2", f"-I{ROOT}/include",
-                    f"{ROOT}/tools/counting/calls.c", library, *linked, "-o", program], check=True)
-
-
-def count_calls(checkout, library):
-    """Returns the rows of the calls from C."""
-    rows = rows_of(checkout)
-    # Only the instructions inside the calls count, not those of the program around them.
-    options = [f"--toggle-collect=unix_path_{it}" for it in sorted({row.call for row in rows})]
-    with tempfile.TemporaryDirectory() as folder:
-        program = f"{folder}/calls"
-        build_calls(checkout, library, program)
-        with open(f"{folder}/records", "wb") as file:
-            file.writelines(records_of(rows))
-        found = counts(program, ["records"], options=[*options, "--dump-after=end_row"])
-    if len(found) != len(rows) + 1:
-        sys.exit(f"{len(rows)} rows of calls from C were asked for, and {len(found) - 1} counted")
-    return {row.name: count for row, count in zip(rows, found)}

@@ -2,10 +2,13 @@
 
 The generator of random numbers is defined here, so that the lines are the same with every Python.
 """
-import re
+import sys
 
-from command_rows import read_rows
 from repository import ROOT
+
+sys.path.append(f"{ROOT}/tests")
+
+from tables import commands
 
 LINES = 300
 FOLDERS = b"usr share doc lib main www static img include .git node_modules src build".split()
@@ -42,12 +45,6 @@ class Lines:
         start = b"/" if self.below(2) else b""
         return self.respelled(start + b"/".join([*parts, self.one_of(NAMES)]))
 
-    def one_path(self):
-        return [self.path()]
-
-    def joined(self):
-        return [self.path(), self.path()]
-
     def with_base(self):
         """Returns a path and a prefix of it; or, one time in three, another path."""
         path = self.path()
@@ -66,16 +63,10 @@ class Lines:
         others = [path[:path.rfind(b"/") + 1] + self.one_of(NAMES), path, self.path()]
         return [path, self.respelled(self.one_of(others))]
 
-    def walked(self):
-        return [self.path(), bytes(self.one_of(b"fb") for _ in range(self.below(10)))]
-
     def edit(self):
         names = self.one_of([b"name:", b"push:"]) + self.one_of(NAMES)
         extensions = self.one_of([b"ext:", b"add:"]) + self.one_of([b"rs", b"tar", b"", b"a/b"])
         return self.one_of([b"pop", b"clear", names, extensions, b"push:" + self.path()])
-
-    def edited(self):
-        return [self.path(), *(self.edit() for _ in range(self.below(9)))]
 
     def under(self):
         """Returns a base and some paths, many of which start with it."""
@@ -85,22 +76,21 @@ class Lines:
 
 
 # The functions that make the fields of a line, by the fields after the first one in
-# tools/commands.txt.
-FIELDS = {"": Lines.one_path, "B": Lines.joined, "BASE": Lines.with_base, "END": Lines.with_end,
-          "Q": Lines.compared, "TURNS": Lines.walked, "EDIT..": Lines.edited, "P..": Lines.under}
+# tests/commands.txt.
+FIELDS = {"": lambda it: [it.path()], "B": lambda it: [it.path(), it.path()],
+          "BASE": Lines.with_base, "END": Lines.with_end, "Q": Lines.compared,
+          "TURNS": lambda it: [it.path(),
+                               bytes(it.one_of(b"fb") for _ in range(it.below(10)))],
+          "EDIT..": lambda it: [it.path(), *(it.edit() for _ in range(it.below(9)))],
+          "P..": Lines.under}
 
 
-def read_commands():
-    """Returns the names of the commands, as the program's definition lists them, and a name that is
-    none."""
-    with open(f"{ROOT}/crates/pathtool/specs/Answers.antt", encoding="utf-8") as file:
-        return re.findall(r'^    (?:∷ )?\(\s*codes "(\w+)",\s', file.read(), re.M) + ["other"]
-
-
-def lines_of(command, seed):
-    """Returns the lines of a command, as bytes. A command that the table lacks gets one path in
-    each line."""
-    behind = {row.name: row.behind for row in read_rows()}.get(command, "")
-    lines = Lines(seed)
-    return b"".join(b"\t".join([command.encode(), *FIELDS[behind](lines)]) + b"\n"
-                    for _ in range(LINES))
+def all_lines(seed):
+    """Returns the lines of each command, and of a name that is no command, as bytes by name."""
+    rests = {**{row.name: row.rest for row in commands()}, "other": ""}
+    found = {}
+    for name, rest in rests.items():
+        lines = Lines(seed)
+        found[name] = b"".join(b"\t".join([name.encode(), *FIELDS[rest](lines)]) + b"\n"
+                               for _ in range(LINES))
+    return found

@@ -1,6 +1,6 @@
 //! The commands of `pathtool`, from the table that the other tools also read.
 
-const TABLE: &str = include_str!("../../../tools/commands.txt");
+const TABLE: &str = include_str!("../../../tests/commands.txt");
 
 /// A command of the program.
 pub struct Command {

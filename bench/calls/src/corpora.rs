@@ -15,18 +15,28 @@ pub enum Other {
     /// The path's components up to the middle.
     Front,
     /// The path's components from the middle on.
-    Behind,
+    Back,
     Name,
     Extension,
 }
 
-/// A name and its paths.
+/// The paths of a corpus, and whether all of its texts are invalid UTF-8.
 pub struct Corpus {
     pub name: &'static str,
     pub paths: Vec<Vec<u8>>,
+    pub is_broken: bool,
 }
 
 impl Corpus {
+    pub fn new(name: &'static str, paths: Vec<Vec<u8>>) -> Corpus {
+        let is_broken = false;
+        Corpus {
+            name,
+            paths,
+            is_broken,
+        }
+    }
+
     /// Returns the second argument for each path.
     pub fn others(&self, other: Other) -> Vec<Vec<u8>> {
         let mut random = Random(77);
@@ -39,28 +49,30 @@ impl Corpus {
                 others.rotate_left(1);
                 others
             }
-            Other::Respelled => paths.map(|path| other_spelling(path, &mut random)).collect(),
+            Other::Respelled => paths
+                .map(|path| other_spelling(path, &mut random))
+                .collect(),
             Other::Front => paths.map(|path| at_middle(path).0.to_vec()).collect(),
-            Other::Behind => paths.map(|path| at_middle(path).1.to_vec()).collect(),
+            Other::Back => paths.map(|path| at_middle(path).1.to_vec()).collect(),
             Other::Name => paths.map(|_| b"docs/notes.txt".to_vec()).collect(),
             Other::Extension => paths.map(|_| b"orig".to_vec()).collect(),
         }
     }
-}
 
-/// Cuts the list of paths into slices of about the same number of bytes. Returns the indices of
-/// each slice.
-pub fn slices(paths: &[Vec<u8>]) -> Vec<Range<usize>> {
-    let mut slices = vec![];
-    let (mut start, mut bytes) = (0, 0);
-    for (at, path) in paths.iter().enumerate() {
-        bytes += path.len();
-        if bytes >= SLICE || at + 1 == paths.len() {
-            slices.push(start..at + 1);
-            (start, bytes) = (at + 1, 0);
+    /// Cuts the list of paths into slices of about the same number of bytes. Returns the indices of
+    /// each slice.
+    pub fn slices(&self) -> Vec<Range<usize>> {
+        let mut slices = vec![];
+        let (mut start, mut bytes) = (0, 0);
+        for (at, path) in self.paths.iter().enumerate() {
+            bytes += path.len();
+            if bytes >= SLICE || at + 1 == self.paths.len() {
+                slices.push(start..at + 1);
+                (start, bytes) = (at + 1, 0);
+            }
         }
+        slices
     }
-    slices
 }
 
 /// Returns all four corpora.
@@ -74,7 +86,7 @@ pub fn corpora() -> Vec<Corpus> {
         ("non_utf8", non_utf8),
     ]
     .into_iter()
-    .map(|(name, paths)| Corpus { name, paths })
+    .map(|(name, paths)| Corpus::new(name, paths))
     .collect()
 }
 
@@ -166,10 +178,10 @@ fn adversarial() -> Vec<Vec<u8>> {
     let mut paths = vec![];
     for piece in PIECES {
         for len in [1, 4, 17, 65, 257, 1_000, 4_000, 10_000, 100_000] {
-            for (front, behind) in &ENDS[..if len > 10_000 { 1 } else { ENDS.len() }] {
+            for (front, back) in &ENDS[..if len > 10_000 { 1 } else { ENDS.len() }] {
                 let mut path = front.as_bytes().to_vec();
                 path.extend(piece.bytes().cycle().take(len));
-                path.extend_from_slice(behind.as_bytes());
+                path.extend_from_slice(back.as_bytes());
                 paths.push(path);
             }
         }

@@ -1,126 +1,252 @@
-//! The rows of the table: a call on both sides, and its second argument.
-use crate::calls::{Call, OfOne, OfTwo};
+//! The rows of the table: what each side does with a path and a second argument.
 use crate::corpora::Other;
-use crate::ours::*;
-use crate::std_calls as std;
-use crate::std_within;
+use std::ffi::OsStr;
+use std::hash::{DefaultHasher, Hash, Hasher};
+use std::os::unix::ffi::OsStrExt;
+use std::path::{Component, Path, PathBuf};
+use unix_path_rattle::{self as paths, edits, owned, Error};
+
+/// A call as one side makes it. The number that it returns is a digest of its result.
+pub type Side = fn(&[u8], &[u8]) -> u64;
 
 /// A call on both sides.
 pub struct Row {
     pub name: &'static str,
-    pub ours: Call,
-    pub std: Call,
     pub other: Other,
+    pub ours: Side,
+    pub std: Side,
 }
 
-impl Row {
-    /// Returns true if the row times a sort that uses the call, instead of single calls.
-    pub fn is_sort(&self) -> bool {
-        self.name == "sort"
-    }
-}
-
-/// Returns a row of a call with only a path.
-fn one(name: &'static str, ours: OfOne, std: OfOne) -> Row {
-    let (ours, std, other) = (Call::One(ours), Call::One(std), Other::Nothing);
+const fn row(name: &'static str, other: Other, ours: Side, std: Side) -> Row {
     Row {
         name,
+        other,
         ours,
         std,
-        other,
     }
 }
 
-/// Returns a row of a call with a path and a second argument.
-fn two(name: &'static str, ours: OfTwo, std: OfTwo, other: Other) -> Row {
-    let (ours, std) = (Call::Two(ours), Call::Two(std));
-    Row {
-        name,
-        ours,
-        std,
-        other,
+/// Returns the digest of some bytes, computed from their length, first byte and last byte.
+pub fn digest(bytes: &[u8]) -> u64 {
+    let (Some(first), Some(last)) = (bytes.first(), bytes.last()) else {
+        return 0;
+    };
+    let ends = u64::from(*first) * 256 + u64::from(*last);
+    (bytes.len() as u64).wrapping_mul(65_599).wrapping_add(ends)
+}
+
+/// Returns the bytes as a path of std.
+pub fn std_path(bytes: &[u8]) -> &Path {
+    Path::new(OsStr::from_bytes(bytes))
+}
+
+/// Returns the digest of a `Path`, a `PathBuf` or an `OsStr`.
+fn of(path: impl AsRef<OsStr>) -> u64 {
+    digest(path.as_ref().as_bytes())
+}
+
+/// Returns the digest of a result, or `u64::MAX` if there is none.
+fn some(found: Option<&[u8]>) -> u64 {
+    found.map_or(u64::MAX, digest)
+}
+
+/// Returns the same for a result of std.
+fn some_of<T: AsRef<OsStr>>(found: Option<T>) -> u64 {
+    found.map_or(u64::MAX, of)
+}
+
+/// Returns the digest of a new path, or `u64::MAX` for an error.
+fn made(path: Result<Vec<u8>, Error>) -> u64 {
+    path.map_or(u64::MAX, |path| digest(&path))
+}
+
+/// Returns a digest of several results.
+fn all<'a>(items: impl Iterator<Item = &'a [u8]>) -> u64 {
+    items.fold(0, |sum: u64, item| {
+        sum.wrapping_mul(31).wrapping_add(digest(item))
+    })
+}
+
+fn bytes_of<'a>(part: Component<'a>) -> &'a [u8] {
+    part.as_os_str().as_bytes()
+}
+
+/// Takes items from both ends, alternating. Returns a digest of them.
+fn both_ends<'a, I: Iterator<Item = &'a [u8]> + DoubleEndedIterator>(mut left: I) -> u64 {
+    let mut sum = 0_u64;
+    while let Some(first) = left.next() {
+        let last = left.next_back().map_or(0, digest);
+        sum = sum.wrapping_mul(31).wrapping_add(digest(first) ^ last);
     }
+    sum
 }
 
-/// Returns every row, in the order of the table.
-pub fn rows() -> Vec<Row> {
-    [walks(), queries(), comparisons(), edits(), texts()]
-        .into_iter()
-        .flatten()
-        .collect()
+fn canonical(path: &[u8]) -> PathBuf {
+    std_path(path).components().collect()
 }
 
-/// Returns the rows of walks over components.
-fn walks() -> Vec<Row> {
-    vec![
-        one("parts", ours_parts, std::parts),
-        one("parts from behind", ours_parts_behind, std::parts_behind),
-        one("parts from both ends", ours_parts_both, std::parts_both),
-        one("as_path after a next", ours_as_path, std::as_path),
-        one("ancestors", ours_ancestors, std::ancestors),
-    ]
+/// Resolves a path, for which std has no call: a name is pushed, and `..` pops a name, is dropped
+/// after the root, or stays if there is nothing to pop.
+fn resolved(path: &[u8]) -> PathBuf {
+    let mut kept = PathBuf::with_capacity(path.len());
+    for part in std_path(path).components() {
+        match (part, kept.components().next_back()) {
+            (Component::CurDir, _) | (Component::ParentDir, Some(Component::RootDir)) => {}
+            (Component::ParentDir, Some(Component::Normal(_))) => {
+                kept.pop();
+            }
+            (part, _) => kept.push(part),
+        }
+    }
+    kept
 }
 
-/// Returns the rows of questions about a path.
-fn queries() -> Vec<Row> {
-    let (front, behind) = (Other::Front, Other::Behind);
-    vec![
-        one("parent", ours_parent, std::parent),
-        one("file_name", ours_file_name, std::file_name),
-        one("file_stem", ours_file_stem, std::file_stem),
-        one("extension", ours_extension, std::extension),
-        one("file_prefix", ours_file_prefix, std::file_prefix),
-        two("starts_with", ours_starts_with, std::starts_with, front),
-        two("ends_with", ours_ends_with, std::ends_with, behind),
-        two("strip_prefix", ours_strip_prefix, std::strip_prefix, front),
-    ]
+/// Pushes the other path onto a copy of the path and pops, four times.
+fn push_pop(path: &[u8], other: &[u8]) -> u64 {
+    let mut edited = path.to_vec();
+    (0..4).fold(0_u64, |sum, _| {
+        let pushed = edits::push(&mut edited, other).map_or(0, |()| digest(&edited));
+        let popped = u64::from(edits::pop(&mut edited));
+        sum.wrapping_mul(31)
+            .wrapping_add(pushed ^ popped ^ digest(&edited))
+    })
 }
 
-/// Returns the rows of equality, order and hash.
-fn comparisons() -> Vec<Row> {
-    vec![
-        two("eq same", ours_eq, std::eq, Other::Same),
-        two("eq next", ours_eq, std::eq, Other::Next),
-        two("eq respelled", ours_eq, std::eq, Other::Respelled),
-        two("cmp same", ours_cmp, std::cmp, Other::Same),
-        two("cmp next", ours_cmp, std::cmp, Other::Next),
-        two("cmp respelled", ours_cmp, std::cmp, Other::Respelled),
-        two("sort", ours_cmp, std::cmp, Other::Nothing),
-        one("hash, cheap", ours_hash_cheap, std::hash_cheap),
-        one("hash, SipHash", ours_hash_sip, std::hash_sip),
-    ]
+/// The same over std.
+fn std_push_pop(path: &[u8], other: &[u8]) -> u64 {
+    let mut edited = std_path(path).to_path_buf();
+    (0..4).fold(0_u64, |sum, _| {
+        edited.push(std_path(other));
+        let pushed = of(&edited);
+        let popped = u64::from(edited.pop());
+        sum.wrapping_mul(31)
+            .wrapping_add(pushed ^ popped ^ of(&edited))
+    })
 }
 
-/// Returns the rows of edits and copies.
+/// Sets the extension of a copy of the path.
+fn set_extension(path: &[u8], extension: &[u8]) -> u64 {
+    let mut edited = path.to_vec();
+    let is_set = edits::set_extension(&mut edited, extension);
+    digest(&edited) ^ u64::from(is_set == Ok(true))
+}
+
+/// The same over std.
+fn std_set_extension(path: &[u8], extension: &[u8]) -> u64 {
+    let mut edited = std_path(path).to_path_buf();
+    let is_set = edited.set_extension(OsStr::from_bytes(extension));
+    of(&edited) ^ u64::from(is_set)
+}
+
+fn key_and_back(path: &[u8]) -> u64 {
+    made(owned::key(path).and_then(|key| owned::from_key(&key)))
+}
+
+fn sip_hash(path: &[u8]) -> u64 {
+    let mut hasher = DefaultHasher::new();
+    std_path(path).hash(&mut hasher);
+    hasher.finish()
+}
+
+fn equal(path: &[u8], other: &[u8]) -> u64 {
+    paths::equal(path, other).into()
+}
+
+fn std_equal(path: &[u8], other: &[u8]) -> u64 {
+    (std_path(path) == std_path(other)).into()
+}
+
+fn compare(path: &[u8], other: &[u8]) -> u64 {
+    paths::compare(path, other) as u64
+}
+
+fn std_compare(path: &[u8], other: &[u8]) -> u64 {
+    std_path(path).cmp(std_path(other)) as u64
+}
+
+/// Returns a digest of the lengths of chunks, each with its invalid bytes.
+fn lengths(chunks: impl Iterator<Item = (usize, usize)>) -> u64 {
+    chunks.fold(0, |sum: u64, (valid, invalid)| {
+        sum.wrapping_mul(31)
+            .wrapping_add((valid + invalid * 7) as u64)
+    })
+}
+
+/// Every row, in the order of the table.
 #[rustfmt::skip]
-fn edits() -> Vec<Row> {
-    vec![
-        two("join", ours_join, std::join, Other::Name),
-        two("with_file_name", ours_with_file_name, std::with_file_name, Other::Name),
-        two("with_extension", ours_with_extension, std::with_extension, Other::Extension),
-        two("set_extension", ours_set_extension, std::set_extension, Other::Extension),
-        two(
-            "with_added_extension",
-            ours_with_added_extension,
-            std::with_added_extension,
-            Other::Extension,
-        ),
-        two("add_extension", ours_add_extension, std::add_extension, Other::Extension),
-        two("push and pop", ours_push_pop, std::push_pop, Other::Name),
-        one("canonical", ours_canonical, std::canonical),
-        one("resolved", ours_resolved, std_within::resolved),
-        // Rust has no keys: both sides make the canonical form.
-        one("key and back", ours_key_and_back, std::canonical),
-    ]
-}
+pub const ROWS: &[Row] = &[
+    row("components", Other::Nothing,
+        |path, _| all(paths::components(path).map(|it| it.as_bytes())),
+        |path, _| all(std_path(path).components().map(bytes_of))),
+    row("components, last to first", Other::Nothing,
+        |path, _| all(paths::components(path).rev().map(|it| it.as_bytes())),
+        |path, _| all(std_path(path).components().rev().map(bytes_of))),
+    row("components, from both ends", Other::Nothing,
+        |path, _| both_ends(paths::components(path).map(|it| it.as_bytes())),
+        |path, _| both_ends(std_path(path).components().map(bytes_of))),
+    row("as_path after a step", Other::Nothing,
+        |path, _| { let mut left = paths::components(path); left.next(); digest(left.as_path()) },
+        |path, _| { let mut left = std_path(path).components(); left.next(); of(left.as_path()) }),
+    row("ancestors", Other::Nothing,
+        |path, _| all(paths::ancestors(path)),
+        |path, _| all(std_path(path).ancestors().map(|it| it.as_os_str().as_bytes()))),
+    row("parent", Other::Nothing,
+        |path, _| some(paths::parent(path)), |path, _| some_of(std_path(path).parent())),
+    row("file_name", Other::Nothing,
+        |path, _| some(paths::file_name(path)), |path, _| some_of(std_path(path).file_name())),
+    row("file_stem", Other::Nothing,
+        |path, _| some(paths::file_stem(path)), |path, _| some_of(std_path(path).file_stem())),
+    row("extension", Other::Nothing,
+        |path, _| some(paths::extension(path)), |path, _| some_of(std_path(path).extension())),
+    row("file_prefix", Other::Nothing,
+        |path, _| some(paths::file_prefix(path)), |path, _| some_of(std_path(path).file_prefix())),
+    row("starts_with", Other::Front,
+        |path, base| paths::starts_with(path, base).into(),
+        |path, base| std_path(path).starts_with(std_path(base)).into()),
+    row("strip_prefix", Other::Front,
+        |path, base| some(paths::strip_prefix(path, base)),
+        |path, base| some_of(std_path(path).strip_prefix(std_path(base)).ok())),
+    row("ends_with", Other::Back,
+        |path, child| paths::ends_with(path, child).into(),
+        |path, child| std_path(path).ends_with(std_path(child)).into()),
+    row("equal: a copy", Other::Same, equal, std_equal),
+    row("equal: the next path", Other::Next, equal, std_equal),
+    row("equal: another spelling", Other::Respelled, equal, std_equal),
+    row("compare: a copy", Other::Same, compare, std_compare),
+    row("compare: the next path", Other::Next, compare, std_compare),
+    row("compare: another spelling", Other::Respelled, compare, std_compare),
+    row("hash; SipHash", Other::Nothing, |path, _| paths::hash(path), |path, _| sip_hash(path)),
+    row("join", Other::Name,
+        |path, other| made(owned::join(path, other)),
+        |path, other| of(std_path(path).join(std_path(other)))),
+    row("with_file_name", Other::Name,
+        |path, name| made(owned::with_file_name(path, name)),
+        |path, name| of(std_path(path).with_file_name(OsStr::from_bytes(name)))),
+    row("with_extension", Other::Extension,
+        |path, end| made(owned::with_extension(path, end)),
+        |path, end| of(std_path(path).with_extension(OsStr::from_bytes(end)))),
+    row("with_added_extension", Other::Extension,
+        |path, end| made(owned::with_added_extension(path, end)),
+        |path, end| of(std_path(path).with_added_extension(OsStr::from_bytes(end)))),
+    row("push and pop", Other::Name, push_pop, std_push_pop),
+    row("set_extension", Other::Extension, set_extension, std_set_extension),
+    row("canonical", Other::Nothing,
+        |path, _| made(owned::canonical(path)), |path, _| of(canonical(path))),
+    row("resolved", Other::Nothing,
+        |path, _| made(owned::resolved(path)), |path, _| of(resolved(path))),
+    row("key and back; canonical", Other::Nothing,
+        |path, _| key_and_back(path), |path, _| of(canonical(path))),
+];
 
-/// Returns the rows of calls that read text.
+/// The rows of calls that read text.
 #[rustfmt::skip]
-pub fn texts() -> Vec<Row> {
-    vec![
-        one("to_str", ours_to_str, std::to_str),
-        one("to_string_lossy", ours_to_string_lossy, std::to_string_lossy),
-        one("display", ours_display, std::display),
-        one("chunks", ours_chunks, std::chunks),
-    ]
-}
+pub const TEXT_ROWS: &[Row] = &[
+    row("to_str", Other::Nothing,
+        |path, _| paths::is_utf8(path).into(), |path, _| std_path(path).to_str().is_some().into()),
+    row("to_string_lossy", Other::Nothing,
+        |path, _| owned::to_string_lossy(path).map_or(u64::MAX, |it| it.len() as u64),
+        |path, _| std_path(path).to_string_lossy().len() as u64),
+    row("chunks", Other::Nothing,
+        |path, _| lengths(paths::chunks(path).map(|it| (it.valid.len(), it.broken.len()))),
+        |path, _| lengths(path.utf8_chunks().map(|it| (it.valid().len(), it.invalid().len())))),
+];

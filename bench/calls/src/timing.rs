@@ -1,5 +1,5 @@
-//! The ratio of our time to std's, and how it is printed.
-use crate::targets::{may_differ, target};
+//! The ratio of our time to std's.
+use crate::clock;
 use std::hint::black_box;
 use std::time::{Duration, Instant};
 
@@ -17,7 +17,7 @@ pub struct Measure {
 const SHORTEST: f64 = 1e-4;
 
 /// The greatest number of rounds. A round takes longer than `SHORTEST` divided by this number.
-pub const MOST_ROUNDS: usize = 1 << 16;
+const MOST_ROUNDS: usize = 1 << 16;
 
 /// The longest search for enough rounds, whatever the clock says.
 const LONGEST_SEARCH: Duration = Duration::from_millis(100);
@@ -32,6 +32,15 @@ pub struct Timer {
 }
 
 impl Timer {
+    /// Returns the timer for calls.
+    pub fn of_calls(reps: usize) -> Timer {
+        Timer {
+            reps,
+            budget: reps as f64 * 0.1,
+            clock: clock::of_this_thread,
+        }
+    }
+
     /// Returns the median of the ratios on each of the slices, timed repeatedly.
     pub fn compare(&self, slices: usize, ours: Work, std: Work) -> Measure {
         let is_same = (0..slices).all(|slice| ours(slice) == std(slice));
@@ -43,7 +52,8 @@ impl Timer {
                 break;
             }
         }
-        let ratio = median(ratios);
+        ratios.sort_by(f64::total_cmp);
+        let ratio = ratios[ratios.len() / 2];
         Measure { ratio, is_same }
     }
 
@@ -59,7 +69,7 @@ impl Timer {
     }
 
     /// Returns the seconds that the work on this slice takes, repeated for this many rounds.
-    pub fn seconds(&self, work: Work, slice: usize, rounds: usize) -> f64 {
+    fn seconds(&self, work: Work, slice: usize, rounds: usize) -> f64 {
         let start = (self.clock)();
         for _ in 0..rounds {
             black_box(work(slice));
@@ -70,7 +80,7 @@ impl Timer {
 
 /// Returns a number of rounds that take at least `SHORTEST` seconds: doubles the number until the
 /// clock measures so many. The search ends even if the clock stops or goes back.
-pub fn enough_rounds(seconds: impl Fn(usize) -> f64) -> usize {
+fn enough_rounds(seconds: impl Fn(usize) -> f64) -> usize {
     let start = Instant::now();
     let mut rounds = 1;
     // The maximum of NaN and 0 is 0.
@@ -83,65 +93,49 @@ pub fn enough_rounds(seconds: impl Fn(usize) -> f64) -> usize {
     rounds
 }
 
-/// Returns the median of the numbers.
-pub fn median(mut numbers: Vec<f64>) -> f64 {
-    numbers.sort_by(f64::total_cmp);
-    numbers[numbers.len() / 2]
-}
+#[cfg(test)]
+mod tests {
+    use super::{enough_rounds, Timer, MOST_ROUNDS};
+    use std::thread::sleep;
+    use std::time::Duration;
 
-/// The number of ratios that were printed, and of those that were marked.
-#[derive(Default)]
-pub struct Score {
-    pub shown: usize,
-    pub above: usize,
-    pub on_purpose: usize,
-    pub different: usize,
-}
-
-/// The explanation of the mark ~.
-const ON_PURPOSE: &str = "\
-~ The results differ on purpose: each side feeds a hasher in its own way. Our cheap hasher is
-  FoldHasher, which Rattle's maps use; Rust's only counts the bytes.";
-
-impl Score {
-    /// Prints an explanation of the numbers and marks.
-    pub fn print(&self) {
-        if self.shown == 0 {
-            return;
+    #[test]
+    fn rounds_are_bounded() {
+        for seconds in [0.0, -0.0, -1.0, f64::NAN, f64::NEG_INFINITY, 5e-324] {
+            assert_eq!(enough_rounds(|_| seconds), MOST_ROUNDS, "{seconds}");
         }
-        println!("Each number is our time divided by std::path's. If it is above its target, a >");
-        println!(
-            "and the target follow it. Above their targets: {} of {}.",
-            self.above, self.shown
-        );
-        if self.on_purpose > 0 {
-            println!("{ON_PURPOSE}");
-        }
-        if self.different > 0 {
-            println!(
-                "DIFFERS marks results that differ and must not: {}",
-                self.different
-            );
+        for seconds in [1e-4, 1.0, 1e300, f64::MAX, f64::INFINITY] {
+            assert_eq!(enough_rounds(|_| seconds), 1, "{seconds}");
         }
     }
 
-    /// Returns the ratio, followed by its target if the ratio is above it, and by a mark if the
-    /// results differ: `~` if they differ on purpose, `DIFFERS` if they must not.
-    pub fn cell(&mut self, measure: &Measure, row: &str, corpus: &str) -> String {
-        let wanted = target(row, corpus);
-        let mut cell = format!("{:.2}", measure.ratio);
-        self.shown += 1;
-        if measure.ratio > wanted {
-            self.above += 1;
-            cell.push_str(&format!(" > {wanted}"));
+    #[test]
+    fn rounds_are_enough() {
+        for (round, wanted) in [(1e-4, 1), (6e-5, 2), (1e-5, 16), (1e-8, 16384)] {
+            let seconds = |rounds| rounds as f64 * round;
+            assert_eq!(enough_rounds(seconds), wanted, "{round}");
         }
-        if may_differ(row) {
-            self.on_purpose += 1;
-            cell.push_str(" ~");
-        } else if !measure.is_same {
-            self.different += 1;
-            cell.push_str(" DIFFERS");
-        }
-        cell
+        // The first time is below 0.
+        assert_eq!(enough_rounds(|rounds| rounds as f64 - 1.5), 2);
+    }
+
+    #[test]
+    fn slow_work_has_few_rounds() {
+        let slow = |rounds| {
+            sleep(Duration::from_millis(60) * rounds as u32);
+            0.0
+        };
+        assert_eq!(enough_rounds(slow), 2);
+    }
+
+    #[test]
+    fn a_stopped_clock_ends() {
+        let timer = Timer {
+            reps: 2,
+            budget: 60.0,
+            clock: || 0.0,
+        };
+        let measure = timer.compare(3, &|slice| slice as u64, &|slice| slice as u64);
+        assert!(measure.is_same && measure.ratio.is_nan());
     }
 }

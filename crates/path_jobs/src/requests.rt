@@ -1,10 +1,9 @@
 //! Resolves requests under a root, as servers and sandboxes do.
 use crate::digest::Digest;
+use crate::now::{escapes, joined_verbatim, joined_within, relative_path};
 use crate::random::Random;
 use crate::tree::{Tree, noise_of, push_tag};
-use path_within::relative::relative_path;
 use path_within::resolved::resolved;
-use path_within::within::{WithinError, escapes, join_verbatim, join_within};
 use std::alloc::{AllocError, Global};
 use unix_path::Path;
 
@@ -95,15 +94,14 @@ fn answer(
     request: Path<'_>,
     digest: &mut Digest,
 ) -> Result<(), AllocError> {
-    match join_within(alloc, root, request) {
-        Ok(path) => {
+    match joined_within(alloc, root, request)? {
+        Some(path) => {
             digest.add_path(path.as_path());
             if let Ok(rest) = path.as_path().strip_prefix(root) {
                 digest.add_path(rest);
             }
         }
-        Err(WithinError::Escapes | WithinError::Nul) => digest.add(0),
-        Err(WithinError::Memory(error)) => return Err(error),
+        None => digest.add(0),
     }
     Ok(())
 }
@@ -117,10 +115,9 @@ fn answer_verbatim_join(
     digest: &mut Digest,
 ) -> Result<(), AllocError> {
     digest.add_flag(escapes(request));
-    match join_verbatim(alloc, root, request) {
-        Ok(path) => digest.add_path(path.as_path()),
-        Err(WithinError::Escapes | WithinError::Nul) => digest.add(0),
-        Err(WithinError::Memory(error)) => return Err(error),
+    match joined_verbatim(alloc, root, request)? {
+        Some(path) => digest.add_path(path.as_path()),
+        None => digest.add(0),
     }
     Ok(())
 }

@@ -28,7 +28,7 @@ impl<T> Watched<T> {
     /// Creates a source or a sink that watches `inner`. It has not failed, has not ended and is not
     /// flushed.
     ///
-    /// `Watched::new(source).has_failed()` is false.
+    /// `Watched::new(source).failed()` is false.
     pub fn new(inner: T) -> Watched<T>
         ensures inner { watched_inner result ≡ inner }
         ensures failed { has_failed result ≡ false }
@@ -46,7 +46,7 @@ impl<T> Watched<T> {
     /// Returns true if a call has failed, or a write of one byte or more has written none.
     ///
     /// It is true after a `flush_once` that failed.
-    pub fn has_failed(&self) -> bool
+    pub fn failed(&self) -> bool
         ensures { result ≡ has_failed self.now }
     {
         let Watched { failed, .. } = self;
@@ -56,7 +56,7 @@ impl<T> Watched<T> {
     /// Returns true if a read into a buffer that isn't empty has succeeded with no byte.
     ///
     /// It is false after a read into an empty slice.
-    pub fn has_ended(&self) -> bool
+    pub fn ended(&self) -> bool
         ensures { result ≡ has_ended self.now }
     {
         let Watched { ended, .. } = self;

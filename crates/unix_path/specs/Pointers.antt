@@ -3,10 +3,10 @@ use Rattle.std.specs.Prelude.{ℕ, List, ⊤}
 use Rattle.std.specs.Box.{boxed_slice_items}
 use Rattle.std.specs.Rc.{rc_slice_items}
 use Rattle.unix_path.specs.Buffers.{path_bytes}
-use Rattle.unix_path.specs.declared.pointers.boxed.BoxedPath.{BoxedPath}
-use Rattle.unix_path.specs.declared.pointers.rc.RcPath.{RcPath}
-use Rattle.unix_path.specs.declared.pointers.cow.CowPath.{CowPath}
-use Rattle.unix_path.specs.declared.pointers.cow.CowPath.TheVariants.{Borrowed, Owned}
+use Rattle.unix_path.specs.declared.kept.boxed.BoxedPath.{BoxedPath}
+use Rattle.unix_path.specs.declared.kept.rc.RcPath.{RcPath}
+use Rattle.unix_path.specs.declared.kept.cow.CowPath.{CowPath}
+use Rattle.unix_path.specs.declared.kept.cow.CowPath.TheVariants.{Borrowed, Owned}
 
 -- the bytes of a boxed path
 abbrev pub boxed_bytes : BoxedPath → List ℕ

@@ -10,8 +10,8 @@
 //! - `buf/edits.rt`: `join` and `with_file_name`;
 //! - `buf/extensions.rt`: `with_extension` and `with_added_extension`.
 //!
-//! `order.rt` defines the equality, order and hash of a `Path`. `json.rt`, `pointers/boxed.rt`,
-//! `pointers/rc.rt` and `pointers/cow.rt` contain the functions that convert a `Path`.
+//! `order.rt` defines the equality, order and hash of a `Path`. `json.rt`, `kept/boxed.rt`,
+//! `kept/rc.rt` and `kept/cow.rt` contain the functions that convert a `Path`.
 ghost use Rattle.std.specs.Prelude.{◌≡◌, ◌↔◌, ◌<◌, ◌^◌, not, [], ◌∷◌, length, map};
 ghost use Rattle.std.specs.Prelude.{IsTrue, IsFalse};
 ghost use Rattle.unix_path.specs.Parts.{RootDir, slash, values, value_bytes, is_rooted};

@@ -9,8 +9,8 @@ mod texts;
 use std::alloc::AllocError;
 use std::env::{Env, FillError};
 use std::process::ExitCode;
-use texts::{VERSION, help_of};
-use upath_commands::{Output, Refusals, Texts, argument_paths, command_asked, run_arguments};
+use texts::{COMMANDS, GENERAL, VERSION};
+use upath_commands::{Replies, RunError, Texts, argument_paths, run_arguments};
 
 // Returns the argument with this index, or `None` after the last one.
 fn argument_at(rt: &HostRuntime, index: usize) -> Result<Option<Vec<u8>>, AllocError> {
@@ -42,33 +42,41 @@ fn arguments_of(rt: &HostRuntime) -> Result<Vec<Vec<u8>>, AllocError> {
 }
 
 // Does what the arguments ask for. Returns the exit status.
-fn answer(rt: &HostRuntime) -> Result<u8, AllocError> {
-    let arguments = arguments_of(rt)?;
-    let paths = argument_paths(rt.alloc(), arguments.as_slice())?;
-    let verb = command_asked(rt.alloc(), paths.as_slice())?;
+fn answer(rt: &HostRuntime, arguments: &[Vec<u8>]) -> Result<u8, RunError> {
+    let Ok(paths) = argument_paths(rt.alloc(), arguments) else {
+        return Err(RunError::Arguments);
+    };
     let texts = Texts {
-        help: help_of(verb),
+        general: GENERAL,
         version: VERSION,
+        commands: &COMMANDS,
     };
     let mut reader = rt.reader();
-    let mut output = Output::new(rt.alloc(), std::io::writer(rt));
-    let mut refusals = Refusals::new(rt.alloc(), rt.stderr());
-    Ok(run_arguments(
+    let mut replies = Replies::new(rt.alloc(), std::io::writer(rt), rt.stderr());
+    run_arguments(
         rt.alloc(),
         paths.as_slice(),
         texts,
         &mut reader,
-        &mut output,
-        &mut refusals,
-    ))
+        &mut replies,
+    )
+}
+
+// Does what the arguments ask for, unless they can't be kept.
+fn answer_arguments(rt: &HostRuntime) -> Result<u8, RunError> {
+    let Ok(arguments) = arguments_of(rt) else {
+        return Err(RunError::Arguments);
+    };
+    answer(rt, arguments.as_slice())
 }
 
 fn main(rt: HostRuntime) -> ExitCode {
-    match answer(&rt) {
+    match answer_arguments(&rt) {
         Ok(status) => ExitCode::from(status),
-        Err(_) => {
+        Err(RunError::Arguments) => {
             let _ = eprintln!(rt; "upath: out of memory");
             ExitCode::from(3)
         }
+        Err(_) => ExitCode::from(3),
     }
 }

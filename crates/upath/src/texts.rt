@@ -1,52 +1,52 @@
 //! The help texts. Made by tools/upath_texts from tools/upath.txt.
 
-use upath_commands::Verb;
+use upath_commands::HelpText;
 
-const GENERAL: &[u8] = b"\
+/// What `--help` prints.
+pub const GENERAL: &[u8] = b"\
 Usage: upath COMMAND [OPTION]... [--] [PATH]...\n\
 \n\
-Prints for each PATH what COMMAND says. Without a PATH, reads paths from\n\
-standard input, one per line. Everything is lexical: no file is looked up, and\n\
-no symbolic link is followed.\n\
+Applies COMMAND to each PATH and prints the result. Without a PATH, reads paths\n\
+from standard input, one per line. Purely lexical: no file is accessed, and no\n\
+symbolic link is followed.\n\
 \n\
 Commands:\n\
-\x20 canon                the canonical form: single slashes, and no `.` except a\n\
-\x20                      leading one\n\
+\x20 canon                the shortest path with the same components\n\
 \x20 resolve              the canonical form, with each `..` resolved lexically\n\
 \x20 parent               the path without its last component\n\
+\x20 ancestors            the path, its parent, the parent of that, and so on\n\
 \x20 name                 the file name: the last component, if it is a name\n\
 \x20 stem                 the file name without its extension\n\
-\x20 ext                  the extension: the part of the file name after its last\n\
-\x20                      dot\n\
+\x20 ext                  the part of the file name after its last dot\n\
 \x20 parts                the components, each as a record\n\
-\x20 join ROOT            ROOT joined with the path; use --beneath for a path from\n\
-\x20                      outside\n\
+\x20 join ROOT            ROOT joined with the path; if untrusted, use --beneath\n\
 \x20 strip BASE           what follows BASE, for a path that starts with it\n\
 \x20 relative --from=DIR  the relative path from DIR\n\
-\x20 key                  the key in hexadecimal: keys sort as their paths, and\n\
-\x20                      equal paths share one\n\
+\x20 key                  the key in hexadecimal: keys sort as their paths do\n\
 \x20 unkey                the path, in canonical form, of a key in hexadecimal\n\
-\x20 escapes              the paths that leave the directory they are joined to,\n\
-\x20                      unchanged\n\
+\x20 escapes              the paths that leave the directory they are joined to\n\
 \x20 under BASE           the paths at BASE or below it, unchanged\n\
-\x20 sort                 the paths in path order, component by component,\n\
-\x20                      unchanged\n\
+\x20 sort                 the paths in path order, component by component\n\
 \x20 uniq                 each path once: the first of equal paths, unchanged\n\
 \x20 equal A B            nothing: the exit status says whether A and B are equal\n\
 \n\
 Options:\n\
-\x20 -z, --null           end each path and each answer with a NUL byte, not with a\n\
-\x20                      newline\n\
-\x20 -p, --pair           print each path before its answer, with a tab after it\n\
-\x20                      (with -z, a NUL byte)\n\
-\x20 -q, --quiet          print nothing; only the exit status answers\n\
-\x20     --line-buffered  write each answer at once\n\
-\x20     --help           print this help, or that of the command\n\
-\x20     --version        print the version, and which code was proved\n\
+\x20 -z, --null     end the records of input and output with NUL, not newline\n\
+\x20 -p, --pair     print the path, a tab (with -z a NUL) and then the result\n\
+\x20 -q, --quiet    print nothing, except for wrong usage\n\
+\x20     --or=TEXT  print TEXT for a path without a result\n\
+\x20 -h, --help     print this help, or just after COMMAND the help on it\n\
+\x20     --version  print the version\n\
+\n\
+`--` ends the options. After COMMAND and its ROOT or BASE, it also means that\n\
+only the arguments after it are paths: if there are none, nothing is read. Write\n\
+it before each variable, whose value may begin with a dash.\n\
 \n\
 Exit status:\n\
-\x20 0  every path was answered; escapes: none escapes; equal: they are\n\
-\x20 1  some path has no answer or was refused, or the answer is no\n\
+\x20 0  every path has a result. escapes: no path escapes. under: a path is\n\
+\x20    printed. equal: they are equal. sort -c: the paths are in order\n\
+\x20 1  a path has no result or is refused. escapes, under, equal, sort -c:\n\
+\x20    otherwise\n\
 \x20 2  wrong usage; nothing was read or written\n\
 \x20 3  a read, a write or an allocation failed\n\
 \n\
@@ -56,25 +56,30 @@ Examples:\n\
 \x20 file names in order, each path once:\n\
 \x20   find . -print0 | upath sort -zu\n\
 \x20 the canonical form of each argument:\n\
-\x20   upath canon -- \"$@\"\n\
-\x20 the path from /usr/bin to /usr/lib:\n\
-\x20   upath relative --from=/usr/bin /usr/lib\n\
-\x20 the paths of a list at /srv or below it:\n\
-\x20   upath under /srv < list\n\
+\x20   upath canon -z -- \"$@\"\n\
+\x20 a path for a request from outside, or a message:\n\
+\x20   upath join --beneath /srv -- \"$request\"\n\
+\x20 whether a path is at /srv or below it:\n\
+\x20   if upath under -qz /srv -- \"$path\"; then echo yes; fi\n\
+\x20 a link in bin to lib/tool:\n\
+\x20   ln -s -- \"$(upath relative --from=bin lib/tool)\" bin/tool\n\
 \n\
 `upath COMMAND --help` shows the options of a command, and an example.\n";
 
 /// What `--version` prints.
 pub const VERSION: &[u8] = b"\
 upath 1.1.0\n\
+Proved with rattle-kit-13b logic dac8208d650f15bf and rattle-kit-13f logic\n\
+dac8208d650f15bf.\n\
 \n\
-Proved: for all arguments and all input, what is written and the exit status are\n\
-those of the definitions in crates/upath_commands/specs.\n";
+Proved, for readers and writers whose bytes are known: what is written and the\n\
+exit status are those of the definitions in crates/upath_commands/specs. Of\n\
+standard streams no contract can state the bytes.\n";
 
 const CANON: &[u8] = b"\
 Usage: upath canon [OPTION]... [--] [PATH]...\n\
 \n\
-Prints the canonical form: single slashes, and no `.` except a leading one.\n\
+Prints the shortest path with the same components.\n\
 \n\
 Example:\n\
 \x20 $ upath canon .//a/./b/\n\
@@ -88,9 +93,10 @@ Usage: upath resolve [OPTION]... [--] [PATH]...\n\
 Prints the canonical form, with each `..` resolved lexically.\n\
 \n\
 Example:\n\
-\x20 $ upath resolve /srv/../etc a/../../b\n\
+\x20 $ upath resolve /srv/../etc a/../../b a/..\n\
 \x20 /etc\n\
 \x20 ../b\n\
+\x20 .\n\
 \n\
 `upath --help` shows the options of every command.\n";
 
@@ -100,8 +106,22 @@ Usage: upath parent [OPTION]... [--] [PATH]...\n\
 Prints the path without its last component.\n\
 \n\
 Example:\n\
-\x20 $ upath parent /usr/lib/libc.so\n\
+\x20 $ upath parent /usr/lib/libc.so a\n\
 \x20 /usr/lib\n\
+\x20 .\n\
+\n\
+`upath --help` shows the options of every command.\n";
+
+const ANCESTORS: &[u8] = b"\
+Usage: upath ancestors [OPTION]... [--] [PATH]...\n\
+\n\
+Prints the path, its parent, the parent of that, and so on.\n\
+\n\
+Example:\n\
+\x20 $ upath ancestors /usr/lib\n\
+\x20 /usr/lib\n\
+\x20 /usr\n\
+\x20 /\n\
 \n\
 `upath --help` shows the options of every command.\n";
 
@@ -130,7 +150,7 @@ Example:\n\
 const EXT: &[u8] = b"\
 Usage: upath ext [OPTION]... [--] [PATH]...\n\
 \n\
-Prints the extension: the part of the file name after its last dot.\n\
+Prints the part of the file name after its last dot.\n\
 \n\
 Example:\n\
 \x20 $ upath ext /srv/x.tar.gz\n\
@@ -154,16 +174,14 @@ Example:\n\
 `upath --help` shows the options of every command.\n";
 
 const JOIN: &[u8] = b"\
-Usage: upath join [--beneath] [--in-root] [--verbatim] [OPTION]... [--] ROOT\n\
+Usage: upath join [--beneath | --in-root | --verbatim] [OPTION]... ROOT [--]\n\
 \x20   [PATH]...\n\
 \n\
-Prints ROOT joined with the path; use --beneath for a path from outside.\n\
+Prints ROOT joined with the path; if untrusted, use --beneath.\n\
 \n\
-\x20     --beneath   refuse a path that leaves ROOT, for example an entry of an\n\
-\x20                 archive\n\
-\x20     --in-root   keep the path at ROOT, as in a chroot, for example the path of\n\
-\x20                 a URL\n\
-\x20     --verbatim  refuse any `..`, for a ROOT that may contain symbolic links\n\
+\x20     --beneath   refuse a path that leaves ROOT, as an entry of an archive may\n\
+\x20     --in-root   treat ROOT as the root directory, for example of a URL's path\n\
+\x20     --verbatim  refuse a leading slash and any `..`: ROOT may contain links\n\
 \n\
 Example:\n\
 \x20 $ upath join --beneath /srv a/../b\n\
@@ -172,7 +190,7 @@ Example:\n\
 `upath --help` shows the options of every command.\n";
 
 const STRIP: &[u8] = b"\
-Usage: upath strip [OPTION]... [--] BASE [PATH]...\n\
+Usage: upath strip [OPTION]... BASE [--] [PATH]...\n\
 \n\
 Prints what follows BASE, for a path that starts with it.\n\
 \n\
@@ -198,8 +216,7 @@ Example:\n\
 const KEY: &[u8] = b"\
 Usage: upath key [OPTION]... [--] [PATH]...\n\
 \n\
-Prints the key in hexadecimal: keys sort as their paths, and equal paths share\n\
-one.\n\
+Prints the key in hexadecimal: keys sort as their paths do.\n\
 \n\
 Example:\n\
 \x20 $ upath key /a.b a//b\n\
@@ -223,10 +240,10 @@ Example:\n\
 const ESCAPES: &[u8] = b"\
 Usage: upath escapes [-v] [--reason] [OPTION]... [--] [PATH]...\n\
 \n\
-Prints the paths that leave the directory they are joined to, unchanged.\n\
+Prints the paths that leave the directory they are joined to.\n\
 \n\
 \x20 -v            print the other paths: those that stay\n\
-\x20     --reason  print `root` or `climbs` and a tab before each path that escapes\n\
+\x20     --reason  print `root`, `escapes` or `nul` and a tab before each path\n\
 \n\
 Example:\n\
 \x20 $ printf 'a/../b\\n../etc\\n' | upath escapes\n\
@@ -235,13 +252,14 @@ Example:\n\
 `upath --help` shows the options of every command.\n";
 
 const UNDER: &[u8] = b"\
-Usage: upath under [-v] [--strip] [--by-parts] [OPTION]... [--] BASE [PATH]...\n\
+Usage: upath under [-v] [--strip] [--by-components] [OPTION]... BASE [--]\n\
+\x20   [PATH]...\n\
 \n\
 Prints the paths at BASE or below it, unchanged.\n\
 \n\
-\x20 -v              print the other paths: those that are not\n\
-\x20     --strip     print what follows BASE\n\
-\x20     --by-parts  compare components, and resolve no `..`\n\
+\x20 -v                   print the other paths: those that are not\n\
+\x20     --strip          print what follows BASE\n\
+\x20     --by-components  compare components, and resolve no `..`\n\
 \n\
 Example:\n\
 \x20 $ printf '/srv/a\\n/srv/../etc\\n' | upath under /srv\n\
@@ -250,10 +268,11 @@ Example:\n\
 `upath --help` shows the options of every command.\n";
 
 const SORT: &[u8] = b"\
-Usage: upath sort [-u] [-r] [OPTION]... [--] [PATH]...\n\
+Usage: upath sort [-c] [-u] [-r] [OPTION]... [--] [PATH]...\n\
 \n\
-Prints the paths in path order, component by component, unchanged.\n\
+Prints the paths in path order, component by component.\n\
 \n\
+\x20 -c  print no path; the exit status says whether the paths are in order\n\
 \x20 -u  print each path once: the first of equal paths\n\
 \x20 -r  print from the last to the first\n\
 \n\
@@ -288,26 +307,78 @@ Example:\n\
 \n\
 `upath --help` shows the options of every command.\n";
 
-/// Returns the help text of a command, or for `None` that of the program.
-pub fn help_of(verb: Option<Verb>) -> &'static [u8] {
-    match verb {
-        None => GENERAL,
-        Some(Verb::Canon) => CANON,
-        Some(Verb::Resolve) => RESOLVE,
-        Some(Verb::Parent) => PARENT,
-        Some(Verb::Name) => NAME,
-        Some(Verb::Stem) => STEM,
-        Some(Verb::Extension) => EXT,
-        Some(Verb::Parts) => PARTS,
-        Some(Verb::Join) => JOIN,
-        Some(Verb::Strip) => STRIP,
-        Some(Verb::Relative) => RELATIVE,
-        Some(Verb::Key) => KEY,
-        Some(Verb::Unkey) => UNKEY,
-        Some(Verb::Escapes) => ESCAPES,
-        Some(Verb::Under) => UNDER,
-        Some(Verb::Sort) => SORT,
-        Some(Verb::Uniq) => UNIQ,
-        Some(Verb::Equal) => EQUAL,
-    }
-}
+/// The help texts of the commands.
+pub static COMMANDS: [HelpText<'static>; 18] = [
+    HelpText {
+        name: b"canon",
+        text: CANON,
+    },
+    HelpText {
+        name: b"resolve",
+        text: RESOLVE,
+    },
+    HelpText {
+        name: b"parent",
+        text: PARENT,
+    },
+    HelpText {
+        name: b"ancestors",
+        text: ANCESTORS,
+    },
+    HelpText {
+        name: b"name",
+        text: NAME,
+    },
+    HelpText {
+        name: b"stem",
+        text: STEM,
+    },
+    HelpText {
+        name: b"ext",
+        text: EXT,
+    },
+    HelpText {
+        name: b"parts",
+        text: PARTS,
+    },
+    HelpText {
+        name: b"join",
+        text: JOIN,
+    },
+    HelpText {
+        name: b"strip",
+        text: STRIP,
+    },
+    HelpText {
+        name: b"relative",
+        text: RELATIVE,
+    },
+    HelpText {
+        name: b"key",
+        text: KEY,
+    },
+    HelpText {
+        name: b"unkey",
+        text: UNKEY,
+    },
+    HelpText {
+        name: b"escapes",
+        text: ESCAPES,
+    },
+    HelpText {
+        name: b"under",
+        text: UNDER,
+    },
+    HelpText {
+        name: b"sort",
+        text: SORT,
+    },
+    HelpText {
+        name: b"uniq",
+        text: UNIQ,
+    },
+    HelpText {
+        name: b"equal",
+        text: EQUAL,
+    },
+];

@@ -1,14 +1,22 @@
 -- The lemmas, by subject.
-pub mod MeaningLemmas
-pub mod ItemLemmas
 pub mod OutputLemmas
 pub mod RecordLemmas
 pub mod SelectionLemmas
 pub mod SortingLemmas
-pub mod EngineLemmas
+pub mod DashLemmas
+pub mod ReplyLemmas
+pub mod StepLemmas
+pub mod WaitLemmas
+pub mod RunLemmas
+pub mod PathLemmas
+pub mod BlockLemmas
 pub mod AnswerLemmas
 pub mod PartLemmas
 pub mod HexLemmas
 pub mod KeyTextLemmas
+pub mod OperandLemmas
+pub mod ItemLemmas
+pub mod MeaningLemmas
+pub mod RequestLemmas
+pub mod LetterLemmas
 pub mod KeyLawLemmas
-pub mod RunLemmas

@@ -1,57 +1,74 @@
 -- The answers of commands to paths, and how they are written.
-use Rattle.std.specs.Prelude.{◌≡◌, ℕ, Bool, not, ◌&&◌, ◌||◌, List, [], ◌∷◌, ◌++◌}
-use Rattle.std.specs.Prelude.{Option, Some, None, is_some, option_map, Result, IfOk, map}
+use Rattle.std.specs.Prelude.{◌≡◌, ℕ, Bool, not, ◌==◌, ◌&&◌, ◌||◌, List, [], ◌∷◌, ◌++◌, drop}
+use Rattle.std.specs.Prelude.{Option, Some, None, option_map, Result, IfOk, map, length}
 use Rattle.std.specs.Prelude.{codes, if◌then◌else◌}
 use Rattle.std.specs.List.{flat_map, starts_with}
-use Rattle.std.specs.Option.{option_to_list}
 use Rattle.std.specs.Str.{byte}
 use Rattle.unix_path.specs.Joins.{join_of}
 use Rattle.unix_path.specs.Order.{same_value}
+use Rattle.unix_path.specs.Parents.{ancestors_of, parent_of}
 use Rattle.unix_path.specs.Parts.{is_rooted, value_bytes, values}
+use Rattle.unix_path.specs.Pointers.{cow_bytes}
 use Rattle.unix_path.specs.Prefixes.{stripped_of}
+use Rattle.unix_path.specs.declared.kept.cow.CowPath.{CowPath}
 use Rattle.path_runs.specs.Spelling.{spelling_of}
 use Rattle.path_within.specs.Below.{below_of, has_nul, names_below}
 use Rattle.path_within.specs.Escapes.{has_root_or_parent_dir}
 use Rattle.path_within.specs.RelativePaths.{relative_path_of}
 use Rattle.path_within.specs.Resolved.{resolved_bytes_of, resolved_of}
 use Rattle.upath_commands.specs.Escaping.{escapes}
+use Rattle.upath_commands.specs.Invocations.{SettingsValue}
+use Rattle.upath_commands.specs.Sorting.{same_path}
 use Rattle.upath_commands.specs.declared.command.EscapesOptions.{EscapesOptions}
 use Rattle.upath_commands.specs.declared.command.JoinRule.{JoinRule}
 use Rattle.upath_commands.specs.declared.command.JoinRule.TheVariants.{Trusted, Beneath, InRoot}
 use Rattle.upath_commands.specs.declared.command.JoinRule.TheVariants.{Verbatim}
-use Rattle.upath_commands.specs.declared.command.Settings.{Settings}
 use Rattle.upath_commands.specs.declared.command.UnderOptions.{UnderOptions}
 
 -- the byte that ends a record
-abbrev pub end_of : Settings → ℕ
+abbrev pub end_of : SettingsValue → ℕ
 end_of settings = if settings.null then 0 else byte "\n"
 
 -- the byte between a path and its answer
-abbrev pub separator_of : Settings → ℕ
+abbrev pub separator_of : SettingsValue → ℕ
 separator_of settings = if settings.null then 0 else byte "\t"
 
 -- an answer to p as a record
-abbrev pub record_of : Settings → List ℕ → List ℕ → List ℕ
+abbrev pub record_of : SettingsValue → List ℕ → List ℕ → List ℕ
 record_of settings p answer =
     if settings.pair then p ++ separator_of settings ∷ (answer ++ end_of settings ∷ [])
     else answer ++ end_of settings ∷ []
 
 -- what is written for p, if these are the answers to it
-abbrev pub record_output : Settings → List ℕ → List (List ℕ) → List ℕ
+abbrev pub record_output : SettingsValue → List ℕ → List (List ℕ) → List ℕ
 record_output settings p answers =
     if settings.quiet then [] else flat_map (record_of settings p) answers
 
--- the output for p was appended, and the result says whether p is answered
-abbrev pub Pushes : {E : Type 0} → Result Bool E → List ℕ → List ℕ → Settings → List ℕ
-    → List (List ℕ) → Bool → Type 0
-Pushes result old new settings p answers answered =
-    IfOk result (λ is. (is ≡ answered) × (new ≡ old ++ record_output settings p answers))
+-- the result is this answer, if there is one
+abbrev pub Finds : {E : Type 0} → Result (Option CowPath) E → Option (List ℕ) → Type 0
+Finds result answer = IfOk result (λ found. option_map cow_bytes found ≡ answer)
 
--- the same for at most one answer, without which p isn't answered
-abbrev pub PushesFound : {E : Type 0} → Result Bool E → List ℕ → List ℕ → Settings → List ℕ
-    → Option (List ℕ) → Type 0
-PushesFound result old new settings p found =
-    Pushes result old new settings p (option_to_list found) (is_some found)
+-- this path, or `.` in place of the empty one
+abbrev pub dot_if_empty : List ℕ → List ℕ
+dot_if_empty p = if length p == 0 then codes "." else p
+
+-- p equals `.`
+abbrev pub is_current : List ℕ → Bool
+is_current p = same_path p (codes ".")
+
+-- the parent; none of the empty path, the root and `.`
+abbrev pub parent_answer : List ℕ → Option (List ℕ)
+parent_answer p = if is_current p then None else option_map dot_if_empty (parent_of p)
+
+-- these paths, up to the first that equals `.`
+abbrev pub up_to_current : List (List ℕ) → List (List ℕ)
+up_to_current [] = []
+up_to_current (p ∷ ps) = if is_current p then p ∷ [] else p ∷ up_to_current ps
+
+-- the parent, the parent's parent, and so on
+abbrev pub parents_answer : List ℕ → List (List ℕ)
+parents_answer p =
+    if is_current p then [] else map dot_if_empty (up_to_current (drop 1 (ancestors_of p)))
 
 -- p joined to a root; none if the rule refuses p
 abbrev pub joined_of : JoinRule → List ℕ → List ℕ → Option (List ℕ)
@@ -79,31 +96,39 @@ rest_below base p =
 -- what follows the base in p, by components or with both resolved; none if p isn't below the base
 abbrev pub rest_under : UnderOptions → List ℕ → List ℕ → Option (List ℕ)
 rest_under options base p =
-    if options.by_parts then rest_after base p
+    if options.by_components then rest_after base p
     else rest_below (resolved_bytes_of base) (resolved_bytes_of p)
 
--- what passes of p, if this is what follows the base in it
-abbrev pub passed_of : UnderOptions → List ℕ → Option (List ℕ) → List (List ℕ)
-passed_of options p None = if options.inverted then p ∷ [] else []
-passed_of options p (Some rest) =
-    if options.inverted then [] else (if options.stripped then rest else p) ∷ []
+-- what `under` prints for p, if this is what follows the base in it
+abbrev pub under_answer : UnderOptions → List ℕ → Option (List ℕ) → Option (List ℕ)
+under_answer options p None = if options.inverted then Some p else None
+under_answer options p (Some rest) =
+    if options.inverted then None else Some (if options.stripped then dot_if_empty rest else p)
 
 -- the relative path from a directory to p, if there is one
 abbrev pub relative_of : List ℕ → List ℕ → Option (List ℕ)
 relative_of from p = option_map spelling_of (relative_path_of (values from) (values p))
 
--- p, after the reason why it escapes, if it does and the reason is asked for
+-- `escapes` prints p: p escapes or has a NUL
+abbrev pub is_refused : List ℕ → Bool
+is_refused p = escapes p || has_nul p
+
+-- why p is refused
+abbrev pub escape_reason : List ℕ → List ℕ
+escape_reason p =
+    if is_rooted p then codes "root"
+    else (if escapes p then codes "escapes" else codes "nul")
+
+-- what `escapes` prints for p, if it prints p: the reason comes first if it is asked for
 abbrev pub escaping_text : EscapesOptions → List ℕ → List ℕ
 escaping_text options p =
-    if options.with_reason && escapes p
-    then (if is_rooted p then codes "root" else codes "climbs") ++ byte "\t" ∷ p
-    else p
+    if options.with_reason && is_refused p then escape_reason p ++ byte "\t" ∷ p else p
 
--- what passes of p
-abbrev pub escaping_of : EscapesOptions → List ℕ → List (List ℕ)
+-- what `escapes` prints for p, if anything
+abbrev pub escaping_of : EscapesOptions → List ℕ → Option (List ℕ)
 escaping_of options p =
-    if (if options.inverted then not (escapes p) else escapes p) then escaping_text options p ∷ []
-    else []
+    if (if options.inverted then is_refused p else not (is_refused p)) then None
+    else Some (escaping_text options p)
 
 -- the bytes of the components of p
 abbrev pub part_bytes : List ℕ → List (List ℕ)

@@ -1,11 +1,18 @@
--- Laws of the meaning of arguments: the conventions of GNU's `getopt_long`.
-use Rattle.std.specs.Prelude.{◌≡◌, ◌≢◌, ℕ, Bool, true, false, ◌==◌, not, List, [], ◌∷◌, ◌++◌}
-use Rattle.std.specs.Prelude.{codes, Ok, IsTrue}
-use Rattle.std.specs.List.{list_all, starts_with}
-use Rattle.std.specs.Str.{byte}
-use Rattle.upath_commands.specs.declared.command.Settings.{Settings}
-use Rattle.upath_commands.specs.Arguments.{meaning_of}
-use Rattle.upath_commands.specs.Invocations.{Canon, Each, Help}
+-- Laws of the meaning of arguments: the conventions of GNU's `getopt_long`, but for requests, which
+-- are the first argument or follow the command, and for `--`, after which nothing is read.
+use Rattle.std.specs.Prelude.{◌≡◌, ◌≢◌, ◌<◌, ◌⊎◌, ℕ, Bool, true, false, ◌==◌, ◌&&◌, not, List}
+use Rattle.std.specs.Prelude.{[], ◌∷◌}
+use Rattle.std.specs.Prelude.{◌++◌, codes, length, Result, Ok, Err, None, Some, IsTrue}
+use Rattle.std.specs.List.{All, list_all, starts_with}
+use Rattle.std.specs.Option.{is_none, is_some}
+use Rattle.std.specs.Str.{byte, bytes_eq}
+use Rattle.upath_commands.specs.declared.command.JoinRule.TheVariants.{Beneath}
+use Rattle.upath_commands.specs.declared.usage.UsageErrorKind.{UsageErrorKind}
+use Rattle.upath_commands.specs.Arguments.{first_word, meaning_of}
+use Rattle.upath_commands.specs.Invocations.{Canon, Each, Help, InvocationValue, Join, Meaning}
+use Rattle.upath_commands.specs.Invocations.{SettingsValue}
+use Rattle.upath_commands.specs.Items.{value_awaited}
+use Rattle.upath_commands.specs.Options.{request_by_word, verb_by_name}
 
 -- the argument doesn't begin with a dash
 abbrev pub is_plain : List ℕ → Bool
@@ -15,34 +22,73 @@ is_plain argument = not (starts_with ◌==◌ argument (codes "-"))
 abbrev pub short : List ℕ → List ℕ
 short letters = byte "-" ∷ letters
 
--- settings with `null` only
-abbrev pub null_only : Settings
-null_only = record { null = true; pair = false; quiet = false; line_buffered = false }
+-- an option, or options by their letters, that needs no further argument; no request
+abbrev pub is_option : List ℕ → Bool
+is_option argument =
+    not (is_plain argument) && not (bytes_eq argument (codes "-"))
+    && not (bytes_eq argument (codes "--")) && is_none (value_awaited argument)
+    && is_none (request_by_word argument)
 
--- after `-z` and `--`, each argument is a path, whatever its bytes are
+-- settings with `null` only
+abbrev pub null_only : SettingsValue
+null_only = record { null = true; pair = false; quiet = false; or = None }
+
+-- after `-z` and `--`, exactly the arguments are paths, whatever their bytes are
 abbrev pub PathsAfterDashes : Type 0
 PathsAfterDashes = (paths : List (List ℕ))
     → meaning_of (codes "canon" ∷ codes "-z" ∷ codes "--" ∷ paths)
-    ≡ Ok (Each Canon null_only paths)
+    ≡ Ok (Each Canon null_only (Some paths))
 
--- `--help` after arguments without dashes wins, whatever follows
-abbrev pub HelpWins : Type 0
-HelpWins = (before after : List (List ℕ)) → IsTrue (list_all is_plain before)
-    → meaning_of (before ++ codes "--help" ∷ after) ≡ Ok Help
+-- so are those after ROOT and `--`
+abbrev pub PathsAfterRoot : Type 0
+PathsAfterRoot = (root : List ℕ) (paths : List (List ℕ)) → IsTrue (is_plain root)
+    → meaning_of (codes "join" ∷ codes "-z" ∷ codes "--beneath" ∷ root ∷ codes "--" ∷ paths)
+    ≡ Ok (Each (Join Beneath root) null_only (Some paths))
 
--- a short option means the same before and after arguments without dashes
+-- `--help` as the first argument asks for help on what the next argument names, whatever follows
+abbrev pub HelpFirst : Type 0
+HelpFirst = (after : List (List ℕ))
+    → meaning_of (codes "--help" ∷ after) ≡ Ok (Help (first_word after))
+
+-- `--help` just after a command asks for help on it, whatever options precede the command, and
+-- whatever follows
+abbrev pub HelpAfterCommand : Type 0
+HelpAfterCommand = (before : List (List ℕ)) (name : List ℕ) (after : List (List ℕ))
+    → IsTrue (list_all is_option before) → IsTrue (is_some (verb_by_name name))
+    → meaning_of (before ++ name ∷ codes "--help" ∷ after) ≡ Ok (Help name)
+
+-- a short option but `-h` means the same before and after arguments without dashes, the first of
+-- which isn't `help`, unless it parts the command from a request
 abbrev pub OptionsFollowOperands : Type 0
 OptionsFollowOperands = (letter : ℕ) (before after : List (List ℕ))
-    → IsTrue (list_all is_plain before) → letter ≢ byte "-"
+    → IsTrue (list_all is_plain before) → first_word before ≢ codes "help"
+    → letter ≢ byte "-" → letter ≢ byte "h"
+    → (length before ≢ 1) ⊎ (request_by_word (first_word after) ≡ None)
     → meaning_of (before ++ short (letter ∷ []) ∷ after)
     ≡ meaning_of (short (letter ∷ []) ∷ before ++ after)
 
--- short options mean the same joined and apart
+-- short options mean the same joined and apart, but for `-h`, if the first ones are ASCII, so that
+-- no character is cut; the first of the arguments before them isn't `help`
 abbrev pub LettersJoin : Type 0
 LettersJoin = (a b : ℕ) (letters more : List ℕ) (before after : List (List ℕ))
-    → IsTrue (list_all is_plain before) → a ≢ byte "-" → b ≢ byte "-"
+    → IsTrue (list_all is_plain before) → first_word before ≢ codes "help"
+    → a ≢ byte "-" → b ≢ byte "-" → a ∷ letters ≢ codes "h" → b ∷ more ≢ codes "h"
+    → All (λ b. b < 128) (a ∷ letters)
     → meaning_of (before ++ short ((a ∷ letters) ++ b ∷ more) ∷ after)
     ≡ meaning_of (before ++ short (a ∷ letters) ∷ short (b ∷ more) ∷ after)
+
+-- the invocation, or the kind of the wrong usage
+abbrev pub kind_of : Meaning → Result InvocationValue UsageErrorKind
+kind_of (Ok invocation) = Ok invocation
+kind_of (Err usage) = Err usage.0
+
+-- whatever their bytes are, they ask for the same, or are wrong usage of the same kind
+abbrev pub LettersJoinInKind : Type 0
+LettersJoinInKind = (a b : ℕ) (letters more : List ℕ) (before after : List (List ℕ))
+    → IsTrue (list_all is_plain before) → first_word before ≢ codes "help"
+    → a ≢ byte "-" → b ≢ byte "-" → a ∷ letters ≢ codes "h" → b ∷ more ≢ codes "h"
+    → kind_of (meaning_of (before ++ short ((a ∷ letters) ++ b ∷ more) ∷ after))
+    ≡ kind_of (meaning_of (before ++ short (a ∷ letters) ∷ short (b ∷ more) ∷ after))
 
 -- a value means the same as the next argument and after a `=`
 abbrev pub ValueAfterEqualsSign : Type 0

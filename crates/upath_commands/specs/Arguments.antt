@@ -1,26 +1,29 @@
 -- The meaning of a list of arguments.
-use Rattle.std.specs.Prelude.{ℕ, Bool, false, ◌==◌, List, [], ◌∷◌, Option}
-use Rattle.std.specs.Prelude.{Some, None, Ok, Err, option_map, if◌then◌else◌}
-use Rattle.std.specs.Option.{is_some, option_or}
-use Rattle.std.specs.List.{filter_map, filter, find, last_or, list_any, position}
-use Rattle.std.specs.Str.{byte}
+use Rattle.std.specs.Prelude.{ℕ, Bool, true, false, ◌==◌, List, [], ◌∷◌, ◌++◌, length, Option}
+use Rattle.std.specs.Prelude.{Some, None, Ok, Err, codes, nat_le, nat_lt, option_map}
+use Rattle.std.specs.Prelude.{if◌then◌else◌}
+use Rattle.std.specs.Option.{is_some, option_or, option_to_list}
+use Rattle.std.specs.List.{before_first, filter_map, filter, find, last_or, list_any, position}
+use Rattle.std.specs.Str.{byte, bytes_eq}
 use Rattle.upath_commands.specs.declared.command.JoinRule.{JoinRule}
 use Rattle.upath_commands.specs.declared.command.JoinRule.TheVariants as rule
-use Rattle.upath_commands.specs.declared.command.Settings.{Settings}
 use Rattle.upath_commands.specs.declared.command.EscapesOptions.{EscapesOptions}
 use Rattle.upath_commands.specs.declared.command.SortOptions.{SortOptions}
 use Rattle.upath_commands.specs.declared.command.UnderOptions.{UnderOptions}
-use Rattle.upath_commands.specs.declared.items.ItemKind.TheVariants.{Operand, Value, Wrong}
+use Rattle.upath_commands.specs.declared.items.ItemKind.TheVariants.{Operand, Value, Wrong, Dashes}
 use Rattle.upath_commands.specs.declared.items.ItemKind.TheVariants as kind
 use Rattle.upath_commands.specs.declared.options.Flag.{Flag}
 use Rattle.upath_commands.specs.declared.options.Flag.TheVariants as option
+use Rattle.upath_commands.specs.declared.options.Request.{Request}
+use Rattle.upath_commands.specs.declared.options.Request.TheVariants as request
 use Rattle.upath_commands.specs.declared.options.Verb.{Verb}
 use Rattle.upath_commands.specs.declared.options.Verb.TheVariants as verb
 use Rattle.upath_commands.specs.declared.usage.UsageErrorKind.TheVariants as wrong
-use Rattle.upath_commands.specs.Invocations.{CommandValue, InvocationValue, Meaning, UsageValue}
+use Rattle.upath_commands.specs.Invocations.{CommandValue, InvocationValue, Meaning}
+use Rattle.upath_commands.specs.Invocations.{SettingsValue, UsageValue}
 use Rattle.upath_commands.specs.Invocations as value
 use Rattle.upath_commands.specs.Items.{ItemValue, items_after}
-use Rattle.upath_commands.specs.Options.{has_option, same_option, verb_by_name}
+use Rattle.upath_commands.specs.Options.{has_option, request_by_word, same_option, verb_by_name}
 
 -- the first result of `f` for these items
 abbrev pub first_of : {A : Type 0} → (ItemValue → Option A) → List ItemValue → Option A
@@ -36,44 +39,58 @@ is_given flag (other, bytes) = false
 abbrev pub has : List ItemValue → Flag → Bool
 has items flag = list_any (is_given flag) items
 
--- the invocation of `--help` or `--version`
-abbrev pub request_of : ItemValue → Option InvocationValue
-request_of (kind.Option option.Help, bytes) = Some value.Help
-request_of (kind.Option option.Version, bytes) = Some value.Version
-request_of _ = None
-
 -- the wrong usage that an item is for every command
 abbrev pub fault_of : ItemValue → Option UsageValue
 fault_of (Wrong wrong, bytes) = Some (wrong, bytes)
+fault_of (kind.Request request, bytes) = Some (wrong.MisplacedRequest, bytes)
 fault_of _ = None
 
+-- the wrong usage that an unknown option is: a letter after a dash, or a whole argument
+abbrev pub unknown_option : List ℕ → UsageValue
+unknown_option bytes =
+    (if length bytes == 1 then wrong.UnknownLetter else wrong.UnknownOption, bytes)
+
 -- the wrong usage that an item is if the command doesn't have this option
-abbrev pub refusal_of : Verb → ItemValue → Option UsageValue
-refusal_of verb (kind.Option flag, bytes) =
-    if has_option verb flag then None else Some (wrong.UnknownOption, bytes)
-refusal_of verb _ = None
+abbrev pub foreign_option : Verb → ItemValue → Option UsageValue
+foreign_option verb (kind.Option flag, bytes) =
+    if has_option verb flag then None else Some (unknown_option bytes)
+foreign_option verb _ = None
 
 -- the bytes of an operand
 abbrev pub operand_of : ItemValue → Option (List ℕ)
 operand_of (Operand, bytes) = Some bytes
 operand_of _ = None
 
--- the value of `--from`
-abbrev pub value_of : ItemValue → Option (List ℕ)
-value_of (Value, bytes) = Some bytes
-value_of _ = None
+-- the bytes of the operands
+abbrev pub operands_of : List ItemValue → List (List ℕ)
+operands_of items = filter_map operand_of items
 
--- the value of the last `--from`
-abbrev pub from_dir : List ItemValue → Option (List ℕ)
-from_dir items = last_or None (filter_map value_of items)
+-- the item is `--`
+abbrev pub is_dashes : ItemValue → Bool
+is_dashes (Dashes, bytes) = true
+is_dashes _ = false
+
+-- the number of operands before `--`, or 0 without it
+abbrev pub dashes_at : List ItemValue → ℕ
+dashes_at items =
+    if list_any is_dashes items then length (operands_of (before_first is_dashes items)) else 0
+
+-- the value of this option
+abbrev pub value_of : Flag → ItemValue → Option (List ℕ)
+value_of flag (Value given, bytes) = if same_option given flag then Some bytes else None
+value_of flag _ = None
+
+-- the last value of this option
+abbrev pub last_value : List ItemValue → Flag → Option (List ℕ)
+last_value items flag = last_or None (filter_map (value_of flag) items)
 
 -- the options that every command has
-abbrev pub settings_of : List ItemValue → Settings
+abbrev pub settings_of : List ItemValue → SettingsValue
 settings_of items = record {
   null = has items option.Null;
   pair = has items option.Pair;
   quiet = has items option.Quiet;
-  line_buffered = has items option.LineBuffered;
+  or = last_value items option.Or;
 }
 
 -- the options of `escapes`
@@ -86,13 +103,19 @@ abbrev pub under_options : List ItemValue → UnderOptions
 under_options items = record {
   inverted = has items option.Inverted;
   stripped = has items option.Strip;
-  by_parts = has items option.ByParts;
+  by_components = has items option.ByComponents;
 }
 
 -- the options of `sort`
 abbrev pub sort_options : List ItemValue → SortOptions
 sort_options items =
     record { unique = has items option.Unique; reversed = has items option.Reversed }
+
+-- the command that `sort` is with these options
+abbrev pub sort_command : List ItemValue → CommandValue
+sort_command items =
+    if has items option.Check then value.Check (sort_options items)
+    else value.Sort (sort_options items)
 
 -- the options of `join`, each with its rule
 abbrev pub join_rules : List (Flag × JoinRule)
@@ -107,7 +130,7 @@ only_rule [] = Some rule.Trusted
 only_rule (given ∷ []) = Some given.1
 only_rule _ = None
 
--- the rule of a join; two of its options contradict each other
+-- the rule of a join; two of its options exclude one another
 abbrev pub join_rule : List ItemValue → Option JoinRule
 join_rule items = only_rule (filter (λ row. has items row.0) join_rules)
 
@@ -115,90 +138,131 @@ join_rule items = only_rule (filter (λ row. has items row.0) join_rules)
 abbrev pub has_newline : List ℕ → Bool
 has_newline bytes = is_some (position (λ b. b == byte "\n") bytes)
 
--- the bytes have a NUL
-abbrev pub has_zero : List ℕ → Bool
-has_zero bytes = is_some (position (λ b. b == 0) bytes)
-
--- an operand with a newline is wrong usage if records end with newlines
+-- an operand or the value of `--or` with a newline is wrong usage if records end with newlines
 abbrev pub newline_fault : List ItemValue → List (List ℕ) → Option UsageValue
 newline_fault items operands =
     if has items option.Null then None
-    else option_map (λ operand. (wrong.NewlineInOperand, operand))
-    (find has_newline operands)
+    else option_map (λ bytes. (wrong.NewlineInOperand, bytes))
+    (find has_newline (operands ++ option_to_list (last_value items option.Or)))
 
 -- wrong usage, if there is any, or else the meaning
 abbrev pub refuse : Option UsageValue → Meaning → Meaning
 refuse (Some fault) meaning = Err fault
 refuse None meaning = meaning
 
--- the meaning of a command that takes no operand of its own
-abbrev pub each : CommandValue → List ItemValue → List (List ℕ) → Meaning
-each command items operands = Ok (value.Each command (settings_of items) operands)
+-- a command's name, what the arguments say, and the number of operands before `--`
+pub record Words : Type 0 where
+  pub name : List ℕ
+  pub items : List ItemValue
+  pub dashes : ℕ
+
+-- the meaning of a command for these paths, before which come `own` operands: its name, and ROOT or
+-- BASE. A `--` after those begins the paths, so that none of them is before it, and none is read.
+abbrev pub each : CommandValue → Words → ℕ → List (List ℕ) → Meaning
+each command words own [] =
+    Ok (value.Each command (settings_of words.items)
+    (if nat_le own words.dashes then Some [] else None))
+each command words own (path ∷ paths) =
+    if nat_lt own words.dashes then Err (wrong.BeforeDashes, path)
+    else Ok (value.Each command (settings_of words.items) (Some (path ∷ paths)))
 
 -- the meaning of a command whose first operand is its own
-abbrev pub each_after : (List ℕ → CommandValue) → UsageValue → List ItemValue → List (List ℕ)
-    → Meaning
-each_after command fault items [] = Err fault
-each_after command fault items (operand ∷ operands) = each (command operand) items operands
+abbrev pub each_after : (List ℕ → CommandValue) → UsageValue → Words → List (List ℕ) → Meaning
+each_after command fault words [] = Err fault
+each_after command fault words (operand ∷ paths) = each (command operand) words 2 paths
 
 -- the meaning of `equal` with these operands
-abbrev pub equal_meaning : List ℕ → List ItemValue → List (List ℕ) → Meaning
-equal_meaning name items (a ∷ b ∷ []) = Ok (value.Equal (settings_of items) a b)
-equal_meaning name items (a ∷ b ∷ c ∷ operands) = Err (wrong.UnexpectedOperand, c)
-equal_meaning name items _ = Err (wrong.MissingPair, name)
+abbrev pub equal_meaning : Words → List (List ℕ) → Meaning
+equal_meaning words (a ∷ b ∷ []) = Ok (value.Equal (settings_of words.items) a b)
+equal_meaning words (a ∷ b ∷ c ∷ operands) = Err (wrong.UnexpectedOperand, c)
+equal_meaning words _ = Err (wrong.MissingPair, words.name)
 
 -- the meaning of `join` with this rule
-abbrev pub join_meaning : Option JoinRule → List ℕ → List ItemValue → List (List ℕ) → Meaning
-join_meaning (Some rule) name items operands =
-    each_after (value.Join rule) (wrong.MissingRoot, name) items operands
-join_meaning None name items operands = Err (wrong.ContradictoryOptions, name)
+abbrev pub join_meaning : Option JoinRule → Words → List (List ℕ) → Meaning
+join_meaning (Some rule) words operands =
+    each_after (value.Join rule) (wrong.MissingRoot, words.name) words operands
+join_meaning None words operands = Err (wrong.ContradictoryOptions, words.name)
 
 -- the meaning of `relative` with this directory
-abbrev pub relative_meaning : Option (List ℕ) → List ℕ → List ItemValue → List (List ℕ) → Meaning
-relative_meaning (Some dir) name items operands = each (value.Relative dir) items operands
-relative_meaning None name items operands = Err (wrong.MissingFrom, name)
+abbrev pub relative_meaning : Option (List ℕ) → Words → List (List ℕ) → Meaning
+relative_meaning (Some dir) words operands = each (value.Relative dir) words 1 operands
+relative_meaning None words operands = Err (wrong.MissingFrom, words.name)
 
--- the meaning of a command, whose name is also passed, with these operands
-abbrev pub meaning_of_verb : Verb → List ℕ → List ItemValue → List (List ℕ) → Meaning
-meaning_of_verb verb.Canon name items operands = each value.Canon items operands
-meaning_of_verb verb.Resolve name items operands = each value.Resolve items operands
-meaning_of_verb verb.Parent name items operands = each value.Parent items operands
-meaning_of_verb verb.Name name items operands = each value.Name items operands
-meaning_of_verb verb.Stem name items operands = each value.Stem items operands
-meaning_of_verb verb.Extension name items operands = each value.Extension items operands
-meaning_of_verb verb.Parts name items operands =
-    let from_back = has items option.FromBack in
-    each (if from_back then value.PartsFromBack else value.Parts) items operands
-meaning_of_verb verb.Join name items operands = join_meaning (join_rule items) name items operands
-meaning_of_verb verb.Strip name items operands =
-    each_after value.Strip (wrong.MissingBase, name) items operands
-meaning_of_verb verb.Relative name items operands =
-    relative_meaning (from_dir items) name items operands
-meaning_of_verb verb.Key name items operands = each value.Key items operands
-meaning_of_verb verb.Unkey name items operands =
-    each (value.Unkey (has items option.Null)) items operands
-meaning_of_verb verb.Escapes name items operands =
-    each (value.Escapes (escapes_options items)) items operands
-meaning_of_verb verb.Under name items operands =
-    each_after (value.Under (under_options items)) (wrong.MissingBase, name) items operands
-meaning_of_verb verb.Sort name items operands =
-    each (value.Sort (sort_options items)) items operands
-meaning_of_verb verb.Uniq name items operands = each value.Uniq items operands
-meaning_of_verb verb.Equal name items operands = equal_meaning name items operands
+-- the meaning of a command with these operands after its name
+abbrev pub meaning_of_verb : Verb → Words → List (List ℕ) → Meaning
+meaning_of_verb verb.Canon words operands = each value.Canon words 1 operands
+meaning_of_verb verb.Resolve words operands = each value.Resolve words 1 operands
+meaning_of_verb verb.Parent words operands = each value.Parent words 1 operands
+meaning_of_verb verb.Ancestors words operands = each value.Ancestors words 1 operands
+meaning_of_verb verb.Name words operands = each value.Name words 1 operands
+meaning_of_verb verb.Stem words operands = each value.Stem words 1 operands
+meaning_of_verb verb.Extension words operands = each value.Extension words 1 operands
+meaning_of_verb verb.Parts words operands =
+    let from_back = has words.items option.FromBack in
+    each (if from_back then value.PartsFromBack else value.Parts) words 1 operands
+meaning_of_verb verb.Join words operands = join_meaning (join_rule words.items) words operands
+meaning_of_verb verb.Strip words operands =
+    each_after value.Strip (wrong.MissingBase, words.name) words operands
+meaning_of_verb verb.Relative words operands =
+    relative_meaning (last_value words.items option.From) words operands
+meaning_of_verb verb.Key words operands = each value.Key words 1 operands
+meaning_of_verb verb.Unkey words operands = each value.Unkey words 1 operands
+meaning_of_verb verb.Escapes words operands =
+    each (value.Escapes (escapes_options words.items)) words 1 operands
+meaning_of_verb verb.Under words operands =
+    each_after (value.Under (under_options words.items)) (wrong.MissingBase, words.name) words
+    operands
+meaning_of_verb verb.Sort words operands = each (sort_command words.items) words 1 operands
+meaning_of_verb verb.Uniq words operands = each value.Uniq words 1 operands
+meaning_of_verb verb.Equal words operands = equal_meaning words operands
 
--- the meaning of the command that was found under this name
-abbrev pub found_meaning : Option Verb → List ℕ → List ItemValue → List (List ℕ) → Meaning
-found_meaning None name items operands = Err (wrong.UnknownCommand, name)
-found_meaning (Some verb) name items operands =
-    refuse (first_of (refusal_of verb) items)
-    (refuse (newline_fault items operands) (meaning_of_verb verb name items operands))
+-- the meaning of the command that was found under its name
+abbrev pub found_meaning : Option Verb → Words → List (List ℕ) → Meaning
+found_meaning None words operands = Err (wrong.UnknownCommand, words.name)
+found_meaning (Some verb) words operands =
+    refuse (first_of (foreign_option verb) words.items)
+    (refuse (newline_fault words.items operands) (meaning_of_verb verb words operands))
 
 -- the meaning of operands, the first of which is the command
 abbrev pub command_meaning : List ItemValue → List (List ℕ) → Meaning
 command_meaning items [] = Err (wrong.MissingCommand, [])
-command_meaning items (name ∷ operands) = found_meaning (verb_by_name name) name items operands
+command_meaning items (name ∷ operands) =
+    found_meaning (verb_by_name name)
+    record { name = name; items = items; dashes = dashes_at items } operands
 
--- the meaning of `--help` or `--version`, or else this meaning
+-- what is asked for with this name of a command
+abbrev pub requested : Request → List ℕ → InvocationValue
+requested request.Help name = value.Help name
+requested request.Version name = value.Version
+
+-- what is asked for just after the command with this name
+abbrev pub request_after : List ℕ → List ItemValue → Option InvocationValue
+request_after name ((kind.Request asked, bytes) ∷ items) =
+    option_map (λ verb. requested asked name) (verb_by_name name)
+request_after name items = None
+
+-- what is asked for just after the command, which is the first operand
+abbrev pub asked_in : List ItemValue → Option InvocationValue
+asked_in [] = None
+asked_in ((Operand, name) ∷ items) = request_after name items
+asked_in (item ∷ items) = asked_in items
+
+-- what the first argument asks for in the place of a command
+abbrev pub request_of : List ℕ → Option Request
+request_of word = if bytes_eq word (codes "help") then Some request.Help else request_by_word word
+
+-- the first of these arguments, or no bytes
+abbrev pub first_word : List (List ℕ) → List ℕ
+first_word [] = []
+first_word (word ∷ words) = word
+
+-- what the first argument asks for in the place of a command
+abbrev pub asked_first : List (List ℕ) → Option InvocationValue
+asked_first [] = None
+asked_first (word ∷ words) =
+    option_map (λ asked. requested asked (first_word words)) (request_of word)
+
+-- the invocation that is asked for, or else this meaning
 abbrev pub request_or : Option InvocationValue → Meaning → Meaning
 request_or (Some invocation) meaning = Ok invocation
 request_or None meaning = meaning
@@ -206,18 +270,10 @@ request_or None meaning = meaning
 -- the meaning of these items
 abbrev pub meaning_of_items : List ItemValue → Meaning
 meaning_of_items items =
-    request_or (first_of request_of items)
-    (refuse (first_of fault_of items) (command_meaning items (filter_map operand_of items)))
+    request_or (asked_in items)
+    (refuse (first_of fault_of items) (command_meaning items (operands_of items)))
 
 -- the meaning of these arguments
 unfoldable pub meaning_of : List (List ℕ) → Meaning
-meaning_of arguments = meaning_of_items (items_after false arguments)
-
--- the command that is the first of these operands
-abbrev pub first_verb : List (List ℕ) → Option Verb
-first_verb [] = None
-first_verb (name ∷ operands) = verb_by_name name
-
--- the command that is the first operand among these arguments
-abbrev pub verb_asked : List (List ℕ) → Option Verb
-verb_asked arguments = first_verb (filter_map operand_of (items_after false arguments))
+meaning_of arguments =
+    request_or (asked_first arguments) (meaning_of_items (items_after None arguments))

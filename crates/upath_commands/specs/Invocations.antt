@@ -1,5 +1,5 @@
 -- Commands and invocations with bytes in place of paths.
-use Rattle.std.specs.Prelude.{ℕ, Bool, List, map, Result, Ok, Err}
+use Rattle.std.specs.Prelude.{ℕ, Bool, List, map, Option, option_map, Result, Ok, Err}
 use Rattle.unix_path.specs.declared.path.Path.{Path}
 use Rattle.upath_commands.specs.declared.command.Command.{Command}
 use Rattle.upath_commands.specs.declared.command.Command.TheVariants as command
@@ -18,6 +18,7 @@ pub data CommandValue : Type 0 where
   Canon : CommandValue
   Resolve : CommandValue
   Parent : CommandValue
+  Ancestors : CommandValue
   Name : CommandValue
   Stem : CommandValue
   Extension : CommandValue
@@ -27,18 +28,26 @@ pub data CommandValue : Type 0 where
   Strip : List ℕ → CommandValue
   Relative : List ℕ → CommandValue
   Key : CommandValue
-  Unkey : Bool → CommandValue
+  Unkey : CommandValue
   Escapes : EscapesOptions → CommandValue
   Under : UnderOptions → List ℕ → CommandValue
   Sort : SortOptions → CommandValue
+  Check : SortOptions → CommandValue
   Uniq : CommandValue
 
--- what a list of arguments asks for
+-- the options that every command has
+pub record SettingsValue : Type 0 where
+  pub null : Bool
+  pub pair : Bool
+  pub quiet : Bool
+  pub or : Option (List ℕ)
+
+-- what a list of arguments asks for; without a list of paths, those of the input
 pub data InvocationValue : Type 0 where
-  Help : InvocationValue
+  Help : List ℕ → InvocationValue
   Version : InvocationValue
-  Equal : Settings → List ℕ → List ℕ → InvocationValue
-  Each : CommandValue → Settings → List (List ℕ) → InvocationValue
+  Equal : SettingsValue → List ℕ → List ℕ → InvocationValue
+  Each : CommandValue → SettingsValue → Option (List (List ℕ)) → InvocationValue
 
 -- wrong usage: its kind, and the bytes of the argument that shows it
 abbrev pub UsageValue : Type 0
@@ -57,6 +66,7 @@ abbrev pub command_value : Command → CommandValue
 command_value command.Canon = Canon
 command_value command.Resolve = Resolve
 command_value command.Parent = Parent
+command_value command.Ancestors = Ancestors
 command_value command.Name = Name
 command_value command.Stem = Stem
 command_value command.Extension = Extension
@@ -66,19 +76,31 @@ command_value (command.Join rule root) = Join rule (path_bytes root)
 command_value (command.Strip base) = Strip (path_bytes base)
 command_value (command.Relative dir) = Relative (path_bytes dir)
 command_value command.Key = Key
-command_value (command.Unkey null) = Unkey null
+command_value command.Unkey = Unkey
 command_value (command.Escapes options) = Escapes options
 command_value (command.Under options base) = Under options (path_bytes base)
 command_value (command.Sort options) = Sort options
+command_value (command.Check options) = Check options
 command_value command.Uniq = Uniq
+
+-- the options, with the bytes that their view points to
+abbrev pub settings_value : Settings → SettingsValue
+settings_value settings = record {
+  null = settings.null;
+  pair = settings.pair;
+  quiet = settings.quiet;
+  or = option_map path_bytes settings.or;
+}
 
 -- the invocation, with the bytes that its views point to
 abbrev pub invocation_value : Invocation → InvocationValue
-invocation_value invocation.Help = Help
+invocation_value (invocation.Help name) = Help (path_bytes name)
 invocation_value invocation.Version = Version
-invocation_value (invocation.Equal settings a b) = Equal settings (path_bytes a) (path_bytes b)
-invocation_value (invocation.Each command settings operands) =
-    Each (command_value command) settings (map path_bytes operands.items)
+invocation_value (invocation.Equal settings a b) =
+    Equal (settings_value settings) (path_bytes a) (path_bytes b)
+invocation_value (invocation.Each command settings paths) =
+    Each (command_value command) (settings_value settings)
+    (option_map (λ paths. map path_bytes paths.items) paths)
 
 -- wrong usage, with the bytes that its view points to
 abbrev pub usage_value : UsageError → UsageValue

@@ -7,7 +7,8 @@ use Rattle.unix_path.specs.Parts.{Value, RootDir, CurDir, ParentDir, Normal, val
 use Rattle.path_runs.specs.Spelling.{spelling_of}
 use Rattle.path_keys.specs.Codes.{lowered}
 use Rattle.path_keys.specs.Keys.{key_of}
-use Rattle.upath_commands.specs.Arguments.{has_newline, has_zero}
+use Rattle.path_within.specs.Below.{has_nul}
+use Rattle.upath_commands.specs.Arguments.{has_newline}
 use Rattle.upath_commands.specs.Hex.{hex_value}
 
 -- what the next byte of a key is: the first of a code, one of a name or the 0 after it, or the one
@@ -51,7 +52,7 @@ unkeyed_path text = option_and_then key_path (hex_value text)
 
 -- the bytes have the byte that ends records: a NUL, if `null`, or a newline
 abbrev pub has_end : Bool → List ℕ → Bool
-has_end null p = if null then has_zero p else has_newline p
+has_end null p = if null then has_nul p else has_newline p
 
 -- this path, if it can be a record: if it doesn't have the byte that ends records
 abbrev pub if_record : Bool → List ℕ → Option (List ℕ)

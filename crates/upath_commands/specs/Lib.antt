@@ -2,13 +2,14 @@ pub mod Invocations
 pub mod Options
 pub mod Items
 pub mod Arguments
-pub mod ArgumentLaws
-pub mod Outputs
+pub mod Words
 pub mod Sorting
 pub mod Selections
 pub mod Records
 pub mod Hex
+pub mod Shown
 pub mod KeyTexts
+pub mod ArgumentLaws
 pub mod KeyLaws
 pub mod Escaping
 pub mod Answers
@@ -16,4 +17,6 @@ pub mod Commands
 pub mod Refusals
 pub mod Tasks
 pub mod Usage
+pub mod Outputs
+pub mod Replies
 pub mod Runs

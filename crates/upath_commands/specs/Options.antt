@@ -2,11 +2,13 @@
 use Rattle.std.specs.Prelude.{ℕ, Bool, true, false, ◌==◌, ◌||◌, List, [], ◌∷◌, Option, Some, None}
 use Rattle.std.specs.Prelude.{codes, option_map}
 use Rattle.std.specs.Option.{option_map_or}
-use Rattle.std.specs.List.{find}
+use Rattle.std.specs.List.{find, list_any}
 use Rattle.std.specs.Map.{lookup}
 use Rattle.std.specs.Str.{byte, bytes_eq}
 use Rattle.upath_commands.specs.declared.options.Flag.{Flag}
 use Rattle.upath_commands.specs.declared.options.Flag.TheVariants as option
+use Rattle.upath_commands.specs.declared.options.Request.{Request}
+use Rattle.upath_commands.specs.declared.options.Request.TheVariants as request
 use Rattle.upath_commands.specs.declared.options.Verb.{Verb}
 use Rattle.upath_commands.specs.declared.options.Verb.TheVariants as verb
 
@@ -16,6 +18,7 @@ verbs =
     (codes "canon", verb.Canon)
     ∷ (codes "resolve", verb.Resolve)
     ∷ (codes "parent", verb.Parent)
+    ∷ (codes "ancestors", verb.Ancestors)
     ∷ (codes "name", verb.Name)
     ∷ (codes "stem", verb.Stem)
     ∷ (codes "ext", verb.Extension)
@@ -81,9 +84,7 @@ options =
     row option.Null (Some (byte "z")) (Some (codes "null")) every
     ∷ row option.Pair (Some (byte "p")) (Some (codes "pair")) every
     ∷ row option.Quiet (Some (byte "q")) (Some (codes "quiet")) every
-    ∷ row option.LineBuffered None (Some (codes "line-buffered")) every
-    ∷ row option.Help None (Some (codes "help")) every
-    ∷ row option.Version None (Some (codes "version")) every
+    ∷ row option.Or None (Some (codes "or")) every
     ∷ row option.FromBack (Some (byte "b")) None only_parts
     ∷ row option.Beneath None (Some (codes "beneath")) only_join
     ∷ row option.InRoot None (Some (codes "in-root")) only_join
@@ -92,7 +93,8 @@ options =
     ∷ row option.Inverted (Some (byte "v")) None (λ v. only_escapes v || only_under v)
     ∷ row option.Reason None (Some (codes "reason")) only_escapes
     ∷ row option.Strip None (Some (codes "strip")) only_under
-    ∷ row option.ByParts None (Some (codes "by-parts")) only_under
+    ∷ row option.ByComponents None (Some (codes "by-components")) only_under
+    ∷ row option.Check (Some (byte "c")) None only_sort
     ∷ row option.Unique (Some (byte "u")) None only_sort
     ∷ row option.Reversed (Some (byte "r")) None only_sort ∷ []
 
@@ -101,20 +103,19 @@ abbrev pub option_number : Flag → ℕ
 option_number option.Null = 0
 option_number option.Pair = 1
 option_number option.Quiet = 2
-option_number option.LineBuffered = 3
-option_number option.Help = 4
-option_number option.Version = 5
-option_number option.FromBack = 6
-option_number option.Beneath = 7
-option_number option.InRoot = 8
-option_number option.Verbatim = 9
-option_number option.From = 10
-option_number option.Inverted = 11
-option_number option.Reason = 12
-option_number option.Strip = 13
-option_number option.ByParts = 14
-option_number option.Unique = 15
-option_number option.Reversed = 16
+option_number option.Or = 3
+option_number option.FromBack = 4
+option_number option.Beneath = 5
+option_number option.InRoot = 6
+option_number option.Verbatim = 7
+option_number option.From = 8
+option_number option.Inverted = 9
+option_number option.Reason = 10
+option_number option.Strip = 11
+option_number option.ByComponents = 12
+option_number option.Check = 13
+option_number option.Unique = 14
+option_number option.Reversed = 15
 
 -- the options are the same
 abbrev pub same_option : Flag → Flag → Bool
@@ -137,3 +138,22 @@ abbrev pub has_option : Verb → Flag → Bool
 has_option verb flag =
     let found = find (λ row. same_option row.flag flag) options in
     option_map_or (λ row. row.commands verb) found false
+
+-- the options that take a value, each after the argument that is it without one
+abbrev pub valued : List (List ℕ × Flag)
+valued = (codes "--from", option.From) ∷ (codes "--or", option.Or) ∷ []
+
+-- the option takes a value
+abbrev pub takes_value : Flag → Bool
+takes_value flag = list_any (λ row. same_option flag row.1) valued
+
+-- the arguments that ask for something in the place of a command
+abbrev pub requests : List (List ℕ × Request)
+requests =
+    (codes "--help", request.Help)
+    ∷ (codes "-h", request.Help)
+    ∷ (codes "--version", request.Version) ∷ []
+
+-- the request that this argument is
+abbrev pub request_by_word : List ℕ → Option Request
+request_by_word word = lookup (bytes_eq word) requests

@@ -1,11 +1,12 @@
 -- The paths that `sort` and `uniq` write, and their order.
-use Rattle.std.specs.Prelude.{ℕ, Bool, true, false, not, List, [], ◌∷◌, reverse, Option, Some}
-use Rattle.std.specs.Prelude.{None, if◌then◌else◌}
+use Rattle.std.specs.Prelude.{ℕ, Bool, true, false, not, List, [], ◌∷◌, reverse, Option, Some, None}
+use Rattle.std.specs.Prelude.{if◌then◌else◌}
 use Rattle.std.specs.List.{dedup, filter}
+use Rattle.std.specs.Option.{option_to_list}
 use Rattle.std.specs.Ordering.{is_eq, is_lt}
 use Rattle.unix_path.specs.Order.{values_cmp}
 use Rattle.unix_path.specs.Parts.{values}
-use Rattle.upath_commands.specs.Invocations.{CommandValue, Sort, Uniq}
+use Rattle.upath_commands.specs.Invocations.{CommandValue, Sort, Check, Uniq}
 use Rattle.upath_commands.specs.declared.command.SortOptions.{SortOptions}
 
 -- p comes before q in the order of paths
@@ -42,20 +43,34 @@ unfoldable pub firsts_of : List (List ℕ) → List (List ℕ)
 firsts_of [] = []
 firsts_of (p ∷ ps) = p ∷ filter (λ q. not (same_path p q)) (firsts_of ps)
 
--- the command writes the first of equal paths
+-- p may come just before q in a sorted list
+abbrev pub may_precede : SortOptions → List ℕ → List ℕ → Bool
+may_precede options p q =
+    let first = if options.reversed then q else p in
+    let second = if options.reversed then p else q in
+    if options.unique then comes_before first second else not (comes_before second first)
+
+-- the first of these paths that may not come just after the one before it, which is p at first
+abbrev pub out_of_order : SortOptions → List ℕ → List (List ℕ) → Option (List ℕ)
+out_of_order options p [] = None
+out_of_order options p (q ∷ qs) =
+    if may_precede options p q then out_of_order options q qs else Some q
+
+-- the first of these paths that is out of order
+abbrev pub disorder_of : SortOptions → List (List ℕ) → Option (List ℕ)
+disorder_of options [] = None
+disorder_of options (p ∷ ps) = out_of_order options p ps
+
+-- the command needs all paths before it answers
+abbrev pub is_gathered : CommandValue → Bool
+is_gathered (Sort options) = true
+is_gathered (Check options) = true
+is_gathered command = false
+
+-- the command prints the first of equal paths
 abbrev pub is_uniq : CommandValue → Bool
 is_uniq Uniq = true
 is_uniq command = false
-
--- the options of `sort`
-abbrev pub sort_options : CommandValue → Option SortOptions
-sort_options (Sort options) = Some options
-sort_options command = None
-
--- these paths, sorted if there are options
-abbrev pub arranged : Option SortOptions → List (List ℕ) → List (List ℕ)
-arranged (Some options) paths = sorted_of options paths
-arranged None paths = paths
 
 -- the first of equal paths if that is asked for, or all paths
 abbrev pub firsts_if : Bool → List (List ℕ) → List (List ℕ)
@@ -63,4 +78,7 @@ firsts_if firsts paths = if firsts then firsts_of paths else paths
 
 -- of the paths that are asked for those that the command answers, in their order
 abbrev pub chosen : CommandValue → List (List ℕ) → List (List ℕ)
-chosen command paths = arranged (sort_options command) (firsts_if (is_uniq command) paths)
+chosen (Sort options) paths = sorted_of options paths
+chosen (Check options) paths = option_to_list (disorder_of options paths)
+chosen Uniq paths = firsts_of paths
+chosen command paths = paths

@@ -1,34 +1,55 @@
 //! Laws of arguments: facts about their meaning, each available to a proof that calls it.
-ghost use Rattle.upath_commands.specs.ArgumentLaws.{HelpWins, LettersJoin};
+ghost use Rattle.upath_commands.specs.ArgumentLaws.{HelpAfterCommand, HelpFirst, LettersJoin};
+ghost use Rattle.upath_commands.specs.ArgumentLaws.{LettersJoinInKind};
 ghost use Rattle.upath_commands.specs.ArgumentLaws.{OptionsFollowOperands, PathsAfterDashes};
-ghost use Rattle.upath_commands.specs.ArgumentLaws.{ValueAfterEqualsSign};
+ghost use Rattle.upath_commands.specs.ArgumentLaws.{PathsAfterRoot, ValueAfterEqualsSign};
 
-/// After `-z` and `--`, each argument is a path, whatever its bytes are.
+/// After `-z` and `--`, each argument is a path, whatever its bytes are, and nothing is read.
 ///
 /// `upath canon -z -- --help` writes the canonical form of the path `--help`.
 pub fn paths_after_dashes()
     ensures { PathsAfterDashes }
 {}
 
-/// `--help` after arguments without leading dashes asks for help, whatever follows.
+/// After `-z`, ROOT and `--`, each argument is a path, whatever its bytes are, and nothing is read.
 ///
-/// `upath cannon a --help` asks for help, although there is no command `cannon`.
-pub fn help_wins()
-    ensures { HelpWins }
+/// `upath join -z --beneath a -- --help` joins the path `--help` to `a`.
+pub fn paths_after_root()
+    ensures { PathsAfterRoot }
+{}
+
+/// `--help` as the first argument asks for help, whatever follows.
+///
+/// `upath --help cannon -x` asks for help, although there is no command `cannon`.
+pub fn help_first()
+    ensures { HelpFirst }
+{}
+
+/// `--help` just after a command asks for help on it, whatever options precede the command, and
+/// whatever follows.
+///
+/// `upath -z canon --help -x` asks for help on `canon`, although `-x` is no option.
+pub fn help_after_command()
+    ensures { HelpAfterCommand }
 {}
 
 /// A short option means the same before and after arguments without leading dashes.
 ///
-/// `upath canon a -z` means the same as `upath -z canon a`.
+/// `upath canon a -z` means the same as `upath -z canon a`. A request must be the first argument or
+/// follow the command, so the law leaves out `-h`, `help` and an option between a command and a
+/// request.
 pub fn options_follow_operands()
     ensures { OptionsFollowOperands }
 {}
 
 /// Short options mean the same joined in one argument and in two arguments.
 ///
-/// `upath canon -zp` means the same as `upath canon -z -p`.
+/// `upath canon -zp` means the same as `upath canon -z -p`. The law leaves out the request `-h`. A
+/// message shows the whole character that is no option. So the letters of the first argument are
+/// ASCII (`whole`), or the kind of wrong usage is the same (`kind`).
 pub fn letters_join()
-    ensures { LettersJoin }
+    ensures whole { LettersJoin }
+    ensures kind { LettersJoinInKind }
 {}
 
 /// The value of `--from` means the same as an argument of its own and after a `=`.

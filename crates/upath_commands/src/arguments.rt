@@ -1,35 +1,40 @@
 //! The meaning of a list of arguments.
 ghost use Rattle.std.specs.Prelude.{◌≡◌, ◌∷◌, [], IfErr, IfOk, map};
-ghost use Rattle.std.specs.List.{filter_map};
-ghost use Rattle.upath_commands.specs.Arguments.{escapes_options, join_rule, meaning_of};
-ghost use Rattle.upath_commands.specs.Arguments.{command_meaning, meaning_of_items};
-ghost use Rattle.upath_commands.specs.Arguments.{meaning_of_verb, operand_of, settings_of};
-ghost use Rattle.upath_commands.specs.Arguments.{verb_asked};
-ghost use Rattle.upath_commands.specs.Arguments.{each, equal_meaning, join_meaning, sort_options};
-ghost use Rattle.upath_commands.specs.Arguments.{under_options};
-ghost use Rattle.upath_commands.specs.Invocations.{command_value, meaning_value, path_bytes};
-ghost use Rattle.upath_commands.specs.Invocations.{usage_value};
+ghost use Rattle.upath_commands.specs.Arguments.{asked_first, command_meaning, each, each_after};
+ghost use Rattle.upath_commands.specs.Arguments.{equal_meaning, escapes_options, first_word};
+ghost use Rattle.upath_commands.specs.Arguments.{join_meaning, join_rule, meaning_of};
+ghost use Rattle.upath_commands.specs.Arguments.{meaning_of_items, meaning_of_verb, operands_of};
+ghost use Rattle.upath_commands.specs.Arguments.{request_of, settings_of, sort_command};
+ghost use Rattle.upath_commands.specs.Arguments.{sort_options, under_options};
+ghost use Rattle.upath_commands.specs.Invocations.{command_value, invocation_value, meaning_value};
+ghost use Rattle.upath_commands.specs.Invocations.{path_bytes, settings_value, usage_value};
 ghost use Rattle.upath_commands.specs.Items.{item_value};
+ghost use Rattle.upath_commands.specs.Words.{words_value};
+ghost use Rattle.std.specs.Prelude.{option_map};
 
 use crate::command::{
     Command, EscapesOptions, Invocation, JoinRule, Settings, SortOptions, UnderOptions,
 };
 use crate::items::{Item, items_of};
-use crate::options::{Flag, Verb, verb_by_name};
-use crate::searches::{fault_in, from_dir, has, newline_in, operands_in, refusal_in, request_in};
+use crate::options::{Flag, Request, Verb, is, request_by_word, verb_by_name};
+use crate::searches::{
+    dashes_at, fault_in, foreign_option, has, last_value, newline_fault, operands_in, request_in,
+    requested,
+};
 use crate::usage::{UsageError, UsageErrorKind};
+use crate::words::Words;
 use std::alloc::{AllocError, Global};
 use unix_path::Path;
 
 // Returns the options that every command has.
-fn settings_of(items: &[Item<'_>]) -> Settings
-    ensures { result ≡ settings_of (map item_value items.now) }
+fn settings_of<'a>(items: &[Item<'a>]) -> Settings<'a>
+    ensures { settings_value result ≡ settings_of (map item_value items.now) }
 {
     Settings {
         null: has(items, Flag::Null),
         pair: has(items, Flag::Pair),
         quiet: has(items, Flag::Quiet),
-        line_buffered: has(items, Flag::LineBuffered),
+        or: last_value(items, Flag::Or),
     }
 }
 
@@ -50,7 +55,7 @@ fn under_options(items: &[Item<'_>]) -> UnderOptions
     UnderOptions {
         inverted: has(items, Flag::Inverted),
         stripped: has(items, Flag::Strip),
-        by_parts: has(items, Flag::ByParts),
+        by_components: has(items, Flag::ByComponents),
     }
 }
 
@@ -61,6 +66,18 @@ fn sort_options(items: &[Item<'_>]) -> SortOptions
     SortOptions {
         unique: has(items, Flag::Unique),
         reversed: has(items, Flag::Reversed),
+    }
+}
+
+// Returns the command that `sort` is with these options.
+fn sort_command<'a>(items: &[Item<'_>]) -> Command<'a>
+    ensures { command_value result ≡ sort_command (map item_value items.now) }
+{
+    let options = sort_options(items);
+    if has(items, Flag::Check) {
+        Command::Check(options)
+    } else {
+        Command::Sort(options)
     }
 }
 
@@ -100,134 +117,144 @@ fn take_operand<'a>(
     Ok(operands.remove(0))
 }
 
+// Returns the meaning of a command for these paths, before which come `own` operands: its name, and
+// ROOT or BASE.
+fn each<'a>(
+    command: Command<'a>,
+    words: Words<'a, '_>,
+    own: usize,
+    operands: Vec<Path<'a>>,
+) -> Result<Invocation<'a>, UsageError<'a>>
+    ensures { meaning_value result ≡ each (command_value command.entry) (words_value words.entry)
+        own (map path_bytes operands.entry.items) }
+{
+    let settings = settings_of(words.items);
+    match operands.first() {
+        Some(path) if own < words.dashes => Err(UsageError {
+            kind: UsageErrorKind::BeforeDashes,
+            argument: *path,
+        }),
+        None if own > words.dashes => Ok(Invocation::Each(command, settings, None)),
+        _ => Ok(Invocation::Each(command, settings, Some(operands))),
+    }
+}
+
 // Returns the meaning of `equal` with these operands.
 fn equal_of<'a>(
-    name: Path<'a>,
-    items: &[Item<'a>],
+    words: Words<'a, '_>,
     operands: &[Path<'a>],
 ) -> Result<Invocation<'a>, UsageError<'a>>
-    ensures { meaning_value result ≡ equal_meaning (path_bytes name.entry)
-        (map item_value items.now) (map path_bytes operands.now) }
+    ensures { meaning_value result ≡ equal_meaning (words_value words.entry)
+        (map path_bytes operands.now) }
 {
     match operands {
-        [a, b] => Ok(Invocation::Equal(settings_of(items), *a, *b)),
+        [a, b] => Ok(Invocation::Equal(settings_of(words.items), *a, *b)),
         [_, _, c, ..] => Err(UsageError {
             kind: UsageErrorKind::UnexpectedOperand,
             argument: *c,
         }),
         _ => Err(UsageError {
             kind: UsageErrorKind::MissingPair,
-            argument: name,
+            argument: words.name,
         }),
     }
-}
-
-// Returns the invocation of a command for each of these operands.
-fn each<'a>(
-    command: Command<'a>,
-    items: &[Item<'a>],
-    operands: Vec<Path<'a>>,
-) -> Result<Invocation<'a>, UsageError<'a>>
-    ensures { meaning_value result ≡ each (command_value command.entry) (map item_value items.now)
-        (map path_bytes operands.entry.items) }
-{
-    Ok(Invocation::Each(command, settings_of(items), operands))
 }
 
 // Returns the meaning of `join` with these operands.
 fn join_of<'a>(
-    name: Path<'a>,
-    items: &[Item<'a>],
+    words: Words<'a, '_>,
     mut operands: Vec<Path<'a>>,
 ) -> Result<Invocation<'a>, UsageError<'a>>
-    ensures { let shown = map item_value items.now in meaning_value result
-        ≡ join_meaning (join_rule shown) (path_bytes name.entry) shown
-        (map path_bytes operands.entry.items) }
+    ensures { let value = words_value words.entry in meaning_value result
+        ≡ join_meaning (join_rule value.items) value (map path_bytes operands.entry.items) }
 {
-    let Some(rule) = join_rule(items) else {
+    let Some(rule) = join_rule(words.items) else {
         return Err(UsageError {
             kind: UsageErrorKind::ContradictoryOptions,
-            argument: name,
+            argument: words.name,
         });
     };
-    let root = take_operand(&mut operands, UsageErrorKind::MissingRoot, name)?;
-    each(Command::Join(rule, root), items, operands)
+    let root = take_operand(&mut operands, UsageErrorKind::MissingRoot, words.name)?;
+    each(Command::Join(rule, root), words, 2, operands)
 }
 
 // Returns the meaning of `strip` with these operands.
 fn strip_of<'a>(
-    name: Path<'a>,
-    items: &[Item<'a>],
+    words: Words<'a, '_>,
     mut operands: Vec<Path<'a>>,
 ) -> Result<Invocation<'a>, UsageError<'a>>
-    ensures { meaning_value result ≡ meaning_of_verb Verb.Strip (path_bytes name.entry)
-        (map item_value items.now) (map path_bytes operands.entry.items) }
+    ensures { meaning_value result ≡ meaning_of_verb Verb.Strip (words_value words.entry)
+        (map path_bytes operands.entry.items) }
 {
-    let base = take_operand(&mut operands, UsageErrorKind::MissingBase, name)?;
-    each(Command::Strip(base), items, operands)
+    let base = take_operand(&mut operands, UsageErrorKind::MissingBase, words.name)?;
+    each(Command::Strip(base), words, 2, operands)
 }
 
 // Returns the meaning of `under` with these operands.
 fn under_of<'a>(
-    name: Path<'a>,
-    items: &[Item<'a>],
+    words: Words<'a, '_>,
     mut operands: Vec<Path<'a>>,
 ) -> Result<Invocation<'a>, UsageError<'a>>
-    ensures { meaning_value result ≡ meaning_of_verb Verb.Under (path_bytes name.entry)
-        (map item_value items.now) (map path_bytes operands.entry.items) }
+    ensures { meaning_value result ≡ meaning_of_verb Verb.Under (words_value words.entry)
+        (map path_bytes operands.entry.items) }
 {
-    let base = take_operand(&mut operands, UsageErrorKind::MissingBase, name)?;
-    each(Command::Under(under_options(items), base), items, operands)
+    let base = take_operand(&mut operands, UsageErrorKind::MissingBase, words.name)?;
+    each(
+        Command::Under(under_options(words.items), base),
+        words,
+        2,
+        operands,
+    )
 }
 
 // Returns the meaning of `relative` with these operands.
 fn relative_of<'a>(
-    name: Path<'a>,
-    items: &[Item<'a>],
+    words: Words<'a, '_>,
     operands: Vec<Path<'a>>,
 ) -> Result<Invocation<'a>, UsageError<'a>>
-    ensures { meaning_value result ≡ meaning_of_verb Verb.Relative (path_bytes name.entry)
-        (map item_value items.now) (map path_bytes operands.entry.items) }
+    ensures { meaning_value result ≡ meaning_of_verb Verb.Relative (words_value words.entry)
+        (map path_bytes operands.entry.items) }
 {
-    match from_dir(items) {
-        Some(dir) => each(Command::Relative(dir), items, operands),
+    match last_value(words.items, Flag::From) {
+        Some(dir) => each(Command::Relative(dir), words, 1, operands),
         None => Err(UsageError {
             kind: UsageErrorKind::MissingFrom,
-            argument: name,
+            argument: words.name,
         }),
     }
 }
 
-// Returns the meaning of a command, whose name is also passed, with these operands.
+// Returns the meaning of a command with these operands after its name.
 fn meaning_of_verb<'a>(
     verb: Verb,
-    name: Path<'a>,
-    items: &[Item<'a>],
+    words: Words<'a, '_>,
     operands: Vec<Path<'a>>,
 ) -> Result<Invocation<'a>, UsageError<'a>>
-    ensures { meaning_value result ≡ meaning_of_verb verb (path_bytes name.entry)
-        (map item_value items.now) (map path_bytes operands.entry.items) }
+    ensures { meaning_value result ≡ meaning_of_verb verb (words_value words.entry)
+        (map path_bytes operands.entry.items) }
 {
-    match verb {
-        Verb::Canon => each(Command::Canon, items, operands),
-        Verb::Resolve => each(Command::Resolve, items, operands),
-        Verb::Parent => each(Command::Parent, items, operands),
-        Verb::Name => each(Command::Name, items, operands),
-        Verb::Stem => each(Command::Stem, items, operands),
-        Verb::Extension => each(Command::Extension, items, operands),
-        Verb::Parts if has(items, Flag::FromBack) => each(Command::PartsFromBack, items, operands),
-        Verb::Parts => each(Command::Parts, items, operands),
-        Verb::Join => join_of(name, items, operands),
-        Verb::Strip => strip_of(name, items, operands),
-        Verb::Relative => relative_of(name, items, operands),
-        Verb::Key => each(Command::Key, items, operands),
-        Verb::Unkey => each(Command::Unkey(has(items, Flag::Null)), items, operands),
-        Verb::Escapes => each(Command::Escapes(escapes_options(items)), items, operands),
-        Verb::Under => under_of(name, items, operands),
-        Verb::Sort => each(Command::Sort(sort_options(items)), items, operands),
-        Verb::Uniq => each(Command::Uniq, items, operands),
-        Verb::Equal => equal_of(name, items, operands.as_slice()),
-    }
+    let command = match verb {
+        Verb::Canon => Command::Canon,
+        Verb::Resolve => Command::Resolve,
+        Verb::Parent => Command::Parent,
+        Verb::Ancestors => Command::Ancestors,
+        Verb::Name => Command::Name,
+        Verb::Stem => Command::Stem,
+        Verb::Extension => Command::Extension,
+        Verb::Parts if has(words.items, Flag::FromBack) => Command::PartsFromBack,
+        Verb::Parts => Command::Parts,
+        Verb::Join => return join_of(words, operands),
+        Verb::Strip => return strip_of(words, operands),
+        Verb::Relative => return relative_of(words, operands),
+        Verb::Key => Command::Key,
+        Verb::Unkey => Command::Unkey,
+        Verb::Escapes => Command::Escapes(escapes_options(words.items)),
+        Verb::Under => return under_of(words, operands),
+        Verb::Sort => sort_command(words.items),
+        Verb::Uniq => Command::Uniq,
+        Verb::Equal => return equal_of(words, operands.as_slice()),
+    };
+    each(command, words, 1, operands)
 }
 
 // Returns the meaning of operands, the first of which is the command.
@@ -246,13 +273,22 @@ fn command_of<'a>(
             argument: name,
         });
     };
-    if let Some(error) = refusal_in(verb, items) {
+    if let Some(error) = foreign_option(verb, items) {
         return Err(error);
     }
-    if let Some(error) = newline_in(items, operands.as_slice()) {
+    if let Some(error) = newline_fault(items, operands.as_slice()) {
         return Err(error);
     }
-    meaning_of_verb(verb, name, items, operands)
+    let dashes = dashes_at(items);
+    meaning_of_verb(
+        verb,
+        Words {
+            name,
+            items,
+            dashes,
+        },
+        operands,
+    )
 }
 
 // Returns the meaning of these items, whose operands are also passed.
@@ -260,8 +296,7 @@ fn meaning_of_items<'a>(
     items: &[Item<'a>],
     operands: Vec<Path<'a>>,
 ) -> Result<Invocation<'a>, UsageError<'a>>
-    requires { map path_bytes operands.items
-        ≡ filter_map operand_of (map item_value items.now) }
+    requires { map path_bytes operands.items ≡ operands_of (map item_value items.now) }
     ensures { meaning_value result ≡ meaning_of_items (map item_value items.now) }
 {
     if let Some(invocation) = request_in(items) {
@@ -273,29 +308,67 @@ fn meaning_of_items<'a>(
     command_of(items, operands)
 }
 
+// Returns the first of these arguments, or the empty path.
+fn first_word<'a>(arguments: &[Path<'a>]) -> Path<'a>
+    ensures { path_bytes result ≡ first_word (map path_bytes arguments.now) }
+{
+    match arguments {
+        [word, ..] => *word,
+        [] => Path { bytes: b"" },
+    }
+}
+
+// Returns what this word, as the first argument, asks for in the place of a command.
+fn request_of(word: &[u8]) -> Option<Request>
+    ensures { result ≡ request_of word.now }
+{
+    if is(word, b"help") {
+        return Some(Request::Help);
+    }
+    request_by_word(word)
+}
+
+// Returns what the first argument asks for in the place of a command.
+fn asked_first<'a>(arguments: &[Path<'a>]) -> Option<Invocation<'a>>
+    ensures { option_map invocation_value result ≡ asked_first (map path_bytes arguments.now) }
+{
+    match arguments {
+        [word, words @ ..] => {
+            let request = request_of(word.bytes)?;
+            Some(requested(request, first_word(words)))
+        }
+        [] => None,
+    }
+}
+
 /// Returns what the arguments, without the program's name, ask for, or why they are wrong usage.
 ///
-/// The rules are those of GNU's programs:
+/// The rules are those of GNU's programs, but that requests count only where they stand first:
+/// - `--help`, `-h` and `help` as the first argument ask for help on the command that the second
+///   argument names, or in general; `--version` asks for the version. So do `--help`, `-h` and
+///   `--version` just after the command's name. Elsewhere they are wrong usage.
 /// - An argument that begins with `--` is a long option, and one that begins with `-` is one short
 ///   option for each letter after the dash. All others are operands, and so is a single `-`.
 /// - Options may come before and after operands. A `--` ends them: it is no operand, and everything
 ///   after it is.
-/// - `--from` takes the next argument as its value, whatever that is, or what follows the `=` of
-///   `--from=DIR`. No other option takes a value.
+/// - `--from` and `--or` take the next argument as their value, whatever that is, or what follows
+///   the `=` of `--from=DIR`. No other option takes a value.
 /// - Names of options and commands are written out: abbreviations are unknown.
-/// - An option may be repeated. The last `--from` counts.
+/// - An option may be repeated. The last `--from` and the last `--or` count.
 ///
 /// The first operand is the command. `join`, `strip` and `under` take the next one as ROOT or BASE,
-/// `equal` takes exactly two, and all others are paths.
+/// `equal` takes exactly two, and all others are paths. Without paths those of the input are asked
+/// for, unless `--` comes after the command and its ROOT or BASE: then only what follows it are
+/// paths, even if that is nothing.
 ///
-/// The first `--help` or `--version` wins over everything else, wrong usage included. Otherwise the
-/// first of these is reported:
-/// 1. an unknown option, a `--from` without a value, or a value for another option;
+/// Of wrong usage, the first of these is reported:
+/// 1. an unknown option, an option without its value, a value for another option, or a request that
+///    doesn't count;
 /// 2. no command, or an unknown one;
 /// 3. an option that this command doesn't have;
-/// 4. without `-z`, an operand with a newline;
+/// 4. without `-z`, an operand or a value of `--or` with a newline;
 /// 5. two of `--beneath`, `--in-root` and `--verbatim`;
-/// 6. a missing or surplus operand, or no `--from` for `relative`.
+/// 6. a missing or surplus operand, no `--from` for `relative`, or a path before `--`.
 ///
 /// Allocates for what the arguments say, and for the operands. Fails only if an allocation fails.
 ///
@@ -309,6 +382,9 @@ pub fn invocation_of<'a>(
     ensures { IfOk result (λ meaning. meaning_value meaning
         ≡ meaning_of (map path_bytes arguments.now)) }
 {
+    if let Some(invocation) = asked_first(arguments) {
+        return Ok(Ok(invocation));
+    }
     let items = items_of(alloc, arguments)?;
     let operands = operands_in(alloc, items.as_slice())?;
     Ok(meaning_of_items(items.as_slice(), operands))
@@ -328,20 +404,4 @@ pub fn argument_paths(alloc: Global, arguments: &[Vec<u8>]) -> Result<Vec<Path<'
         paths.push(Path::from_bytes(argument.as_slice()))?;
     }
     Ok(paths)
-}
-
-/// Returns the command that is the first operand, or `None` if there is none or it is unknown.
-///
-/// `--help` shows the help text of this command. Fails only if an allocation fails.
-///
-/// For `--help` and `canon` it is `Verb::Canon`.
-pub fn command_asked(alloc: Global, arguments: &[Path<'_>]) -> Result<Option<Verb>, AllocError>
-    ensures { IfOk result (λ found. found ≡ verb_asked (map path_bytes arguments.now)) }
-{
-    let shown = items_of(alloc, arguments)?;
-    let operands = operands_in(alloc, shown.as_slice())?;
-    match operands.as_slice() {
-        [name, ..] => Ok(verb_by_name(name.bytes)),
-        [] => Ok(None),
-    }
 }

@@ -1,18 +1,16 @@
 //! The answers of `strip`, `under` and `relative`, which compare a path with a base.
-ghost use Rattle.std.specs.Prelude.{◌≡◌, Some, IfOk, option_map};
-ghost use Rattle.unix_path.specs.Buffers.{path_bytes};
-ghost use Rattle.unix_path.specs.Parts.{values};
-ghost use Rattle.std.specs.Prelude.{true};
-ghost use Rattle.upath_commands.specs.Answers.{passed_of, relative_of, rest_after, rest_below};
-ghost use Rattle.upath_commands.specs.Answers.{rest_under, Pushes, PushesFound};
+ghost use Rattle.std.specs.Prelude.{◌≡◌, IfOk, option_map};
+ghost use Rattle.unix_path.specs.Pointers.{cow_bytes};
+ghost use Rattle.upath_commands.specs.Answers.{dot_if_empty, Finds, relative_of, rest_after};
+ghost use Rattle.upath_commands.specs.Answers.{rest_below, rest_under, under_answer};
 
-use crate::command::{Settings, UnderOptions};
-use crate::push::push_answer;
+use crate::answer::{dot_if_empty, dotted};
+use crate::command::UnderOptions;
 use path_within::relative::relative_path;
 use path_within::resolved::resolved;
 use path_within::within::has_root_or_parent_dir;
-use std::alloc::AllocError;
-use unix_path::Path;
+use std::alloc::{AllocError, Global};
+use unix_path::{CowPath, Path};
 
 // Returns what follows the base, if the path starts with its components.
 #[tactic(auto, using(crate::proofs::TestLemmas::rest_after_found))]
@@ -35,77 +33,67 @@ fn rest_below<'a>(base: Path<'_>, path: Path<'a>) -> Option<Path<'a>>
     Some(rest)
 }
 
-// Answers with what follows the base.
-pub(crate) fn push_stripped(
-    base: Path<'_>,
-    path: Path<'_>,
-    settings: Settings,
-    out: &mut Vec<u8>,
-) -> Result<bool, AllocError>
-    ensures { PushesFound result out.old.items out.new.items settings path.entry.bytes.now
-        (rest_after base.entry.bytes.now path.entry.bytes.now) }
+// Returns what follows the base, or `.` in place of the empty path.
+pub(crate) fn strip_answer<'a>(base: Path<'_>, path: Path<'a>) -> Option<CowPath<'a>>
+    ensures { option_map cow_bytes result
+        ≡ option_map dot_if_empty (rest_after base.entry.bytes.now path.entry.bytes.now) }
 {
     match rest_after(base, path) {
-        Some(rest) => push_answer(path, rest.bytes, settings, out),
-        None => Ok(false),
+        Some(rest) => Some(CowPath::Borrowed(dot_if_empty(rest))),
+        None => None,
     }
 }
 
-// Answers with the relative path from a directory.
-pub(crate) fn push_relative(
+// Returns the relative path from a directory, or `.` in place of the empty path.
+pub(crate) fn relative_answer<'a>(
+    alloc: Global,
     from: Path<'_>,
     path: Path<'_>,
-    settings: Settings,
-    out: &mut Vec<u8>,
-) -> Result<bool, AllocError>
-    ensures { PushesFound result out.old.items out.new.items settings path.entry.bytes.now
-        (relative_of from.entry.bytes.now path.entry.bytes.now) }
+) -> Result<Option<CowPath<'a>>, AllocError>
+    ensures { Finds result
+        (option_map dot_if_empty (relative_of from.entry.bytes.now path.entry.bytes.now)) }
 {
-    match relative_path(*out.allocator(), from, path)? {
-        Some(answer) => push_answer(path, answer.as_path().bytes, settings, out),
-        None => Ok(false),
+    match relative_path(alloc, from, path)? {
+        Some(answer) => Ok(Some(dotted(answer))),
+        None => Ok(None),
     }
 }
 
-// Passes a path on, if this is what follows the base in it.
-fn push_passed(
+// Returns what `under` prints for a path, if this is what follows the base in it.
+fn selected_answer<'a>(
+    alloc: Global,
     options: UnderOptions,
+    path: Path<'a>,
     rest: Option<Path<'_>>,
-    path: Path<'_>,
-    settings: Settings,
-    out: &mut Vec<u8>,
-) -> Result<bool, AllocError>
-    ensures { Pushes result out.old.items out.new.items settings path.entry.bytes.now
-        (passed_of options path.entry.bytes.now
-        (option_map (λ rest. rest.bytes.now) rest.entry)) true }
+) -> Result<Option<CowPath<'a>>, AllocError>
+    ensures { Finds result (under_answer options path.entry.bytes.now
+        (option_map (λ rest. rest.bytes.now) rest.entry)) }
 {
-    match rest {
-        None if options.inverted => push_answer(path, path.bytes, settings, out),
-        Some(rest) if !options.inverted && options.stripped => push_answer(
-            path, rest.bytes, settings, out,
-        ),
-        Some(_) if !options.inverted => push_answer(path, path.bytes, settings, out),
-        _ => Ok(true),
-    }
+    Ok(match rest {
+        None if options.inverted => Some(CowPath::Borrowed(path)),
+        Some(rest) if !options.inverted && options.stripped => {
+            Some(CowPath::Owned(dot_if_empty(rest).to_path_buf(alloc)?))
+        }
+        Some(_) if !options.inverted => Some(CowPath::Borrowed(path)),
+        _ => None,
+    })
 }
 
-// Passes a path on, if it is below the base.
-pub(crate) fn push_under(
+// Returns what `under` prints for a path, if anything.
+pub(crate) fn under_answer<'a>(
+    alloc: Global,
     options: UnderOptions,
     base: Path<'_>,
-    path: Path<'_>,
-    settings: Settings,
-    out: &mut Vec<u8>,
-) -> Result<bool, AllocError>
-    ensures { Pushes result out.old.items out.new.items settings path.entry.bytes.now
-        (passed_of options path.entry.bytes.now
-        (rest_under options base.entry.bytes.now path.entry.bytes.now)) true }
+    path: Path<'a>,
+) -> Result<Option<CowPath<'a>>, AllocError>
+    ensures { Finds result (under_answer options path.entry.bytes.now
+        (rest_under options base.entry.bytes.now path.entry.bytes.now)) }
 {
-    if options.by_parts {
-        return push_passed(options, rest_after(base, path), path, settings, out);
+    if options.by_components {
+        return selected_answer(alloc, options, path, rest_after(base, path));
     }
-    let base = resolved(*out.allocator(), base)?;
-    let resolved = resolved(*out.allocator(), path)?;
+    let base = resolved(alloc, base)?;
+    let resolved = resolved(alloc, path)?;
     let rest = rest_below(base.as_path(), resolved.as_path());
-    push_passed(options, rest, path, settings, out)
+    selected_answer(alloc, options, path, rest)
 }

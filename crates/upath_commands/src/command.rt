@@ -2,9 +2,9 @@
 
 use unix_path::Path;
 
-/// What happens to a path that is joined to a root.
+/// How a path is joined to a root.
 ///
-/// `JoinRule::Beneath` refuses `..`, and `JoinRule::InRoot` joins it as the root itself.
+/// `JoinRule::Beneath` refuses a path that escapes, and `JoinRule::InRoot` keeps it at the root.
 #[derive(Clone, Copy, Debug, PartialEq, Eq)]
 pub enum JoinRule {
     /// The path is trusted: one with a root replaces the root that it is joined to.
@@ -22,9 +22,9 @@ pub enum JoinRule {
 /// `upath escapes -v` sets `inverted`.
 #[derive(Clone, Copy)]
 pub struct EscapesOptions {
-    /// The other paths pass: those that don't escape.
+    /// The other paths are printed: those that stay.
     pub inverted: bool,
-    /// The reason comes before each path that escapes.
+    /// The reason is printed before each path that doesn't stay.
     pub with_reason: bool,
 }
 
@@ -33,12 +33,12 @@ pub struct EscapesOptions {
 /// `upath under --strip a` sets `stripped`.
 #[derive(Clone, Copy)]
 pub struct UnderOptions {
-    /// The other paths pass: those that are not below the base.
+    /// The other paths are printed: those that are not below the base.
     pub inverted: bool,
-    /// Only what follows the base is written.
+    /// Only what follows the base is printed.
     pub stripped: bool,
     /// The paths are compared without resolving them, as by `Path::starts_with`.
-    pub by_parts: bool,
+    pub by_components: bool,
 }
 
 /// The options of the command `sort`.
@@ -46,9 +46,9 @@ pub struct UnderOptions {
 /// `upath sort -u` sets `unique`.
 #[derive(Clone, Copy)]
 pub struct SortOptions {
-    /// Only the first of equal paths is written.
+    /// Only the first of equal paths is printed.
     pub unique: bool,
-    /// The paths are written from the last one to the first.
+    /// The paths are printed from the last one to the first.
     pub reversed: bool,
 }
 
@@ -57,40 +57,43 @@ pub struct SortOptions {
 /// `upath strip a` asks for `Command::Strip` of the path `a`.
 #[derive(Clone, Copy)]
 pub enum Command<'a> {
-    /// Writes the canonical form.
+    /// Prints the canonical form.
     Canon,
-    /// Writes the path with each `..` resolved lexically.
+    /// Prints the path with each `..` resolved lexically.
     Resolve,
-    /// Writes the parent.
+    /// Prints the parent.
     Parent,
-    /// Writes the file name.
+    /// Prints the path and each of its parents.
+    Ancestors,
+    /// Prints the file name.
     Name,
-    /// Writes the file stem.
+    /// Prints the file stem.
     Stem,
-    /// Writes the extension.
+    /// Prints the extension.
     Extension,
-    /// Writes each component.
+    /// Prints each component.
     Parts,
-    /// Writes each component, the last one first.
+    /// Prints each component, the last one first.
     PartsFromBack,
-    /// Writes this root, joined with the path.
+    /// Prints this root, joined with the path.
     Join(JoinRule, Path<'a>),
-    /// Writes what follows this base.
+    /// Prints what follows this base.
     Strip(Path<'a>),
-    /// Writes the relative path from this directory.
+    /// Prints the relative path from this directory.
     Relative(Path<'a>),
-    /// Writes the key in hexadecimal.
+    /// Prints the key in hexadecimal.
     Key,
-    /// Writes the path whose key in hexadecimal this is. If the value is false, newlines end
-    /// records, and a path with a newline is refused.
-    Unkey(bool),
-    /// Passes on paths that escape.
+    /// Prints the path whose key in hexadecimal this is.
+    Unkey,
+    /// Prints the paths that don't stay where they are joined to.
     Escapes(EscapesOptions),
-    /// Passes on paths at this base or below it.
+    /// Prints the paths at this base or below it.
     Under(UnderOptions, Path<'a>),
-    /// Writes all paths, in the order of paths.
+    /// Prints all paths, in the order of paths.
     Sort(SortOptions),
-    /// Passes on the first of equal paths.
+    /// Says whether the paths are in the order of paths.
+    Check(SortOptions),
+    /// Prints the first of equal paths.
     Uniq,
 }
 
@@ -98,15 +101,15 @@ pub enum Command<'a> {
 ///
 /// `upath canon -zq` sets `null` and `quiet`.
 #[derive(Clone, Copy)]
-pub struct Settings {
+pub struct Settings<'a> {
     /// Records end with a NUL, not with a newline.
     pub null: bool,
     /// Each answer comes after its path.
     pub pair: bool,
-    /// Nothing is written.
+    /// Nothing is printed.
     pub quiet: bool,
-    /// Each record is written at once.
-    pub line_buffered: bool,
+    /// This text is printed for a path without an answer.
+    pub or: Option<Path<'a>>,
 }
 
 /// What a list of arguments asks for.
@@ -114,12 +117,12 @@ pub struct Settings {
 /// `upath equal a b` asks for `Invocation::Equal` of the paths `a` and `b`.
 #[derive(Drop)]
 pub enum Invocation<'a> {
-    /// Write the help text.
-    Help,
-    /// Write the version.
+    /// Print the help text of the command with this name, or the general one if there is none.
+    Help(Path<'a>),
+    /// Print the version.
     Version,
-    /// Compare two paths. Nothing is written, and the status answers.
-    Equal(Settings, Path<'a>, Path<'a>),
-    /// Run a command for each of these paths, or for the paths on standard input if there are none.
-    Each(Command<'a>, Settings, Vec<Path<'a>>),
+    /// Compare two paths. Nothing is printed, and the status answers.
+    Equal(Settings<'a>, Path<'a>, Path<'a>),
+    /// Run a command for each of these paths, or for the paths on standard input.
+    Each(Command<'a>, Settings<'a>, Option<Vec<Path<'a>>>),
 }

@@ -1,15 +1,15 @@
-//! Paths that escape.
-ghost use Rattle.std.specs.Prelude.{◌≡◌, ◌++◌, ◌∷◌, IfOk, not, codes, if◌then◌else◌};
+//! Paths that escape, or have a NUL.
+ghost use Rattle.std.specs.Prelude.{◌≡◌, ◌++◌, ◌∷◌, IfOk};
 ghost use Rattle.std.specs.Str.{byte};
-ghost use Rattle.unix_path.specs.Parts.{is_rooted};
-ghost use Rattle.upath_commands.specs.Answers.{escaping_of, Pushes};
+ghost use Rattle.unix_path.specs.Pointers.{cow_bytes};
+ghost use Rattle.upath_commands.specs.Answers.{escape_reason, escaping_of, Finds, is_refused};
 ghost use Rattle.upath_commands.specs.Escaping.{escapes};
 
-use crate::command::{EscapesOptions, Settings};
-use crate::push::push_answer;
-use path_within::within;
+use crate::answer::path_of_bytes;
+use crate::command::EscapesOptions;
+use path_within::{has_nul, within};
 use std::alloc::{AllocError, Global};
-use unix_path::Path;
+use unix_path::{CowPath, Path};
 
 // Returns true if the path escapes.
 pub(crate) fn escapes(path: Path<'_>) -> bool
@@ -18,42 +18,52 @@ pub(crate) fn escapes(path: Path<'_>) -> bool
     within::escapes(path)
 }
 
-// Returns the reason why a path escapes, a tab, and the path.
-fn with_reason(alloc: Global, path: Path<'_>) -> Result<Vec<u8>, AllocError>
-    ensures { IfOk result (λ line. line.items
-        ≡ (if is_rooted path.entry.bytes.now then codes "root" else codes "climbs")
-        ++ byte "\t" ∷ path.entry.bytes.now) }
+// Returns true if and only if the path escapes or has a NUL.
+pub(crate) fn is_refused(path: Path<'_>) -> bool
+    ensures { result ≡ is_refused path.entry.bytes.now }
 {
-    let mut line = Vec::new(alloc);
-    if path.has_root() {
-        line.extend_from_slice(b"root")?;
-    } else {
-        line.extend_from_slice(b"climbs")?;
-    }
-    line.push(b'\t')?;
-    line.extend_from_slice(path.bytes)?;
-    Ok(line)
+    escapes(path) || has_nul(path.bytes)
 }
 
-// Passes a path on, if it escapes. Returns false if it escapes.
-pub(crate) fn push_escaping(
-    options: EscapesOptions,
-    path: Path<'_>,
-    settings: Settings,
-    out: &mut Vec<u8>,
-) -> Result<bool, AllocError>
-    ensures { Pushes result out.old.items out.new.items settings path.entry.bytes.now
-        (escaping_of options path.entry.bytes.now) (not (escapes path.entry.bytes.now)) }
+// Returns the reason why a path is refused.
+fn escape_reason(path: Path<'_>) -> &'static [u8]
+    ensures { result.now ≡ escape_reason path.entry.bytes.now }
 {
-    let is_escaping = escapes(path);
-    if is_escaping == options.inverted {
-        return Ok(!is_escaping);
-    }
-    if is_escaping && options.with_reason {
-        let line = with_reason(*out.allocator(), path)?;
-        push_answer(path, line.as_slice(), settings, out)?;
+    if path.has_root() {
+        b"root"
+    } else if escapes(path) {
+        b"escapes"
     } else {
-        push_answer(path, path.bytes, settings, out)?;
+        b"nul"
     }
-    Ok(!is_escaping)
+}
+
+// Returns the reason why a path is refused, a tab, and the path.
+fn with_reason<'a>(alloc: Global, path: Path<'_>) -> Result<CowPath<'a>, AllocError>
+    ensures { IfOk result (λ answer. cow_bytes answer
+        ≡ escape_reason path.entry.bytes.now ++ byte "\t" ∷ path.entry.bytes.now) }
+{
+    let mut line = Vec::new(alloc);
+    line.extend_from_slice(escape_reason(path))?;
+    line.push(b'\t')?;
+    line.extend_from_slice(path.bytes)?;
+    Ok(path_of_bytes(line))
+}
+
+// Returns what `escapes` prints for a path, if anything.
+pub(crate) fn escapes_answer<'a>(
+    alloc: Global,
+    options: EscapesOptions,
+    path: Path<'a>,
+) -> Result<Option<CowPath<'a>>, AllocError>
+    ensures { Finds result (escaping_of options path.entry.bytes.now) }
+{
+    let is_refused = is_refused(path);
+    if is_refused == options.inverted {
+        return Ok(None);
+    }
+    if is_refused && options.with_reason {
+        return Ok(Some(with_reason(alloc, path)?));
+    }
+    Ok(Some(CowPath::Borrowed(path)))
 }

@@ -5,7 +5,7 @@ ghost use Rattle.upath_commands.specs.Hex.{byte_value, digit_value, hex_digit, h
 use std::alloc::{AllocError, Global};
 
 // Returns the digit of a number less than 16.
-fn hex_digit(number: u8) -> u8
+pub(crate) fn hex_digit(number: u8) -> u8
     requires { number < 16 }
     ensures { result ≡ hex_digit number }
 {

@@ -1,27 +1,39 @@
-//! What arguments say before the command is known: options, their values, and operands.
-ghost use Rattle.std.specs.Prelude.{◌≡◌, ◌++◌, ◌≤◌, ◌∷◌, [], IfOk, OnOk, map, length, false};
-ghost use Rattle.upath_commands.specs.Items.{argument_items, item_value, items_after, known};
-ghost use Rattle.upath_commands.specs.Items.{letter_items, long_items, operand};
+//! What arguments say before the command is known: options, their values, operands and requests.
+ghost use Rattle.std.specs.Prelude.{◌≡◌, ◌++◌, ◌≤◌, ◌<◌, ◌∷◌, [], IfOk, OnOk, map, length, None};
+ghost use Rattle.upath_commands.specs.Items.{argument_items, character, item_value, items_after};
+ghost use Rattle.upath_commands.specs.Items.{known, letter_item, letter_items, long_items};
+ghost use Rattle.upath_commands.specs.Items.{operand, option_items, valued_name, with_value};
 ghost use Rattle.upath_commands.specs.Invocations.{path_bytes};
-ghost use Rattle.upath_commands.specs.Items.{with_value};
+ghost use Rattle.upath_commands.specs.Options.{option_by_letter};
+ghost use Rattle.std.specs.Prelude.{slice_index, take};
+ghost use Rattle.unix_bytes.specs.Lossy.{is_text};
 
-use crate::options::{Flag, is, option_by_letter, option_by_name};
+use crate::options::{
+    Flag, Request, is, option_by_letter, option_by_name, request_by_word, takes_value,
+    value_awaited,
+};
 use crate::usage::UsageErrorKind;
 use std::alloc::{AllocError, Global};
+use unix_bytes::bytes::UnixStr;
+use unix_bytes::laws::tests_are_right;
 use unix_bytes::search::find_byte;
 use unix_path::Path;
 
-/// What an argument says, or a letter of it.
+/// The kind of an item.
 ///
 /// `a` is an `ItemKind::Operand`.
 #[derive(Clone, Copy)]
 pub enum ItemKind {
     /// An operand.
     Operand,
+    /// `--`, after which all arguments are operands.
+    Dashes,
     /// An option, which is known.
     Option(Flag),
-    /// The value of the option before it.
-    Value,
+    /// The value of this option.
+    Value(Flag),
+    /// `--help`, `-h` or `--version`.
+    Request(Request),
     /// Wrong usage, whatever the command is.
     Wrong(UsageErrorKind),
 }
@@ -31,7 +43,7 @@ pub enum ItemKind {
 /// `-zp` has two items, whose bytes are `z` and `p`.
 #[derive(Clone, Copy)]
 pub struct Item<'a> {
-    /// What the bytes say.
+    /// The kind of the item.
     pub kind: ItemKind,
     /// The argument, or the letter of a short option, or the value after a `=`.
     pub bytes: Path<'a>,
@@ -73,17 +85,15 @@ fn push_with_value<'a>(
     ensures { OnOk result (map item_value items.new.items
         ≡ map item_value items.old.items ++ with_value argument.now value.now kind) }
 {
-    match kind {
-        ItemKind::Option(Flag::From) => {
-            push_item(kind, argument, items)?;
-            push_item(ItemKind::Value, value, items)
-        }
-        ItemKind::Option(_) => {
-            let kind = ItemKind::Wrong(UsageErrorKind::UnexpectedValue);
-            push_item(kind, argument, items)
-        }
-        _ => push_item(kind, argument, items),
+    let ItemKind::Option(flag) = kind else {
+        return push_item(kind, argument, items);
+    };
+    if takes_value(flag) {
+        push_item(kind, argument, items)?;
+        return push_item(ItemKind::Value(flag), value, items);
     }
+    let kind = ItemKind::Wrong(UsageErrorKind::UnexpectedValue);
+    push_item(kind, argument, items)
 }
 
 // Appends the items of an argument that is `--` and this text.
@@ -104,22 +114,61 @@ fn push_long<'a>(
     }
 }
 
+// Returns true if and only if a prefix, or all of `bytes` if it is shorter, is valid UTF-8.
+fn begins_with_text(bytes: &[u8], len: usize) -> bool
+    ensures { result ≡ is_text (take len bytes.now) }
+{
+    tests_are_right();
+    let len = len.min(bytes.len());
+    UnixStr::from_bytes(&bytes[..len]).to_str().is_some()
+}
+
+// Returns the first character, or the first byte if no character comes first.
+fn character(bytes: &[u8]) -> &[u8]
+    ensures { result.now ≡ character bytes.now }
+{
+    let len = match () {
+        _ if begins_with_text(bytes, 1) => 1,
+        _ if begins_with_text(bytes, 2) => 2,
+        _ if begins_with_text(bytes, 3) => 3,
+        _ if begins_with_text(bytes, 4) => 4,
+        _ => 1,
+    };
+    &bytes[..bytes.len().min(len)]
+}
+
+// Appends the item of the first of these letters.
+fn push_letter<'a>(letters: &'a [u8], items: &mut Vec<Item<'a>>) -> Result<(), AllocError>
+    requires { 0 < length letters.now }
+    ensures { OnOk result (map item_value items.new.items ≡ map item_value items.old.items
+        ++ letter_item (option_by_letter (slice_index letters.now 0)) letters.now ∷ []) }
+{
+    match option_by_letter(letters[0]) {
+        Some(flag) => push_item(ItemKind::Option(flag), &letters[..1], items),
+        None => {
+            let kind = ItemKind::Wrong(UsageErrorKind::UnknownLetter);
+            push_item(kind, character(letters), items)
+        }
+    }
+}
+
 // Appends an item for each letter.
 fn push_letters<'a>(letters: &'a [u8], items: &mut Vec<Item<'a>>) -> Result<(), AllocError>
     ensures { OnOk result (map item_value items.new.items
         ≡ map item_value items.old.items ++ letter_items letters.now) }
 {
-    for (index, letter) in letters.iter().enumerate() {
-        let kind = known(option_by_letter(*letter));
-        push_item(kind, &letters[index..index + 1], items)?;
+    let mut index = 0;
+    while index < letters.len() {
+        push_letter(&letters[index..], items)?;
+        index += 1;
     }
     Ok(())
 }
 
-// Appends the items of an argument that may be an option.
-fn push_argument<'a>(argument: &'a [u8], items: &mut Vec<Item<'a>>) -> Result<(), AllocError>
+// Appends the items of an argument that is no request.
+fn push_option<'a>(argument: &'a [u8], items: &mut Vec<Item<'a>>) -> Result<(), AllocError>
     ensures { OnOk result (map item_value items.new.items
-        ≡ map item_value items.old.items ++ argument_items argument.now) }
+        ≡ map item_value items.old.items ++ option_items argument.now) }
 {
     if argument.starts_with(b"--") {
         push_long(argument, &argument[2..], items)
@@ -127,6 +176,17 @@ fn push_argument<'a>(argument: &'a [u8], items: &mut Vec<Item<'a>>) -> Result<()
         push_letters(&argument[1..], items)
     } else {
         push_item(ItemKind::Operand, argument, items)
+    }
+}
+
+// Appends the items of an argument that may be an option or a request.
+fn push_argument<'a>(argument: &'a [u8], items: &mut Vec<Item<'a>>) -> Result<(), AllocError>
+    ensures { OnOk result (map item_value items.new.items
+        ≡ map item_value items.old.items ++ argument_items argument.now) }
+{
+    match request_by_word(argument) {
+        Some(request) => push_item(ItemKind::Request(request), argument, items),
+        None => push_option(argument, items),
     }
 }
 
@@ -141,31 +201,53 @@ fn push_operands<'a>(arguments: &[Path<'a>], items: &mut Vec<Item<'a>>) -> Resul
     Ok(())
 }
 
+// Returns the argument that is this option, without a value.
+fn valued_name(option: Flag) -> &'static [u8]
+    ensures { result.now ≡ valued_name option }
+{
+    match option {
+        Flag::Or => b"--or",
+        _ => b"--from",
+    }
+}
+
+// Appends wrong usage, if an option still awaits its value.
+fn push_missing(awaits: Option<Flag>, items: &mut Vec<Item<'_>>) -> Result<(), AllocError>
+    ensures { OnOk result (map item_value items.new.items
+        ≡ map item_value items.old.items ++ items_after awaits []) }
+{
+    match awaits {
+        Some(flag) => {
+            let kind = ItemKind::Wrong(UsageErrorKind::MissingValue);
+            push_item(kind, valued_name(flag), items)
+        }
+        None => Ok(()),
+    }
+}
+
 /// Returns what the arguments say, in their order.
 ///
 /// The items of `canon` and `--null` are an operand and `Flag::Null`.
 pub fn items_of<'a>(alloc: Global, arguments: &[Path<'a>]) -> Result<Vec<Item<'a>>, AllocError>
     ensures { IfOk result (λ items. map item_value items.items
-        ≡ items_after false (map path_bytes arguments.now)) }
+        ≡ items_after None (map path_bytes arguments.now)) }
 {
     let mut items = Vec::new(alloc);
-    let mut awaits_value = false;
+    let mut awaits = None;
     for (index, argument) in arguments.iter().enumerate() {
         let argument = argument.bytes;
-        if awaits_value {
-            push_item(ItemKind::Value, argument, &mut items)?;
-            awaits_value = false;
+        if let Some(flag) = awaits {
+            push_item(ItemKind::Value(flag), argument, &mut items)?;
+            awaits = None;
         } else if is(argument, b"--") {
+            push_item(ItemKind::Dashes, argument, &mut items)?;
             push_operands(&arguments[index + 1..], &mut items)?;
             return Ok(items);
         } else {
             push_argument(argument, &mut items)?;
-            awaits_value = is(argument, b"--from");
+            awaits = value_awaited(argument);
         }
     }
-    if awaits_value {
-        let kind = ItemKind::Wrong(UsageErrorKind::MissingValue);
-        push_item(kind, b"--from", &mut items)?;
-    }
+    push_missing(awaits, &mut items)?;
     Ok(items)
 }

@@ -3,30 +3,28 @@ ghost use Rattle.std.specs.Prelude.{◌≡◌, IfOk, Some, option_map};
 ghost use Rattle.unix_path.specs.Buffers.{path_bytes};
 ghost use Rattle.unix_path.specs.Parts.{values};
 ghost use Rattle.path_keys.specs.Keys.{key_of};
-ghost use Rattle.upath_commands.specs.Answers.{PushesFound};
+ghost use Rattle.upath_commands.specs.Answers.{Finds};
 ghost use Rattle.upath_commands.specs.Hex.{hex_of};
 ghost use Rattle.upath_commands.specs.KeyTexts.{has_end, key_path, unkey_of, unkeyed_path};
 
-use crate::command::Settings;
+use crate::answer::path_of_bytes;
 use crate::hex::{hex_of, hex_value};
-use crate::push::push_answer;
-use crate::searches::{has_newline, has_zero};
+use crate::searches::has_newline;
 use path_keys::{KeyError, PathKey, path_of};
+use path_within::has_nul;
 use std::alloc::{AllocError, Global};
-use unix_path::{Path, PathBuf};
+use unix_path::{CowPath, Path, PathBuf};
 
-// Answers with the key in hexadecimal.
-pub(crate) fn push_key(
+// Returns the key in hexadecimal.
+pub(crate) fn key_answer<'a>(
+    alloc: Global,
     path: Path<'_>,
-    settings: Settings,
-    out: &mut Vec<u8>,
-) -> Result<bool, AllocError>
-    ensures { PushesFound result out.old.items out.new.items settings path.entry.bytes.now
-        (Some (hex_of (key_of (values path.entry.bytes.now)))) }
+) -> Result<Option<CowPath<'a>>, AllocError>
+    ensures { Finds result (Some (hex_of (key_of (values path.entry.bytes.now)))) }
 {
-    let key = PathKey::from_path(*out.allocator(), path)?;
-    let answer = hex_of(*out.allocator(), key.as_bytes())?;
-    push_answer(path, answer.as_slice(), settings, out)
+    let key = PathKey::from_path(alloc, path)?;
+    let text = hex_of(alloc, key.as_bytes())?;
+    Ok(Some(path_of_bytes(text)))
 }
 
 // Returns the canonical form of the paths with this key, or `None` if no path has it.
@@ -55,29 +53,22 @@ fn has_end(null: bool, bytes: &[u8]) -> bool
     ensures { result ≡ has_end null bytes.now }
 {
     if null {
-        has_zero(bytes)
+        has_nul(bytes)
     } else {
         has_newline(bytes)
     }
 }
 
-// Answers with the path of a key in hexadecimal. A path with the byte that ends records is no
-// answer.
-pub(crate) fn push_unkeyed(
+// Returns the path of a key in hexadecimal. Refuses a path with the byte that ends records.
+pub(crate) fn unkey_answer<'a>(
+    alloc: Global,
     null: bool,
     text: Path<'_>,
-    settings: Settings,
-    out: &mut Vec<u8>,
-) -> Result<bool, AllocError>
-    ensures { PushesFound result out.old.items out.new.items settings text.entry.bytes.now
-        (unkey_of null text.entry.bytes.now) }
+) -> Result<Option<CowPath<'a>>, AllocError>
+    ensures { Finds result (unkey_of null text.entry.bytes.now) }
 {
-    let Some(found) = unkeyed_path(*out.allocator(), text.bytes)? else {
-        return Ok(false);
-    };
-    let answer = found.as_path();
-    if has_end(null, answer.bytes) {
-        return Ok(false);
+    match unkeyed_path(alloc, text.bytes)? {
+        Some(path) if !has_end(null, path.as_path().bytes) => Ok(Some(CowPath::Owned(path))),
+        _ => Ok(None),
     }
-    push_answer(text, answer.bytes, settings, out)
 }

@@ -5,44 +5,52 @@
 //! buffer grows, and fails if the allocation fails. After a failed allocation the contents of that
 //! buffer are unspecified. Everything here is lexical: symbolic links are not followed. Indices and
 //! lengths count bytes.
+//!
+//! Three modules have laws, each of which a proof can use if it calls a function. [`argument_laws`]
+//! has those of arguments: `paths_after_dashes`, `paths_after_root`, `help_first`,
+//! `help_after_command`, `options_follow_operands`, `letters_join` and `value_after_equals_sign`.
+//! [`key_laws`] has those of keys, and [`sort_laws`] those of the order.
 #![tactic(auto)]
 
-mod answers;
+mod ancestors;
+mod answer;
 pub mod argument_laws;
 mod arguments;
 mod bases;
 mod command;
+mod engine;
 mod escapes;
 mod hex;
+mod input;
 mod items;
 mod joins;
 pub mod key_laws;
 mod keys;
-mod names;
 mod options;
 mod output;
 mod parts;
 mod push;
 mod reasons;
 mod records;
+mod replies;
 mod runs;
 mod searches;
 mod selection;
+mod shown;
 pub mod sort_laws;
 mod sorting;
 mod task;
 mod usage;
+mod words;
 
-pub use answers::{Answerer, answer_operands};
-pub use arguments::{argument_paths, command_asked, invocation_of};
+pub use arguments::{argument_paths, invocation_of};
 pub use command::{
     Command, EscapesOptions, Invocation, JoinRule, Settings, SortOptions, UnderOptions,
 };
-pub use options::Verb;
-pub use output::{Output, Refusals, RunError};
-pub use records::answer_input;
-pub use runs::{Texts, run_arguments};
+pub use output::RunError;
+pub use records::records_in;
+pub use replies::Replies;
+pub use runs::{HelpText, Texts, run_arguments};
 pub use selection::Selection;
-pub use sorting::{records_in, sort_paths};
-pub use task::Task;
+pub use sorting::sort_paths;
 pub use usage::{UsageError, UsageErrorKind};

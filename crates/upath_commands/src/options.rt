@@ -2,7 +2,9 @@
 ghost use Rattle.std.specs.Prelude.{◌≡◌};
 ghost use Rattle.std.specs.Str.{bytes_eq};
 ghost use Rattle.upath_commands.specs.Options.{has_option, option_by_letter, option_by_name};
-ghost use Rattle.upath_commands.specs.Options.{same_option, verb_by_name};
+ghost use Rattle.upath_commands.specs.Options.{request_by_word, same_option, takes_value};
+ghost use Rattle.upath_commands.specs.Options.{verb_by_name};
+ghost use Rattle.upath_commands.specs.Items.{value_awaited};
 
 /// An option.
 ///
@@ -15,12 +17,8 @@ pub enum Flag {
     Pair,
     /// `-q` or `--quiet`.
     Quiet,
-    /// `--line-buffered`.
-    LineBuffered,
-    /// `--help`.
-    Help,
-    /// `--version`.
-    Version,
+    /// `--or`, which takes a value.
+    Or,
     /// `-b`.
     FromBack,
     /// `--beneath`.
@@ -37,8 +35,10 @@ pub enum Flag {
     Reason,
     /// `--strip`.
     Strip,
-    /// `--by-parts`.
-    ByParts,
+    /// `--by-components`.
+    ByComponents,
+    /// `-c`.
+    Check,
     /// `-u`.
     Unique,
     /// `-r`.
@@ -56,6 +56,8 @@ pub enum Verb {
     Resolve,
     /// `parent`.
     Parent,
+    /// `ancestors`.
+    Ancestors,
     /// `name`.
     Name,
     /// `stem`.
@@ -98,6 +100,7 @@ pub fn option_by_letter(letter: u8) -> Option<Flag>
         b'q' => Some(Flag::Quiet),
         b'b' => Some(Flag::FromBack),
         b'v' => Some(Flag::Inverted),
+        b'c' => Some(Flag::Check),
         b'u' => Some(Flag::Unique),
         b'r' => Some(Flag::Reversed),
         _ => None,
@@ -124,16 +127,14 @@ pub fn option_by_name(name: &[u8]) -> Option<Flag>
         _ if is(name, b"null") => Some(Flag::Null),
         _ if is(name, b"pair") => Some(Flag::Pair),
         _ if is(name, b"quiet") => Some(Flag::Quiet),
-        _ if is(name, b"line-buffered") => Some(Flag::LineBuffered),
-        _ if is(name, b"help") => Some(Flag::Help),
-        _ if is(name, b"version") => Some(Flag::Version),
+        _ if is(name, b"or") => Some(Flag::Or),
         _ if is(name, b"beneath") => Some(Flag::Beneath),
         _ if is(name, b"in-root") => Some(Flag::InRoot),
         _ if is(name, b"verbatim") => Some(Flag::Verbatim),
         _ if is(name, b"from") => Some(Flag::From),
         _ if is(name, b"reason") => Some(Flag::Reason),
         _ if is(name, b"strip") => Some(Flag::Strip),
-        _ if is(name, b"by-parts") => Some(Flag::ByParts),
+        _ if is(name, b"by-components") => Some(Flag::ByComponents),
         _ => None,
     }
 }
@@ -148,6 +149,7 @@ pub fn verb_by_name(name: &[u8]) -> Option<Verb>
         _ if is(name, b"canon") => Some(Verb::Canon),
         _ if is(name, b"resolve") => Some(Verb::Resolve),
         _ if is(name, b"parent") => Some(Verb::Parent),
+        _ if is(name, b"ancestors") => Some(Verb::Ancestors),
         _ if is(name, b"name") => Some(Verb::Name),
         _ if is(name, b"stem") => Some(Verb::Stem),
         _ if is(name, b"ext") => Some(Verb::Extension),
@@ -178,9 +180,56 @@ pub fn has_option(verb: Verb, option: Flag) -> bool
         Flag::From => matches!(verb, Verb::Relative),
         Flag::Inverted => matches!(verb, Verb::Escapes | Verb::Under),
         Flag::Reason => matches!(verb, Verb::Escapes),
-        Flag::Strip | Flag::ByParts => matches!(verb, Verb::Under),
-        Flag::Unique | Flag::Reversed => matches!(verb, Verb::Sort),
-        Flag::Null | Flag::Pair | Flag::Quiet | Flag::LineBuffered => true,
-        Flag::Help | Flag::Version => true,
+        Flag::Strip | Flag::ByComponents => matches!(verb, Verb::Under),
+        Flag::Check | Flag::Unique | Flag::Reversed => matches!(verb, Verb::Sort),
+        Flag::Null | Flag::Pair | Flag::Quiet | Flag::Or => true,
+    }
+}
+
+/// What is asked for in the place of a command.
+///
+/// `--help` and `-h` are both `Request::Help`.
+#[derive(Clone, Copy, PartialEq, Eq)]
+pub enum Request {
+    /// `--help` or `-h`.
+    Help,
+    /// `--version`.
+    Version,
+}
+
+/// Returns the request that this argument is, or `None` if it is none.
+///
+/// For `-h` it is `Request::Help`, and for `-zh` there is none.
+pub fn request_by_word(word: &[u8]) -> Option<Request>
+    ensures { result ≡ request_by_word word.now }
+{
+    match () {
+        _ if is(word, b"--help") => Some(Request::Help),
+        _ if is(word, b"-h") => Some(Request::Help),
+        _ if is(word, b"--version") => Some(Request::Version),
+        _ => None,
+    }
+}
+
+/// Returns true if and only if the option takes a value.
+///
+/// `Flag::From` does.
+pub fn takes_value(option: Flag) -> bool
+    ensures { result ≡ takes_value option }
+{
+    matches!(option, Flag::From | Flag::Or)
+}
+
+/// Returns the option whose value is the next argument, or `None` if this argument is no such
+/// option.
+///
+/// For `--from` it is `Flag::From`, and for `--from=a` there is none.
+pub fn value_awaited(argument: &[u8]) -> Option<Flag>
+    ensures { result ≡ value_awaited argument.now }
+{
+    match () {
+        _ if is(argument, b"--from") => Some(Flag::From),
+        _ if is(argument, b"--or") => Some(Flag::Or),
+        _ => None,
     }
 }

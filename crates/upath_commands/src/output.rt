@@ -1,18 +1,20 @@
-//! What is written: answers, with a buffer before their writer, and reports.
-ghost use Rattle.std.specs.Prelude.{◌≡◌, ◌≢◌, ◌↔◌, ◌<◌, ◌++◌, [], length, false, true};
-ghost use Rattle.std.specs.Prelude.{OnOk, OnErr, IfOk, IfErr, codes, ◌∷◌};
-ghost use Rattle.std.specs.Str.{byte};
+//! Answers, with a buffer before their writer, and messages.
+ghost use Rattle.std.specs.Prelude.{◌≡◌, ◌≢◌, ◌↔◌, ◌<◌, ◌++◌, [], length, false};
+ghost use Rattle.std.specs.Prelude.{OnOk, OnErr, IfOk, IfErr, Bool, if◌then◌else◌};
 ghost use Rattle.std.specs.Io.{WritesAtMost};
 ghost use Rattle.std.specs.IoError.{error_kind};
 ghost use Rattle.std.specs.Io.KnownBytes.{Appends, WriteAppends};
 ghost use Rattle.upath_commands.specs.Outputs.{AppendsPrefix, Emits, EmitsPrefix, unwritten};
-ghost use Rattle.upath_commands.specs.Outputs.{IsOfWrite, is_line_buffered, line_of};
-ghost use Rattle.upath_commands.specs.Outputs.{Tells, error_text, has_failed, told_to, written_to};
+ghost use Rattle.upath_commands.specs.Outputs.{error_line, error_text, has_failed, IsOfWrite};
+ghost use Rattle.upath_commands.specs.Outputs.{line_of, Tells, told_to, written_to};
+ghost use Rattle.upath_commands.specs.Commands.{text_for};
 ghost use Rattle.upath_commands.specs.Invocations.{usage_value};
+ghost use Rattle.upath_commands.specs.Refusals.{message_for};
+ghost use Rattle.upath_commands.specs.Tasks.{answers, task_value};
 ghost use Rattle.upath_commands.specs.Usage.{usage_line};
 ghost use Rattle.upath_commands.specs.declared.output.RunError.TheVariants.{Memory};
 
-use crate::answers::Answerer;
+use crate::task::{Task, push_answers, push_message};
 use crate::usage::{UsageError, push_usage};
 use std::alloc::{AllocError, Global};
 use std::io;
@@ -35,6 +37,9 @@ pub enum RunError {
     Closed,
     /// An allocation failed.
     Memory,
+    /// An allocation failed before the arguments were understood. Nothing was read or written, and
+    /// the caller reports it.
+    Arguments,
 }
 
 /// Converts a failed allocation to `Memory`.
@@ -92,44 +97,29 @@ fn write_all<W: Write>(writer: &mut W, bytes: &[u8]) -> Result<(), RunError>
     Ok(())
 }
 
-/// A writer, and the output that is not yet written.
-///
-/// The output is written once it has 64 KiB or more, or after each record.
-///
-/// `Output::new(alloc, writer)` is an output without bytes.
+// A writer, and the answers that are not yet written.
+//
+// They are written once there are 64 KiB or more, before each read of the input, and at the end.
 #[derive(Drop)]
-pub struct Output<W> {
+pub(crate) struct Output<W> {
     writer: W,
     buffer: Vec<u8>,
-    is_line_buffered: bool,
 }
 
 impl<W: Write> Output<W> {
-    /// Creates an output without bytes before the writer.
-    ///
-    /// `Output::new(alloc, writer)` writes 64 KiB or more at once, and the rest at the end.
-    pub fn new(alloc: Global, writer: W) -> Output<W>
+    // Creates an output without bytes before the writer.
+    pub(crate) fn new(alloc: Global, writer: W) -> Output<W>
         ensures writer { written_to result ≡ writer }
         ensures empty { unwritten result ≡ [] }
     {
         Output {
             writer,
             buffer: Vec::new(alloc),
-            is_line_buffered: false,
         }
     }
 
-    // Sets whether the output is written after each record.
-    pub(crate) fn buffer_lines(&mut self, does_buffer: bool)
-        ensures writer { written_to self.new ≡ written_to self.old }
-        ensures bytes { unwritten self.new ≡ unwritten self.old }
-        ensures lines { is_line_buffered self.new ≡ does_buffer }
-    {
-        self.is_line_buffered = does_buffer;
-    }
-
-    // Writes the bytes that wait.
-    fn write_out(&mut self) -> Result<(), RunError>
+    // Writes the pending bytes.
+    pub(crate) fn write_out(&mut self) -> Result<(), RunError>
         ensures ok { OnOk result (Emits (W.contents (written_to self.old))
             (W.contents (written_to self.new)) (unwritten self.old) (unwritten self.new) []) }
         ensures none { OnOk result (unwritten self.new ≡ []) }
@@ -142,46 +132,41 @@ impl<W: Write> Output<W> {
         Ok(())
     }
 
-    // Answers a path. Returns true if it is answered.
-    pub(crate) fn answer<A: Answerer>(
-        &mut self,
-        answerer: &A,
-        path: Path<'_>,
-    ) -> Result<bool, RunError>
-        ensures ok { OnOk result (Emits (W.contents (written_to self.old))
+    // Adds what the task prints for a path. Returns true if the path is answered.
+    pub(crate) fn answer(&mut self, task: &Task<'_>, path: Path<'_>) -> Result<bool, RunError>
+        ensures ok { let value = task_value task.now in
+            OnOk result (Emits (W.contents (written_to self.old))
             (W.contents (written_to self.new)) (unwritten self.old) (unwritten self.new)
-            (A.output answerer.now path.entry.bytes.now)) }
+            (text_for value.command value.settings path.entry.bytes.now)) }
         ensures answered { IfOk result (λ is_answered.
-            is_answered ≡ A.answered answerer.now path.entry.bytes.now) }
+            is_answered ≡ answers (task_value task.now) path.entry.bytes.now) }
         ensures bounded { OnOk result (length (unwritten self.new) < 65536) }
-        ensures lines { OnOk result (is_line_buffered self.old ≡ true → unwritten self.new ≡ []) }
-        ensures err { OnErr result (EmitsPrefix (W.contents (written_to self.old))
+        ensures err { let value = task_value task.now in
+            OnErr result (EmitsPrefix (W.contents (written_to self.old))
             (W.contents (written_to self.new)) (unwritten self.old)
-            (A.output answerer.now path.entry.bytes.now)) }
+            (text_for value.command value.settings path.entry.bytes.now)) }
         ensures no_read { IfErr result (λ error. (error ≡ RunError.Read) → ⊥) }
     {
-        let is_answered = answerer.push_output(path, &mut self.buffer)?;
-        if self.is_line_buffered || self.buffer.len() >= FULL {
+        let is_answered = push_answers(task, path, &mut self.buffer)?;
+        if self.buffer.len() >= FULL {
             self.write_out()?;
         }
         Ok(is_answered)
     }
 
-    // Writes the bytes that wait and a text, and flushes. Returns true.
-    pub(crate) fn write_text(&mut self, text: &[u8]) -> Result<bool, RunError>
+    // Writes the pending bytes and a text, and flushes.
+    pub(crate) fn write_text(&mut self, text: &[u8]) -> Result<(), RunError>
         ensures ok { OnOk result (Appends (W.contents (written_to self.old))
             (W.contents (written_to self.new)) (unwritten self.old ++ text.now)) }
-        ensures always { IfOk result (λ is. is ≡ true) }
         ensures err { OnErr result (AppendsPrefix (W.contents (written_to self.old))
             (W.contents (written_to self.new)) (unwritten self.old ++ text.now)) }
         ensures no_read { IfErr result (λ error. (error ≡ RunError.Read) → ⊥) }
     {
         self.buffer.extend_from_slice(text)?;
-        self.finish()?;
-        Ok(true)
+        self.finish()
     }
 
-    // Writes the bytes that wait, and flushes.
+    // Writes the pending bytes, and flushes.
     pub(crate) fn finish(&mut self) -> Result<(), RunError>
         ensures ok { OnOk result (Appends (W.contents (written_to self.old))
             (W.contents (written_to self.new)) (unwritten self.old)) }
@@ -197,27 +182,22 @@ impl<W: Write> Output<W> {
     }
 }
 
-/// A writer of reports, whose failures are ignored.
-///
-/// After a failed write nothing more is written to it.
-///
-/// `Refusals::new(alloc, writer)` reports paths to `writer`.
+// A writer of messages, whose failures are ignored. After a failed write nothing more is written to
+// it.
 #[derive(Drop)]
-pub struct Refusals<E> {
+pub(crate) struct Messages<E> {
     writer: E,
     line: Vec<u8>,
     has_failed: bool,
 }
 
-impl<E: Write> Refusals<E> {
-    /// Creates reports to a writer that has not failed.
-    ///
-    /// `Refusals::new(alloc, writer)` reports paths to `writer`.
-    pub fn new(alloc: Global, writer: E) -> Refusals<E>
+impl<E: Write> Messages<E> {
+    // Creates messages to a writer that has not failed.
+    pub(crate) fn new(alloc: Global, writer: E) -> Messages<E>
         ensures writer { told_to result ≡ writer }
         ensures failed { has_failed result ≡ false }
     {
-        Refusals {
+        Messages {
             writer,
             line: Vec::new(alloc),
             has_failed: false,
@@ -234,28 +214,29 @@ impl<E: Write> Refusals<E> {
         }
     }
 
-    // Reports a path without an answer.
-    pub(crate) fn report<A: Answerer>(
-        &mut self,
-        answerer: &A,
-        path: Path<'_>,
-    ) -> Result<(), RunError>
-        ensures told { OnOk result (Tells (has_failed self.old) (has_failed self.new)
+    // Writes the message for a path that is not answered.
+    pub(crate) fn report(&mut self, task: &Task<'_>, path: Path<'_>) -> Result<(), RunError>
+        ensures told { let value = task_value task.now in
+            OnOk result (Tells (has_failed self.old) (has_failed self.new)
             (E.contents (told_to self.old)) (E.contents (told_to self.new))
-            (A.refusal answerer.now path.entry.bytes.now)) }
+            (message_for value.command value.settings path.entry.bytes.now)) }
+        ensures err { OnErr result (Tells (has_failed self.old) (has_failed self.new)
+            (E.contents (told_to self.old)) (E.contents (told_to self.new)) []) }
         ensures only_memory { IfErr result (λ error. error ≡ RunError.Memory) }
     {
         self.line.clear();
-        answerer.push_refusal(path, &mut self.line)?;
+        push_message(task, path, &mut self.line)?;
         self.send();
         Ok(())
     }
 
-    // Reports wrong usage.
+    // Writes the message for wrong usage.
     pub(crate) fn report_usage(&mut self, error: UsageError<'_>) -> Result<(), RunError>
         ensures told { OnOk result (Tells (has_failed self.old) (has_failed self.new)
             (E.contents (told_to self.old)) (E.contents (told_to self.new))
             (usage_line (usage_value error.entry))) }
+        ensures err { OnErr result (Tells (has_failed self.old) (has_failed self.new)
+            (E.contents (told_to self.old)) (E.contents (told_to self.new)) []) }
         ensures only_memory { IfErr result (λ error. error ≡ RunError.Memory) }
     {
         self.line.clear();
@@ -264,10 +245,14 @@ impl<E: Write> Refusals<E> {
         Ok(())
     }
 
-    // Reports why a run failed.
-    pub(crate) fn report_error(&mut self, error: RunError) {
+    // Writes the message for an error of the run, unless `is_quiet` or memory is out for it.
+    pub(crate) fn report_error(&mut self, is_quiet: bool, error: RunError)
+        ensures told { (said : Bool) × Tells (has_failed self.old) (has_failed self.new)
+            (E.contents (told_to self.old)) (E.contents (told_to self.new))
+            (if said then error_line is_quiet error else []) }
+    {
         self.line.clear();
-        if push_error(error, &mut self.line).is_ok() {
+        if push_error(is_quiet, error, &mut self.line).is_ok() {
             self.send();
         }
     }
@@ -281,15 +266,17 @@ fn message_of(error: RunError) -> &'static [u8]
         RunError::Read => b"read error",
         RunError::Write => b"write error",
         RunError::Closed => b"output is closed",
-        RunError::Memory => b"out of memory",
+        RunError::Memory | RunError::Arguments => b"out of memory",
     }
 }
 
-// Appends the line for an error.
-fn push_error(error: RunError, out: &mut Vec<u8>) -> Result<(), AllocError>
-    ensures { OnOk result (out.new.items
-        ≡ out.old.items ++ (codes "upath: " ++ (error_text error ++ byte "\n" ∷ []))) }
+// Appends the line for an error, unless `is_quiet` or nobody reads the output any more.
+fn push_error(is_quiet: bool, error: RunError, out: &mut Vec<u8>) -> Result<(), AllocError>
+    ensures { OnOk result (out.new.items ≡ out.old.items ++ error_line is_quiet error) }
 {
+    if is_quiet || error == RunError::Closed {
+        return Ok(());
+    }
     out.extend_from_slice(b"upath: ")?;
     out.extend_from_slice(message_of(error))?;
     out.push(b'\n')?;

@@ -1,8 +1,9 @@
 //! Answers that are the components of a path, each a record.
-ghost use Rattle.std.specs.Prelude.{◌≡◌, ◌++◌, OnOk, List, map, reverse, true};
+ghost use Rattle.std.specs.Prelude.{◌≡◌, ◌++◌, OnOk, List, map, reverse};
 ghost use Rattle.std.specs.Iterator.{IsFinite, Drains};
 ghost use Rattle.unix_bytes.specs.declared.bytes.UnixStr.{UnixStr};
-ghost use Rattle.upath_commands.specs.Answers.{part_bytes, record_output, Pushes};
+ghost use Rattle.upath_commands.specs.Answers.{part_bytes, record_output};
+ghost use Rattle.upath_commands.specs.Invocations.{settings_value};
 
 use crate::command::Settings;
 use crate::push::push_answer;
@@ -10,17 +11,18 @@ use std::alloc::AllocError;
 use unix_bytes::bytes::UnixStr;
 use unix_path::{Component, Path};
 
-// Answers with each of these items.
+// Appends each of these items.
 fn push_each<'a, I: Iterator<Item = UnixStr<'a>>>(
     items: I,
     path: Path<'_>,
-    settings: Settings,
+    settings: Settings<'_>,
     out: &mut Vec<u8>,
 ) -> Result<(), AllocError>
     requires can { I.can_next items }
     requires ends { IsFinite (I.remaining items) }
     ensures { OnOk result ((xs : List UnixStr) × Drains I.next_gives items xs
-        × (out.new.items ≡ out.old.items ++ record_output settings path.entry.bytes.now
+        × (out.new.items ≡ out.old.items
+        ++ record_output (settings_value settings.entry) path.entry.bytes.now
         (map (λ x. x.bytes.now) xs))) }
 {
     for item in items {
@@ -29,33 +31,33 @@ fn push_each<'a, I: Iterator<Item = UnixStr<'a>>>(
     Ok(())
 }
 
-// Answers with the components.
+// Appends the components.
 pub(crate) fn push_parts(
     path: Path<'_>,
-    settings: Settings,
+    settings: Settings<'_>,
     out: &mut Vec<u8>,
-) -> Result<bool, AllocError>
-    ensures { Pushes result out.old.items out.new.items settings path.entry.bytes.now
-        (part_bytes path.entry.bytes.now) true }
+) -> Result<(), AllocError>
+    ensures { OnOk result (out.new.items ≡ out.old.items
+        ++ record_output (settings_value settings.entry) path.entry.bytes.now
+        (part_bytes path.entry.bytes.now)) }
 {
     push_each(
         path.components().map(Component::as_unix_str),
         path,
         settings,
         out,
-    )?;
-    Ok(true)
+    )
 }
 
-// Answers with the components, from the last one.
+// Appends the components, from the last one.
 pub(crate) fn push_parts_from_back(
     path: Path<'_>,
-    settings: Settings,
+    settings: Settings<'_>,
     out: &mut Vec<u8>,
-) -> Result<bool, AllocError>
-    ensures { Pushes result out.old.items out.new.items settings path.entry.bytes.now
-        (reverse (part_bytes path.entry.bytes.now)) true }
+) -> Result<(), AllocError>
+    ensures { OnOk result (out.new.items ≡ out.old.items
+        ++ record_output (settings_value settings.entry) path.entry.bytes.now
+        (reverse (part_bytes path.entry.bytes.now))) }
 {
-    push_each(path.iter().rev(), path, settings, out)?;
-    Ok(true)
+    push_each(path.iter().rev(), path, settings, out)
 }

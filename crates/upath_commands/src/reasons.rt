@@ -7,6 +7,7 @@ ghost use Rattle.upath_commands.specs.Refusals.{unkey_reason};
 use crate::command::{Command, JoinRule};
 use crate::escapes::escapes;
 use crate::keys::unkeyed_path;
+use crate::shown::push_shown;
 use path_within::within::has_root_or_parent_dir;
 use std::alloc::{AllocError, Global};
 use unix_path::Path;
@@ -39,10 +40,11 @@ fn unkey_reason(alloc: Global, null: bool, text: &[u8]) -> Result<&'static [u8],
 pub(crate) fn reason_of(
     alloc: Global,
     command: Command<'_>,
+    null: bool,
     path: Path<'_>,
 ) -> Result<Option<&'static [u8]>, AllocError>
     ensures { IfOk result (λ found. option_map (λ reason. reason.now) found
-        ≡ reason_of (command_value command.entry) path.entry.bytes.now) }
+        ≡ reason_of (command_value command.entry) null path.entry.bytes.now) }
 {
     Ok(match command {
         Command::Parent => Some(b"no parent"),
@@ -51,7 +53,8 @@ pub(crate) fn reason_of(
         Command::Join(rule, _) => Some(join_reason(rule, path)),
         Command::Strip(_) => Some(b"doesn't start with the base"),
         Command::Relative(_) => Some(b"no relative path"),
-        Command::Unkey(null) => Some(unkey_reason(alloc, null, path.bytes)?),
+        Command::Unkey => Some(unkey_reason(alloc, null, path.bytes)?),
+        Command::Check(_) => Some(b"is out of order"),
         _ => None,
     })
 }
@@ -69,7 +72,7 @@ pub(crate) fn push_reason(
         return Ok(());
     };
     out.extend_from_slice(b"upath: ")?;
-    out.extend_from_slice(path.bytes)?;
+    push_shown(path.bytes, out)?;
     out.extend_from_slice(b": ")?;
     out.extend_from_slice(reason)?;
     out.push(b'\n')?;

@@ -1,258 +1,312 @@
 //! What is done for a list of arguments.
-ghost use Rattle.std.specs.Prelude.{◌≡◌, ◌<◌, ◌≤◌, ◌++◌, ℕ, List, [], IfOk, IfSome, OnOk, OnErr};
-ghost use Rattle.std.specs.Prelude.{Some};
-ghost use Rattle.std.specs.Io.KnownBytes.{Appends};
-ghost use Rattle.upath_commands.specs.Outputs.{AppendsPrefix, Tells, has_failed, told_to};
-ghost use Rattle.upath_commands.specs.Outputs.{unwritten, written_to};
-ghost use Rattle.upath_commands.specs.Runs.{each_answered, each_output, each_refusals};
-ghost use Rattle.upath_commands.specs.Runs.{input_read, paths_asked};
-ghost use Rattle.upath_commands.specs.Runs.{run_answered, run_input, run_output, run_refusals};
-ghost use Rattle.upath_commands.specs.Runs.{input_for, is_quiet, messages_for, output_for};
-ghost use Rattle.upath_commands.specs.Runs.{status_for};
+ghost use Rattle.std.specs.Prelude.{◌≡◌, ◌<◌, [], IfOk, IfErr, IfSome, OnOk, OnErr, None, true};
+ghost use Rattle.std.specs.Prelude.{false, if◌then◌else◌};
+ghost use Rattle.std.specs.Ordering.{is_eq};
+ghost use Rattle.unix_path.specs.Order.{values_cmp};
+ghost use Rattle.unix_path.specs.Parts.{values};
 ghost use Rattle.upath_commands.specs.Arguments.{meaning_of};
-ghost use Rattle.upath_commands.specs.Invocations.{command_value, invocation_value};
+ghost use Rattle.upath_commands.specs.Invocations.{command_value, invocation_value, usage_value};
+ghost use Rattle.upath_commands.specs.Outputs.{error_line};
 ghost use Rattle.upath_commands.specs.Records.{paths_of};
-ghost use Rattle.upath_commands.specs.Selections.{selected};
-ghost use Rattle.upath_commands.specs.Sorting.{chosen, sort_options};
-ghost use Rattle.upath_commands.specs.Tasks.{task_command, task_settings};
+ghost use Rattle.upath_commands.specs.Replies.{Answered, IsNew, state_of, Stopped};
+ghost use Rattle.upath_commands.specs.Runs.{asked, Broken, command_yes, Done, Failed, help_text};
+ghost use Rattle.upath_commands.specs.Runs.{hides_errors, input_if, is_quiet, messages_for};
+ghost use Rattle.upath_commands.specs.Runs.{output_for, reads, reads_input, run_messages};
+ghost use Rattle.upath_commands.specs.Runs.{run_output, run_yes, status_for, yes_of};
+ghost use Rattle.upath_commands.specs.Sorting.{chosen, is_gathered};
+ghost use Rattle.upath_commands.specs.Tasks.{messages_of, output_of, task_value};
+ghost use Rattle.upath_commands.specs.Usage.{usage_line};
 
-use crate::answers::answer_operands;
 use crate::arguments::invocation_of;
-use crate::command::{Command, Invocation, Settings, SortOptions};
-use crate::output::{Output, Refusals, RunError};
+use crate::command::{Command, Invocation};
+use crate::engine::{answer_input, answer_paths};
+use crate::input::read_all;
+use crate::output::RunError;
 use crate::push::end_of;
-use crate::records::{answer_input, read_all};
+use crate::records::records_in;
+use crate::replies::{Replies, Tally};
 use crate::selection::Selection;
-use crate::sorting::{is_uniq, records_in, sort_options, sort_paths};
+use crate::sorting::{choose, is_gathered, is_uniq};
 use crate::task::Task;
+use crate::usage::UsageError;
 use std::alloc::Global;
-use std::io::{BufRead, Write};
+use std::io::{Read, Write};
 use unix_path::Path;
 
-/// The texts that `--help` and `--version` write.
+/// The help text of a command.
 ///
-/// `Texts { help: b"", version: b"upath 1\n" }` has an empty help text.
+/// `HelpText { name: b"canon", text: b"Usage: upath canon\n" }` is that of `canon`.
+#[derive(Clone, Copy)]
+pub struct HelpText<'a> {
+    /// The name of the command.
+    pub name: &'a [u8],
+    /// The help text.
+    pub text: &'a [u8],
+}
+
+/// The texts that `--help` and `--version` print.
+///
+/// `Texts { general: b"", version: b"upath 1\n", commands: &[] }` has an empty help text.
 #[derive(Clone, Copy)]
 pub struct Texts<'a> {
-    /// The help text.
-    pub help: &'a [u8],
+    /// The help text of the program.
+    pub general: &'a [u8],
     /// The version.
     pub version: &'a [u8],
+    /// The help texts of the commands.
+    pub commands: &'a [HelpText<'a>],
 }
 
-// Answers these paths in the order of paths.
-fn answer_sorted<W: Write, E: Write>(
-    alloc: Global,
-    task: &Task<'_>,
-    options: SortOptions,
-    mut paths: Vec<Path<'_>>,
-    output: &mut Output<W>,
-    refusals: &mut Refusals<E>,
-) -> Result<bool, RunError>
-    requires { sort_options (task_command task.now) ≡ Some options }
-    ensures ok { OnOk result (Appends (W.contents (written_to output.old))
-        (W.contents (written_to output.new)) (unwritten output.old
-        ++ each_output (task_command task.now) (task_settings task.now)
-        (paths_of paths.entry.items))) }
-    ensures answered { IfOk result (λ are_answered.
-        are_answered ≡ each_answered (task_command task.now) (paths_of paths.entry.items)) }
-    ensures told { OnOk result (Tells (has_failed refusals.old) (has_failed refusals.new)
-        (E.contents (told_to refusals.old)) (E.contents (told_to refusals.new))
-        (each_refusals (task_command task.now) (task_settings task.now)
-        (paths_of paths.entry.items))) }
-    ensures err { OnErr result (AppendsPrefix (W.contents (written_to output.old))
-        (W.contents (written_to output.new)) (unwritten output.old
-        ++ each_output (task_command task.now) (task_settings task.now)
-        (paths_of paths.entry.items))) }
+// Returns the help text of the command with this name, or the general one if there is none.
+fn help_text<'a>(texts: Texts<'a>, name: &[u8]) -> &'a [u8]
+    ensures { result.now ≡ help_text texts.entry name.now }
 {
-    sort_paths(options, &mut paths)?;
-    let all = &mut Selection::All;
-    answer_operands(alloc, task, all, paths.as_slice(), output, refusals)
-}
-
-// Answers the operands, or if there are none the records of the input, in the order of paths.
-fn run_sorted<R: BufRead, W: Write, E: Write>(
-    alloc: Global,
-    task: &Task<'_>,
-    options: SortOptions,
-    operands: &[Path<'_>],
-    reader: &mut R,
-    output: &mut Output<W>,
-    refusals: &mut Refusals<E>,
-) -> Result<bool, RunError>
-    requires { sort_options (task_command task.now) ≡ Some options }
-    ensures ok { let paths = paths_of operands.now in
-        OnOk result (IfSome (input_read paths (R.remaining reader.old)) (λ input.
-        Appends (W.contents (written_to output.old)) (W.contents (written_to output.new))
-        (unwritten output.old
-        ++ each_output (task_command task.now) (task_settings task.now)
-        (paths_asked (task_settings task.now) paths input)))) }
-    ensures answered { let paths = paths_of operands.now in
-        IfOk result (λ are_answered. IfSome (input_read paths (R.remaining reader.old))
-        (λ input. are_answered ≡ each_answered (task_command task.now)
-        (paths_asked (task_settings task.now) paths input))) }
-    ensures told { let paths = paths_of operands.now in
-        OnOk result (IfSome (input_read paths (R.remaining reader.old))
-        (λ input. Tells (has_failed refusals.old) (has_failed refusals.new)
-        (E.contents (told_to refusals.old)) (E.contents (told_to refusals.new))
-        (each_refusals (task_command task.now) (task_settings task.now)
-        (paths_asked (task_settings task.now) paths input)))) }
-    ensures err { let paths = paths_of operands.now in
-        OnErr result (IfSome (input_read paths (R.remaining reader.old)) (λ input.
-        AppendsPrefix (W.contents (written_to output.old)) (W.contents (written_to output.new))
-        (unwritten output.old
-        ++ each_output (task_command task.now) (task_settings task.now)
-        (paths_asked (task_settings task.now) paths input)))) }
-{
-    if !operands.is_empty() {
-        let paths = Vec::from_slice(alloc, operands)?;
-        return answer_sorted(alloc, task, options, paths, output, refusals);
+    for help in texts.commands {
+        if help.name == name {
+            return help.text;
+        }
     }
+    texts.general
+}
+
+// Answers these paths, of a command that needs all of them before it answers.
+fn answer_gathered<W: Write, E: Write>(
+    alloc: Global,
+    task: &Task<'_>,
+    mut paths: Vec<Path<'_>>,
+    replies: &mut Replies<W, E>,
+) -> Result<(), RunError>
+    requires { is_gathered (command_value task.now.command) ≡ true }
+    ensures ok { let value = task_value task.now in OnOk result (Answered value
+        (state_of W.contents E.contents replies.old) (state_of W.contents E.contents replies.new)
+        (chosen value.command (paths_of paths.entry.items))) }
+    ensures err { let value = task_value task.now in OnErr result (Stopped value
+        (state_of W.contents E.contents replies.old) (state_of W.contents E.contents replies.new)
+        (chosen value.command (paths_of paths.entry.items))) }
+{
+    choose(task.command, &mut paths)?;
+    let all = &mut Selection::All;
+    answer_paths(alloc, task, all, paths.as_slice(), replies)
+}
+
+// Answers the records of the input, of a command that needs all of them before it answers.
+fn gather_input<R: Read, W: Write, E: Write>(
+    alloc: Global,
+    task: &Task<'_>,
+    reader: &mut R,
+    replies: &mut Replies<W, E>,
+) -> Result<(), RunError>
+    requires { is_gathered (command_value task.now.command) ≡ true }
+    ensures ok { let value = task_value task.now in
+        OnOk result (IfSome (R.remaining reader.old) (λ input. Answered value
+        (state_of W.contents E.contents replies.old) (state_of W.contents E.contents replies.new)
+        (asked value.command value.settings None input))) }
+    ensures err { let value = task_value task.now in
+        OnErr result (IfSome (R.remaining reader.old) (λ input. Stopped value
+        (state_of W.contents E.contents replies.old) (state_of W.contents E.contents replies.new)
+        (asked value.command value.settings None input))) }
+{
     let input = read_all(alloc, reader)?;
     let paths = records_in(alloc, input.as_slice(), end_of(task.settings))?;
-    answer_sorted(alloc, task, options, paths, output, refusals)
+    answer_gathered(alloc, task, paths, replies)
 }
 
-// Answers each of the operands that is selected as it comes, or if there are none the records of
-// the input.
-fn run_streamed<R: BufRead, W: Write, E: Write>(
+// Answers these paths.
+fn answer_operands<W: Write, E: Write>(
     alloc: Global,
     task: &Task<'_>,
-    selection: &mut Selection,
-    operands: &[Path<'_>],
-    reader: &mut R,
-    output: &mut Output<W>,
-    refusals: &mut Refusals<E>,
-) -> Result<bool, RunError>
-    requires { (paths : List (List ℕ)) → selected selection.old paths
-        ≡ chosen (task_command task.now) paths }
-    ensures ok { let paths = paths_of operands.now in
-        OnOk result (IfSome (input_read paths (R.remaining reader.old)) (λ input.
-        Appends (W.contents (written_to output.old)) (W.contents (written_to output.new))
-        (unwritten output.old
-        ++ each_output (task_command task.now) (task_settings task.now)
-        (paths_asked (task_settings task.now) paths input)))) }
-    ensures answered { let paths = paths_of operands.now in
-        IfOk result (λ are_answered. IfSome (input_read paths (R.remaining reader.old))
-        (λ input. are_answered ≡ each_answered (task_command task.now)
-        (paths_asked (task_settings task.now) paths input))) }
-    ensures told { let paths = paths_of operands.now in
-        OnOk result (IfSome (input_read paths (R.remaining reader.old))
-        (λ input. Tells (has_failed refusals.old) (has_failed refusals.new)
-        (E.contents (told_to refusals.old)) (E.contents (told_to refusals.new))
-        (each_refusals (task_command task.now) (task_settings task.now)
-        (paths_asked (task_settings task.now) paths input)))) }
-    ensures err { let paths = paths_of operands.now in
-        OnErr result (IfSome (input_read paths (R.remaining reader.old)) (λ input.
-        AppendsPrefix (W.contents (written_to output.old)) (W.contents (written_to output.new))
-        (unwritten output.old
-        ++ each_output (task_command task.now) (task_settings task.now)
-        (paths_asked (task_settings task.now) paths input)))) }
+    paths: &[Path<'_>],
+    replies: &mut Replies<W, E>,
+) -> Result<(), RunError>
+    ensures ok { let value = task_value task.now in OnOk result (Answered value
+        (state_of W.contents E.contents replies.old) (state_of W.contents E.contents replies.new)
+        (chosen value.command (paths_of paths.now))) }
+    ensures err { let value = task_value task.now in OnErr result (Stopped value
+        (state_of W.contents E.contents replies.old) (state_of W.contents E.contents replies.new)
+        (chosen value.command (paths_of paths.now))) }
 {
-    if operands.is_empty() {
-        let end = end_of(task.settings);
-        return answer_input(alloc, task, selection, end, reader, output, refusals);
+    if is_gathered(task.command) {
+        let paths = Vec::from_slice(alloc, paths)?;
+        return answer_gathered(alloc, task, paths, replies);
     }
-    answer_operands(alloc, task, selection, operands, output, refusals)
+    let mut selection = Selection::new(alloc, is_uniq(task.command));
+    answer_paths(alloc, task, &mut selection, paths, replies)
 }
 
-// Answers the operands, or if there are none the records of the input.
-fn run_each<R: BufRead, W: Write, E: Write>(
+// Answers the records of the input.
+fn answer_records_read<R: Read, W: Write, E: Write>(
     alloc: Global,
-    command: Command<'_>,
-    settings: Settings,
-    operands: &[Path<'_>],
+    task: &Task<'_>,
     reader: &mut R,
-    output: &mut Output<W>,
-    refusals: &mut Refusals<E>,
-) -> Result<bool, RunError>
-    ensures ok { let paths = paths_of operands.now in
-        OnOk result (IfSome (input_read paths (R.remaining reader.old)) (λ input.
-        Appends (W.contents (written_to output.old)) (W.contents (written_to output.new))
-        (unwritten output.old
-        ++ each_output (command_value command.entry) settings
-        (paths_asked settings paths input)))) }
-    ensures answered { let paths = paths_of operands.now in
-        IfOk result (λ are_answered. IfSome (input_read paths (R.remaining reader.old))
-        (λ input. are_answered ≡ each_answered (command_value command.entry)
-        (paths_asked settings paths input))) }
-    ensures told { let paths = paths_of operands.now in
-        OnOk result (IfSome (input_read paths (R.remaining reader.old))
-        (λ input. Tells (has_failed refusals.old) (has_failed refusals.new)
-        (E.contents (told_to refusals.old)) (E.contents (told_to refusals.new))
-        (each_refusals (command_value command.entry) settings
-        (paths_asked settings paths input)))) }
-    ensures err { let paths = paths_of operands.now in
-        OnErr result (IfSome (input_read paths (R.remaining reader.old)) (λ input.
-        AppendsPrefix (W.contents (written_to output.old)) (W.contents (written_to output.new))
-        (unwritten output.old
-        ++ each_output (command_value command.entry) settings
-        (paths_asked settings paths input)))) }
+    replies: &mut Replies<W, E>,
+) -> Result<(), RunError>
+    ensures ok { let value = task_value task.now in
+        OnOk result (IfSome (R.remaining reader.old) (λ input. Answered value
+        (state_of W.contents E.contents replies.old) (state_of W.contents E.contents replies.new)
+        (asked value.command value.settings None input))) }
+    ensures err { let value = task_value task.now in
+        OnErr result (IfSome (R.remaining reader.old) (λ input. Stopped value
+        (state_of W.contents E.contents replies.old) (state_of W.contents E.contents replies.new)
+        (asked value.command value.settings None input))) }
 {
-    let task = Task { command, settings };
-    output.buffer_lines(settings.line_buffered);
-    if let Some(options) = sort_options(command) {
-        return run_sorted(alloc, &task, options, operands, reader, output, refusals);
+    if is_gathered(task.command) {
+        return gather_input(alloc, task, reader, replies);
     }
-    let mut selection = Selection::new(alloc, is_uniq(command));
-    run_streamed(
-        alloc,
-        &task,
-        &mut selection,
-        operands,
-        reader,
-        output,
-        refusals,
-    )
+    let mut selection = Selection::new(alloc, is_uniq(task.command));
+    answer_input(alloc, task, &mut selection, reader, replies)
 }
 
-// Does what an invocation asks for. Returns true if all paths are answered, or if the answer is
-// yes. After an error a prefix of the output was written.
-fn run<R: BufRead, W: Write, E: Write>(
+// Returns the answer of a command, when it has answered its paths.
+fn yes_of(command: Command<'_>, tally: Tally) -> bool
+    ensures { result ≡ yes_of (command_value command.entry) tally.all tally.any }
+{
+    match command {
+        Command::Under(_, _) => tally.any,
+        _ => tally.all,
+    }
+}
+
+// Flushes, once a command has answered its paths. Returns the answer.
+fn finish<W: Write, E: Write>(
+    command: Command<'_>,
+    replies: &mut Replies<W, E>,
+) -> Result<bool, RunError>
+    ensures ok { OnOk result (Done
+        (state_of W.contents E.contents replies.old) (state_of W.contents E.contents replies.new) [] []) }
+    ensures yes { let state = state_of W.contents E.contents replies.old in IfOk result (λ yes.
+        yes ≡ yes_of (command_value command.entry) state.all state.any) }
+    ensures err { OnErr result (Broken
+        (state_of W.contents E.contents replies.old) (state_of W.contents E.contents replies.new) [] []) }
+{
+    replies.answers.finish()?;
+    Ok(yes_of(command, replies.tally))
+}
+
+// Runs a command for these paths. Returns its answer.
+fn run_operands<W: Write, E: Write>(
+    alloc: Global,
+    task: &Task<'_>,
+    paths: &[Path<'_>],
+    replies: &mut Replies<W, E>,
+) -> Result<bool, RunError>
+    requires { IsNew (state_of W.contents E.contents replies.old) }
+    ensures ok { let value = task_value task.now in
+        let paths = chosen value.command (paths_of paths.now) in
+        OnOk result (Done
+        (state_of W.contents E.contents replies.old) (state_of W.contents E.contents replies.new)
+        (output_of value paths) (messages_of value paths)) }
+    ensures yes { let value = task_value task.now in IfOk result (λ yes.
+        yes ≡ command_yes value (chosen value.command (paths_of paths.now))) }
+    ensures err { let value = task_value task.now in
+        let paths = chosen value.command (paths_of paths.now) in
+        OnErr result (Broken
+        (state_of W.contents E.contents replies.old) (state_of W.contents E.contents replies.new)
+        (output_of value paths) (messages_of value paths)) }
+{
+    answer_operands(alloc, task, paths, replies)?;
+    finish(task.command, replies)
+}
+
+// Runs a command for the records of the input. Returns its answer.
+fn run_input<R: Read, W: Write, E: Write>(
+    alloc: Global,
+    task: &Task<'_>,
+    reader: &mut R,
+    replies: &mut Replies<W, E>,
+) -> Result<bool, RunError>
+    requires { IsNew (state_of W.contents E.contents replies.old) }
+    ensures ok { let value = task_value task.now in
+        OnOk result (IfSome (R.remaining reader.old) (λ input.
+        let paths = asked value.command value.settings None input in
+        Done
+        (state_of W.contents E.contents replies.old) (state_of W.contents E.contents replies.new)
+        (output_of value paths) (messages_of value paths))) }
+    ensures yes { let value = task_value task.now in IfOk result (λ yes.
+        IfSome (R.remaining reader.old) (λ input.
+        yes ≡ command_yes value (asked value.command value.settings None input))) }
+    ensures err { let value = task_value task.now in
+        OnErr result (IfSome (R.remaining reader.old) (λ input.
+        let paths = asked value.command value.settings None input in
+        Broken
+        (state_of W.contents E.contents replies.old) (state_of W.contents E.contents replies.new)
+        (output_of value paths) (messages_of value paths))) }
+{
+    answer_records_read(alloc, task, reader, replies)?;
+    finish(task.command, replies)
+}
+
+// Writes a text, and flushes. Returns true.
+fn run_text<W: Write, E: Write>(text: &[u8], replies: &mut Replies<W, E>) -> Result<bool, RunError>
+    ensures ok { OnOk result (Done
+        (state_of W.contents E.contents replies.old) (state_of W.contents E.contents replies.new) text.now []) }
+    ensures yes { IfOk result (λ yes. yes ≡ true) }
+    ensures err { OnErr result (Broken
+        (state_of W.contents E.contents replies.old) (state_of W.contents E.contents replies.new) text.now []) }
+{
+    replies.answers.write_text(text)?;
+    Ok(true)
+}
+
+// Returns true if and only if two paths are equal, and flushes.
+fn run_equal<W: Write, E: Write>(
+    path: Path<'_>,
+    other: Path<'_>,
+    replies: &mut Replies<W, E>,
+) -> Result<bool, RunError>
+    ensures ok { OnOk result (Done
+        (state_of W.contents E.contents replies.old) (state_of W.contents E.contents replies.new) [] []) }
+    ensures yes { IfOk result (λ yes.
+        yes ≡ is_eq (values_cmp (values path.entry.bytes.now) (values other.entry.bytes.now))) }
+    ensures err { OnErr result (Broken
+        (state_of W.contents E.contents replies.old) (state_of W.contents E.contents replies.new) [] []) }
+{
+    replies.answers.finish()?;
+    Ok(path == other)
+}
+
+// Does what an invocation asks for. Returns its answer.
+fn run<R: Read, W: Write, E: Write>(
     alloc: Global,
     invocation: &Invocation<'_>,
     texts: Texts<'_>,
     reader: &mut R,
-    output: &mut Output<W>,
-    refusals: &mut Refusals<E>,
+    replies: &mut Replies<W, E>,
 ) -> Result<bool, RunError>
+    requires { IsNew (state_of W.contents E.contents replies.old) }
     ensures ok { let value = invocation_value invocation.now in
-        OnOk result (IfSome (run_input value (R.remaining reader.old))
-        (λ input. Appends (W.contents (written_to output.old)) (W.contents (written_to output.new))
-        (unwritten output.old ++ run_output texts.entry value input))) }
-    ensures answered { let value = invocation_value invocation.now in
-        IfOk result (λ are_answered. IfSome (run_input value (R.remaining reader.old))
-        (λ input. are_answered ≡ run_answered value input)) }
-    ensures told { let value = invocation_value invocation.now in
-        OnOk result (IfSome (run_input value (R.remaining reader.old))
-        (λ input. Tells (has_failed refusals.old) (has_failed refusals.new)
-        (E.contents (told_to refusals.old)) (E.contents (told_to refusals.new))
-        (run_refusals value input))) }
+        OnOk result (IfSome (input_if (reads_input value) (R.remaining reader.old)) (λ input.
+        Done
+        (state_of W.contents E.contents replies.old) (state_of W.contents E.contents replies.new)
+        (run_output texts.entry value input) (run_messages value input))) }
+    ensures yes { let value = invocation_value invocation.now in IfOk result (λ yes.
+        IfSome (input_if (reads_input value) (R.remaining reader.old)) (λ input.
+        yes ≡ run_yes value input)) }
     ensures err { let value = invocation_value invocation.now in
-        OnErr result (IfSome (run_input value (R.remaining reader.old)) (λ input.
-        AppendsPrefix (W.contents (written_to output.old)) (W.contents (written_to output.new))
-        (unwritten output.old ++ run_output texts.entry value input))) }
+        OnErr result (IfSome (input_if (reads_input value) (R.remaining reader.old)) (λ input.
+        Broken
+        (state_of W.contents E.contents replies.old) (state_of W.contents E.contents replies.new)
+        (run_output texts.entry value input) (run_messages value input))) }
+    ensures unread { reads_input (invocation_value invocation.now) ≡ false
+        → reader.new ≡ reader.old }
 {
     match invocation {
-        Invocation::Help => output.write_text(texts.help),
-        Invocation::Version => output.write_text(texts.version),
-        Invocation::Equal(_, path, other) => {
-            output.finish()?;
-            Ok(path == other)
+        Invocation::Help(name) => run_text(help_text(texts, name.bytes), replies),
+        Invocation::Version => run_text(texts.version, replies),
+        Invocation::Equal(_, path, other) => run_equal(*path, *other, replies),
+        Invocation::Each(command, settings, paths) => {
+            let task = Task {
+                command: *command,
+                settings: *settings,
+            };
+            match paths {
+                Some(paths) => run_operands(alloc, &task, paths.as_slice(), replies),
+                None => run_input(alloc, &task, reader, replies),
+            }
         }
-        Invocation::Each(command, settings, operands) => run_each(
-            alloc,
-            *command,
-            *settings,
-            operands.as_slice(),
-            reader,
-            output,
-            refusals,
-        ),
     }
 }
 
-// Returns true if nothing is to be written.
+// Returns true if nothing is to be printed.
 fn is_quiet(invocation: &Invocation<'_>) -> bool
     ensures { result ≡ is_quiet (invocation_value invocation.now) }
 {
@@ -262,90 +316,109 @@ fn is_quiet(invocation: &Invocation<'_>) -> bool
     }
 }
 
-// Does what the arguments ask for. Returns the exit status if nothing fails. Otherwise returns the
-// error, or `None` if nothing is said of it.
-fn status_for<R: BufRead, W: Write, E: Write>(
+// Does what an invocation asks for. Returns the exit status, and writes a message for an error.
+fn run_invocation<R: Read, W: Write, E: Write>(
     alloc: Global,
-    arguments: &[Path<'_>],
+    invocation: &Invocation<'_>,
     texts: Texts<'_>,
     reader: &mut R,
-    output: &mut Output<W>,
-    refusals: &mut Refusals<E>,
-) -> Result<u8, Option<RunError>>
-    requires { unwritten output.old ≡ [] }
-    ensures ok { let meaning = meaning_of (paths_of arguments.now) in
-        OnOk result (IfSome (input_for meaning (R.remaining reader.old)) (λ input.
-        Appends (W.contents (written_to output.old)) (W.contents (written_to output.new))
-        (unwritten output.old ++ output_for texts.entry meaning input))) }
-    ensures status { let meaning = meaning_of (paths_of arguments.now) in
-        IfOk result (λ status. IfSome (input_for meaning (R.remaining reader.old))
-        (λ input. status ≡ status_for meaning input)) }
+    replies: &mut Replies<W, E>,
+) -> Result<u8, RunError>
+    requires { IsNew (state_of W.contents E.contents replies.old) }
+    ensures ok { let value = invocation_value invocation.now in
+        OnOk result (IfSome (input_if (reads_input value) (R.remaining reader.old)) (λ input.
+        Done
+        (state_of W.contents E.contents replies.old) (state_of W.contents E.contents replies.new)
+        (run_output texts.entry value input) (run_messages value input))) }
+    ensures status { let value = invocation_value invocation.now in IfOk result (λ status.
+        IfSome (input_if (reads_input value) (R.remaining reader.old)) (λ input.
+        status ≡ (if run_yes value input then 0 else 1))) }
     ensures range { IfOk result (λ status. status < 3) }
-    ensures told { let meaning = meaning_of (paths_of arguments.now) in
-        OnOk result (IfSome (input_for meaning (R.remaining reader.old))
-        (λ input. Tells (has_failed refusals.old) (has_failed refusals.new)
-        (E.contents (told_to refusals.old)) (E.contents (told_to refusals.new))
-        (messages_for meaning input))) }
-    ensures err { let meaning = meaning_of (paths_of arguments.now) in
-        OnErr result (IfSome (input_for meaning (R.remaining reader.old)) (λ input.
-        AppendsPrefix (W.contents (written_to output.old)) (W.contents (written_to output.new))
-        (unwritten output.old ++ output_for texts.entry meaning input))) }
+    ensures err { let value = invocation_value invocation.now in IfErr result (λ error.
+        IfSome (input_if (reads_input value) (R.remaining reader.old)) (λ input.
+        Failed
+        (state_of W.contents E.contents replies.old) (state_of W.contents E.contents replies.new)
+        (run_output texts.entry value input) (run_messages value input)
+        (error_line (is_quiet value) error))) }
+    ensures unread { reads_input (invocation_value invocation.now) ≡ false
+        → reader.new ≡ reader.old }
 {
-    match invocation_of(alloc, arguments) {
-        Err(_) => Err(Some(RunError::Memory)),
-        Ok(Ok(invocation)) => match run(alloc, &invocation, texts, reader, output, refusals) {
-            Ok(true) => Ok(0),
-            Ok(false) => Ok(1),
-            Err(_) if is_quiet(&invocation) => Err(None),
-            Err(error) => Err(Some(error)),
-        },
-        Ok(Err(error)) => match refusals.report_usage(error) {
-            Ok(()) => Ok(2),
-            Err(error) => Err(Some(error)),
-        },
+    match run(alloc, invocation, texts, reader, replies) {
+        Ok(true) => Ok(0),
+        Ok(false) => Ok(1),
+        Err(error) => {
+            replies.messages.report_error(is_quiet(invocation), error);
+            Err(error)
+        }
     }
 }
 
-/// Does what the arguments ask for. Returns the exit status: 0 if all paths are answered or the
-/// answer is yes, 1 if not, 2 for wrong usage, and 3 if a read, a write or an allocation fails.
+// Writes the message for wrong usage. Returns the exit status.
+fn refuse<W: Write, E: Write>(
+    usage: UsageError<'_>,
+    replies: &mut Replies<W, E>,
+) -> Result<u8, RunError>
+    requires { IsNew (state_of W.contents E.contents replies.old) }
+    ensures ok { OnOk result (Done
+        (state_of W.contents E.contents replies.old) (state_of W.contents E.contents replies.new)
+        [] (usage_line (usage_value usage.entry))) }
+    ensures status { IfOk result (λ status. status ≡ 2) }
+    ensures err { IfErr result (λ error. Failed
+        (state_of W.contents E.contents replies.old) (state_of W.contents E.contents replies.new)
+        [] (usage_line (usage_value usage.entry)) (error_line false error)) }
+{
+    match replies.messages.report_usage(usage) {
+        Ok(()) => Ok(2),
+        Err(error) => {
+            replies.messages.report_error(false, error);
+            Err(error)
+        }
+    }
+}
+
+/// Does what the arguments ask for. Returns the exit status: 0 if the answer is yes, 1 if not, and 2
+/// for wrong usage.
 ///
-/// For wrong usage nothing is read or written, and `refusals` says what is wrong. With the status 3
-/// a prefix of the output was written.
+/// For wrong usage nothing is read or written, and a message says what is wrong. After an error a
+/// prefix of the output was written, and a message says what failed, unless the option `-q` is given,
+/// nobody reads the output any more, or the error is `Arguments`, which the caller reports.
 ///
 /// For `equal`, `a` and `a/.` the status is 0.
-pub fn run_arguments<R: BufRead, W: Write, E: Write>(
+pub fn run_arguments<R: Read, W: Write, E: Write>(
     alloc: Global,
     arguments: &[Path<'_>],
     texts: Texts<'_>,
     reader: &mut R,
-    output: &mut Output<W>,
-    refusals: &mut Refusals<E>,
-) -> u8
-    requires { unwritten output.old ≡ [] }
+    replies: &mut Replies<W, E>,
+) -> Result<u8, RunError>
+    requires { IsNew (state_of W.contents E.contents replies.old) }
+
+    // What is written and the status, for a known input.
     ensures ok { let meaning = meaning_of (paths_of arguments.now) in
-        result < 3 → IfSome (input_for meaning (R.remaining reader.old)) (λ input.
-        Appends (W.contents (written_to output.old)) (W.contents (written_to output.new))
-        (output_for texts.entry meaning input)) }
-    ensures status { let meaning = meaning_of (paths_of arguments.now) in
-        result < 3 → IfSome (input_for meaning (R.remaining reader.old))
-        (λ input. result ≡ status_for meaning input) }
-    ensures range { result ≤ 3 }
-    ensures told { let meaning = meaning_of (paths_of arguments.now) in
-        result < 3 → IfSome (input_for meaning (R.remaining reader.old))
-        (λ input. Tells (has_failed refusals.old) (has_failed refusals.new)
-        (E.contents (told_to refusals.old)) (E.contents (told_to refusals.new))
-        (messages_for meaning input)) }
-    ensures failed { let meaning = meaning_of (paths_of arguments.now) in
-        result ≡ 3 → IfSome (input_for meaning (R.remaining reader.old)) (λ input.
-        AppendsPrefix (W.contents (written_to output.old)) (W.contents (written_to output.new))
-        (output_for texts.entry meaning input)) }
+        OnOk result (IfSome (input_if (reads meaning) (R.remaining reader.old)) (λ input.
+        Done
+        (state_of W.contents E.contents replies.old) (state_of W.contents E.contents replies.new)
+        (output_for texts.entry meaning input) (messages_for meaning input))) }
+    ensures status { let meaning = meaning_of (paths_of arguments.now) in IfOk result (λ status.
+        IfSome (input_if (reads meaning) (R.remaining reader.old)) (λ input.
+        status ≡ status_for meaning input)) }
+    ensures range { IfOk result (λ status. status < 3) }
+
+    // What is left of both after an error, and the message for it.
+    ensures err { let meaning = meaning_of (paths_of arguments.now) in IfErr result (λ error.
+        IfSome (input_if (reads meaning) (R.remaining reader.old)) (λ input.
+        Failed
+        (state_of W.contents E.contents replies.old) (state_of W.contents E.contents replies.new)
+        (output_for texts.entry meaning input) (messages_for meaning input)
+        (error_line (hides_errors meaning) error))) }
+
+    // Nothing is read but for a command without paths.
+    ensures unread { reads (meaning_of (paths_of arguments.now)) ≡ false
+        → reader.new ≡ reader.old }
 {
-    match status_for(alloc, arguments, texts, reader, output, refusals) {
-        Ok(status) => status,
-        Err(None) | Err(Some(RunError::Closed)) => 3,
-        Err(Some(error)) => {
-            refusals.report_error(error);
-            3
-        }
+    match invocation_of(alloc, arguments) {
+        Err(_) => Err(RunError::Arguments),
+        Ok(Ok(invocation)) => run_invocation(alloc, &invocation, texts, reader, replies),
+        Ok(Err(usage)) => refuse(usage, replies),
     }
 }

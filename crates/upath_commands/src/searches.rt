@@ -1,15 +1,17 @@
 //! Searches among the items of a list of arguments.
 ghost use Rattle.std.specs.Prelude.{◌≡◌, IfOk, map, option_map};
-ghost use Rattle.upath_commands.specs.Arguments.{fault_of, first_of, from_dir, has, operand_of};
-ghost use Rattle.upath_commands.specs.Arguments.{has_newline, has_zero, newline_fault};
-ghost use Rattle.upath_commands.specs.Arguments.{refusal_of, request_of};
+ghost use Rattle.std.specs.Prelude.{◌++◌, ◌∷◌, ◌≤◌, [], find, length};
+ghost use Rattle.std.specs.Option.{option_to_list};
+ghost use Rattle.upath_commands.specs.Arguments.{asked_in, dashes_at, fault_of, first_of};
+ghost use Rattle.upath_commands.specs.Arguments.{foreign_option, has, has_newline};
+ghost use Rattle.upath_commands.specs.Arguments.{is_dashes, last_value, newline_fault, operands_of};
+ghost use Rattle.upath_commands.specs.Arguments.{request_after, requested, unknown_option};
 ghost use Rattle.upath_commands.specs.Invocations.{invocation_value, path_bytes, usage_value};
 ghost use Rattle.upath_commands.specs.Items.{item_value};
-ghost use Rattle.std.specs.List.{filter_map};
 
 use crate::command::Invocation;
 use crate::items::{Item, ItemKind};
-use crate::options::{Flag, Verb, has_option};
+use crate::options::{Flag, Request, Verb, has_option, verb_by_name};
 use crate::usage::{UsageError, UsageErrorKind};
 use std::alloc::{AllocError, Global};
 use unix_bytes::search::find_byte;
@@ -31,20 +33,61 @@ pub fn has(items: &[Item<'_>], option: Flag) -> bool
     false
 }
 
-/// Returns what the first `--help` or `--version` asks for, or `None` if there is neither.
+/// Returns what is asked for, with this name of a command.
 ///
-/// For the items of `canon` and `--help` it is `Invocation::Help`.
-pub fn request_in<'a>(items: &[Item<'a>]) -> Option<Invocation<'a>>
-    ensures { option_map invocation_value result ≡ first_of request_of (map item_value items.now) }
+/// For `Request::Version` it is `Invocation::Version`.
+pub fn requested(request: Request, name: Path<'_>) -> Invocation<'_>
+    ensures { invocation_value result ≡ requested request (path_bytes name.entry) }
 {
-    for item in items {
-        match item.kind {
-            ItemKind::Option(Flag::Help) => return Some(Invocation::Help),
-            ItemKind::Option(Flag::Version) => return Some(Invocation::Version),
-            _ => {}
+    match request {
+        Request::Help => Invocation::Help(name),
+        Request::Version => Invocation::Version,
+    }
+}
+
+// Returns what the first of these items asks for, just after the command with this name.
+fn request_after<'a>(name: Path<'a>, items: &[Item<'_>]) -> Option<Invocation<'a>>
+    ensures { option_map invocation_value result
+        ≡ request_after (path_bytes name.entry) (map item_value items.now) }
+{
+    let [first, ..] = items else {
+        return None;
+    };
+    match first.kind {
+        ItemKind::Request(request) if verb_by_name(name.bytes).is_some() => {
+            Some(requested(request, name))
+        }
+        _ => None,
+    }
+}
+
+/// Returns what is asked for just after the command, or `None` if nothing is.
+///
+/// For the items of `canon` and `--help` it is `Invocation::Help` of `canon`.
+pub fn request_in<'a>(items: &[Item<'a>]) -> Option<Invocation<'a>>
+    ensures { option_map invocation_value result ≡ asked_in (map item_value items.now) }
+{
+    for (index, item) in items.iter().enumerate() {
+        if let ItemKind::Operand = item.kind {
+            return request_after(item.bytes, &items[index + 1..]);
         }
     }
     None
+}
+
+// Returns the wrong usage that an item is for every command.
+fn fault_of<'a>(item: Item<'a>) -> Option<UsageError<'a>>
+    ensures { option_map usage_value result ≡ fault_of (item_value item.entry) }
+{
+    let kind = match item.kind {
+        ItemKind::Wrong(kind) => kind,
+        ItemKind::Request(_) => UsageErrorKind::MisplacedRequest,
+        _ => return None,
+    };
+    Some(UsageError {
+        kind,
+        argument: item.bytes,
+    })
 }
 
 /// Returns the first item that is wrong usage whatever the command is, or `None` if there is none.
@@ -54,50 +97,60 @@ pub fn fault_in<'a>(items: &[Item<'a>]) -> Option<UsageError<'a>>
     ensures { option_map usage_value result ≡ first_of fault_of (map item_value items.now) }
 {
     for item in items {
-        if let ItemKind::Wrong(kind) = item.kind {
-            return Some(UsageError {
-                kind,
-                argument: item.bytes,
-            });
+        if let Some(error) = fault_of(*item) {
+            return Some(error);
         }
     }
     None
+}
+
+// Returns the wrong usage that an unknown option is.
+fn unknown_option(bytes: Path<'_>) -> UsageError<'_>
+    ensures { usage_value result ≡ unknown_option (path_bytes bytes.entry) }
+{
+    UsageError {
+        kind: if bytes.bytes.len() == 1 {
+            UsageErrorKind::UnknownLetter
+        } else {
+            UsageErrorKind::UnknownOption
+        },
+        argument: bytes,
+    }
 }
 
 /// Returns the first option that the command doesn't have, as an unknown option, or `None` if it
 /// has all of them.
 ///
 /// For `Verb::Canon` and the items of `canon` and `-b` it is `b`.
-pub fn refusal_in<'a>(verb: Verb, items: &[Item<'a>]) -> Option<UsageError<'a>>
+pub fn foreign_option<'a>(verb: Verb, items: &[Item<'a>]) -> Option<UsageError<'a>>
     ensures { option_map usage_value result
-        ≡ first_of (refusal_of verb) (map item_value items.now) }
+        ≡ first_of (foreign_option verb) (map item_value items.now) }
 {
     for item in items {
         if let ItemKind::Option(flag) = item.kind {
             if !has_option(verb, flag) {
-                return Some(UsageError {
-                    kind: UsageErrorKind::UnknownOption,
-                    argument: item.bytes,
-                });
+                return Some(unknown_option(item.bytes));
             }
         }
     }
     None
 }
 
-/// Returns the value of the last `--from`, or `None` if there is no `--from`.
+/// Returns the last value of the option, or `None` if there is none.
 ///
-/// For the items of `--from=a` it is `a`.
-pub fn from_dir<'a>(items: &[Item<'a>]) -> Option<Path<'a>>
-    ensures { option_map path_bytes result ≡ from_dir (map item_value items.now) }
+/// For the items of `--from=a` and `Flag::From` it is `a`.
+pub fn last_value<'a>(items: &[Item<'a>], option: Flag) -> Option<Path<'a>>
+    ensures { option_map path_bytes result ≡ last_value (map item_value items.now) option }
 {
-    let mut dir = None;
+    let mut value = None;
     for item in items {
-        if let ItemKind::Value = item.kind {
-            dir = Some(item.bytes);
+        if let ItemKind::Value(given) = item.kind {
+            if given == option {
+                value = Some(item.bytes);
+            }
         }
     }
-    dir
+    value
 }
 
 /// Returns the operands, in their order.
@@ -105,7 +158,7 @@ pub fn from_dir<'a>(items: &[Item<'a>]) -> Option<Path<'a>>
 /// For the items of `canon`, `-z` and `a` they are `canon` and `a`.
 pub fn operands_in<'a>(alloc: Global, items: &[Item<'a>]) -> Result<Vec<Path<'a>>, AllocError>
     ensures { IfOk result (λ operands. map path_bytes operands.items
-        ≡ filter_map operand_of (map item_value items.now)) }
+        ≡ operands_of (map item_value items.now)) }
 {
     let mut operands = Vec::new(alloc);
     for item in items {
@@ -116,6 +169,40 @@ pub fn operands_in<'a>(alloc: Global, items: &[Item<'a>]) -> Result<Vec<Path<'a>
     Ok(operands)
 }
 
+// Returns true if and only if the item is `--`.
+fn is_dashes(item: Item<'_>) -> bool
+    ensures { result ≡ is_dashes (item_value item.entry) }
+{
+    matches!(item.kind, ItemKind::Dashes)
+}
+
+// Returns the number of operands that an item is: 1 or 0.
+fn operand_count(item: Item<'_>) -> usize
+    ensures value { result ≡ length (operands_of (item_value item.entry ∷ [])) }
+    ensures bound { result ≤ 1 }
+{
+    match item.kind {
+        ItemKind::Operand => 1,
+        _ => 0,
+    }
+}
+
+/// Returns the number of operands before `--`, or 0 without it.
+///
+/// For the items of `canon`, `--` and `a` it is 1.
+pub fn dashes_at(items: &[Item<'_>]) -> usize
+    ensures { result ≡ dashes_at (map item_value items.now) }
+{
+    let mut count = 0;
+    for item in items {
+        if is_dashes(*item) {
+            return count;
+        }
+        count += operand_count(*item);
+    }
+    0
+}
+
 // Returns true if and only if the bytes have a newline.
 pub(crate) fn has_newline(bytes: &[u8]) -> bool
     ensures { result ≡ has_newline bytes.now }
@@ -123,31 +210,36 @@ pub(crate) fn has_newline(bytes: &[u8]) -> bool
     find_byte(bytes, b'\n') < bytes.len()
 }
 
-// Returns true if and only if the bytes have a NUL.
-pub(crate) fn has_zero(bytes: &[u8]) -> bool
-    ensures { result ≡ has_zero bytes.now }
+// Returns the first operand with a newline, or the value of `--or` if only that has one.
+fn newline_in<'a>(items: &[Item<'a>], operands: &[Path<'a>]) -> Option<Path<'a>>
+    ensures { option_map path_bytes result ≡ find has_newline (map path_bytes operands.now
+        ++ option_to_list (last_value (map item_value items.now) Flag.Or)) }
 {
-    find_byte(bytes, 0) < bytes.len()
+    for operand in operands {
+        if has_newline(operand.bytes) {
+            return Some(*operand);
+        }
+    }
+    match last_value(items, Flag::Or) {
+        Some(text) if has_newline(text.bytes) => Some(text),
+        _ => None,
+    }
 }
 
-/// Returns the first operand with a newline, as wrong usage. Returns `None` if no operand has a
-/// newline, or if `-z` is among the items.
+/// Returns the first operand with a newline, or the value of `--or`, as wrong usage. Returns `None`
+/// if none has a newline, or if `-z` is among the items.
 ///
 /// For the items of `-z` there is none.
-pub fn newline_in<'a>(items: &[Item<'_>], operands: &[Path<'a>]) -> Option<UsageError<'a>>
+pub fn newline_fault<'a>(items: &[Item<'a>], operands: &[Path<'a>]) -> Option<UsageError<'a>>
     ensures { option_map usage_value result
         ≡ newline_fault (map item_value items.now) (map path_bytes operands.now) }
 {
     if has(items, Flag::Null) {
         return None;
     }
-    for operand in operands {
-        if has_newline(operand.bytes) {
-            return Some(UsageError {
-                kind: UsageErrorKind::NewlineInOperand,
-                argument: *operand,
-            });
-        }
-    }
-    None
+    let argument = newline_in(items, operands)?;
+    Some(UsageError {
+        kind: UsageErrorKind::NewlineInOperand,
+        argument,
+    })
 }

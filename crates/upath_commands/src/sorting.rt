@@ -1,15 +1,15 @@
 //! Paths in the order of paths.
-ghost use Rattle.std.specs.Prelude.{◌≡◌, OnOk, OnErr, IfOk, reverse};
-ghost use Rattle.std.specs.Io.BufRead.{first_piece};
+ghost use Rattle.std.specs.Prelude.{◌≡◌, OnOk, OnErr, option_map, reverse, true};
 ghost use Rattle.std.specs.List.{dedup};
-ghost use Rattle.upath_commands.specs.Records.{paths_of, records_of};
+ghost use Rattle.std.specs.Option.{option_to_list};
+ghost use Rattle.upath_commands.specs.Records.{paths_of};
 ghost use Rattle.upath_commands.specs.Invocations.{command_value};
-ghost use Rattle.upath_commands.specs.Sorting.{comes_before, is_uniq, sort_options, sorted_by};
-ghost use Rattle.upath_commands.specs.Sorting.{same_path, sorted_of};
+ghost use Rattle.upath_commands.specs.Sorting.{chosen, comes_before, disorder_of, is_gathered};
+ghost use Rattle.upath_commands.specs.Sorting.{is_uniq, may_precede, same_path, sorted_by};
+ghost use Rattle.upath_commands.specs.Sorting.{sorted_of};
 
 use crate::command::{Command, SortOptions};
-use std::alloc::{AllocError, Global};
-use unix_bytes::search::find_byte;
+use std::alloc::AllocError;
 use unix_path::Path;
 
 // Sorts paths. Equal paths stay in their order. Allocates for at most as many paths.
@@ -31,9 +31,9 @@ fn keep_firsts(paths: &mut Vec<Path<'_>>)
     paths.dedup();
 }
 
-// Reverses paths.
+// Reverses the order of paths.
 #[tactic(auto, using(crate::proofs::lemmas::SortingLemmas::turned_paths))]
-fn turn(paths: &mut Vec<Path<'_>>)
+fn reverse_order(paths: &mut Vec<Path<'_>>)
     ensures { paths_of paths.new.items ≡ reverse (paths_of paths.old.items) }
 {
     paths.reverse();
@@ -55,48 +55,76 @@ pub fn sort_paths(options: SortOptions, paths: &mut Vec<Path<'_>>) -> Result<(),
         keep_firsts(paths);
     }
     if options.reversed {
-        turn(paths);
+        reverse_order(paths);
     }
     Ok(())
 }
 
-// Returns the bytes before the first byte `end`, or all bytes if there is none.
-fn first_record(input: &[u8], end: u8) -> &[u8]
-    ensures { result.now ≡ first_piece end input.now }
+// Returns true if and only if the first path may come just before the second in a sorted list.
+fn may_precede(options: SortOptions, path: Path<'_>, next: Path<'_>) -> bool
+    ensures { result ≡ may_precede options path.entry.bytes.now next.entry.bytes.now }
 {
-    let len = find_byte(input, end);
-    &input[..len]
-}
-
-/// Returns the records of an input as paths, in the same memory. A record ends at the byte `end`,
-/// which the last record may lack if it isn't empty.
-///
-/// Allocates for the list. Fails only if that allocation fails.
-///
-/// For the bytes `a b`, and for a space as `end`, it returns `a` and `b`.
-pub fn records_in(alloc: Global, input: &[u8], end: u8) -> Result<Vec<Path<'_>>, AllocError>
-    ensures { IfOk result (λ paths. paths_of paths.items ≡ records_of end input.now) }
-{
-    let mut paths = Vec::new(alloc);
-    let mut at = 0;
-    while at < input.len() {
-        let path = Path::from_bytes(first_record(&input[at..], end));
-        paths.push(path)?;
-        at += path.bytes.len();
-        if at < input.len() {
-            at += 1;
-        }
+    let (first, second) = if options.reversed {
+        (next, path)
+    } else {
+        (path, next)
+    };
+    if options.unique {
+        first < second
+    } else {
+        !(second < first)
     }
-    Ok(paths)
 }
 
-// Returns the options of `sort`, or `None` for other commands.
-pub(crate) fn sort_options(command: Command<'_>) -> Option<SortOptions>
-    ensures { result ≡ sort_options (command_value command.entry) }
+// Returns the first path that is out of order, or `None` if there is none.
+//
+// Of `a`, `c` and `b` it is `b`.
+pub(crate) fn disorder_of<'a>(options: SortOptions, paths: &[Path<'a>]) -> Option<Path<'a>>
+    ensures { option_map (λ path. path.bytes.now) result
+        ≡ disorder_of options (paths_of paths.now) }
+{
+    let mut rest = paths;
+    while let [path, after @ ..] = rest {
+        if let [next, ..] = after {
+            if !may_precede(options, *path, *next) {
+                return Some(*next);
+            }
+        }
+        rest = after;
+    }
+    None
+}
+
+// Leaves only the first path that is out of order.
+fn keep_disorder(options: SortOptions, paths: &mut Vec<Path<'_>>) -> Result<(), AllocError>
+    ensures { OnOk result (paths_of paths.new.items
+        ≡ option_to_list (disorder_of options (paths_of paths.old.items))) }
+{
+    let found = disorder_of(options, paths.as_slice());
+    paths.clear();
+    if let Some(path) = found {
+        paths.push(path)?;
+    }
+    Ok(())
+}
+
+// Returns true if and only if the command needs all paths before it answers.
+pub(crate) fn is_gathered(command: Command<'_>) -> bool
+    ensures { result ≡ is_gathered (command_value command.entry) }
+{
+    matches!(command, Command::Sort(_) | Command::Check(_))
+}
+
+// Leaves the paths that a command answers that needs all paths, in their order.
+pub(crate) fn choose(command: Command<'_>, paths: &mut Vec<Path<'_>>) -> Result<(), AllocError>
+    requires { is_gathered (command_value command) ≡ true }
+    ensures { OnOk result (paths_of paths.new.items
+        ≡ chosen (command_value command.entry) (paths_of paths.old.items)) }
 {
     match command {
-        Command::Sort(options) => Some(options),
-        _ => None,
+        Command::Sort(options) => sort_paths(options, paths),
+        Command::Check(options) => keep_disorder(options, paths),
+        _ => Ok(()),
     }
 }
 

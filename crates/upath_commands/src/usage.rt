@@ -1,8 +1,9 @@
 //! Wrong usage: lists of arguments without a meaning.
 ghost use Rattle.std.specs.Prelude.{◌≡◌, ◌++◌, OnOk};
 ghost use Rattle.upath_commands.specs.Invocations.{usage_value};
-ghost use Rattle.upath_commands.specs.Usage.{usage_line, usage_text};
+ghost use Rattle.upath_commands.specs.Usage.{shown_argument, usage_line, usage_text};
 
+use crate::shown::push_shown;
 use std::alloc::AllocError;
 use unix_path::Path;
 
@@ -17,11 +18,15 @@ pub enum UsageErrorKind {
     UnknownCommand,
     /// The command doesn't have this option, or no command has it.
     UnknownOption,
+    /// The same of a short option. The error's argument is its letter.
+    UnknownLetter,
+    /// `--help`, `-h` or `--version` is neither the first argument nor just after the command.
+    MisplacedRequest,
     /// The last argument is this option, which needs a value.
     MissingValue,
     /// This argument gives a value to an option that takes none.
     UnexpectedValue,
-    /// Two options of this command contradict each other.
+    /// Two options of this command exclude each other.
     ContradictoryOptions,
     /// This command needs the operand ROOT.
     MissingRoot,
@@ -33,6 +38,8 @@ pub enum UsageErrorKind {
     MissingPair,
     /// The command has this operand too many.
     UnexpectedOperand,
+    /// This path comes before a `--` that begins the paths.
+    BeforeDashes,
     /// This operand has a newline, although newlines end the records.
     NewlineInOperand,
 }
@@ -53,19 +60,38 @@ fn usage_text(kind: UsageErrorKind) -> &'static [u8]
     ensures { result.now ≡ usage_text kind }
 {
     match kind {
-        UsageErrorKind::MissingCommand => b"no command",
+        UsageErrorKind::MissingCommand => b"COMMAND is missing",
         UsageErrorKind::UnknownCommand => b"unknown command",
-        UsageErrorKind::UnknownOption => b"unknown option",
-        UsageErrorKind::MissingValue => b"needs a value",
+        UsageErrorKind::UnknownOption | UsageErrorKind::UnknownLetter => b"unknown option",
+        UsageErrorKind::MisplacedRequest => b"must be the first argument or follow the command",
+        UsageErrorKind::MissingValue => b"its value is missing",
         UsageErrorKind::UnexpectedValue => b"takes no value",
-        UsageErrorKind::ContradictoryOptions => b"options contradict each other",
-        UsageErrorKind::MissingRoot => b"needs ROOT",
-        UsageErrorKind::MissingBase => b"needs BASE",
-        UsageErrorKind::MissingFrom => b"needs --from=DIR",
-        UsageErrorKind::MissingPair => b"needs two paths",
+        UsageErrorKind::ContradictoryOptions => {
+            b"--beneath, --in-root and --verbatim exclude one another"
+        }
+        UsageErrorKind::MissingRoot => b"ROOT is missing",
+        UsageErrorKind::MissingBase => b"BASE is missing",
+        UsageErrorKind::MissingFrom => b"--from=DIR is missing",
+        UsageErrorKind::MissingPair => b"A or B is missing",
         UsageErrorKind::UnexpectedOperand => b"one operand too many",
+        UsageErrorKind::BeforeDashes => b"comes before --",
         UsageErrorKind::NewlineInOperand => b"has a newline, which needs -z",
     }
+}
+
+// Appends the argument of wrong usage and a colon, unless there is none.
+fn push_argument(error: UsageError<'_>, out: &mut Vec<u8>) -> Result<(), AllocError>
+    ensures { OnOk result (out.new.items ≡ out.old.items
+        ++ shown_argument (usage_value error.entry)) }
+{
+    match error.kind {
+        UsageErrorKind::MissingCommand => return Ok(()),
+        UsageErrorKind::UnknownLetter => out.push(b'-')?,
+        _ => {}
+    }
+    push_shown(error.argument.bytes, out)?;
+    out.extend_from_slice(b": ")?;
+    Ok(())
 }
 
 // Appends the line for wrong usage.
@@ -74,9 +100,8 @@ pub(crate) fn push_usage(error: UsageError<'_>, out: &mut Vec<u8>) -> Result<(),
         ≡ out.old.items ++ usage_line (usage_value error.entry)) }
 {
     out.extend_from_slice(b"upath: ")?;
+    push_argument(error, out)?;
     out.extend_from_slice(usage_text(error.kind))?;
-    out.extend_from_slice(b": ")?;
-    out.extend_from_slice(error.argument.bytes)?;
     out.extend_from_slice(b"\nTry 'upath --help'.\n")?;
     Ok(())
 }

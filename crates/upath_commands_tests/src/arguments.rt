@@ -23,12 +23,15 @@ fn push_if(out: &mut Vec<u8>, is_given: bool, word: &str) -> Result<(), AllocErr
 }
 
 // Appends a slash, and a letter for each setting that is on.
-fn push_settings(out: &mut Vec<u8>, settings: Settings) -> Result<(), AllocError> {
+fn push_settings(out: &mut Vec<u8>, settings: Settings<'_>) -> Result<(), AllocError> {
     out.push(b'/')?;
     push_if(out, settings.null, "z")?;
     push_if(out, settings.pair, "p")?;
     push_if(out, settings.quiet, "q")?;
-    push_if(out, settings.line_buffered, "l")
+    match settings.or {
+        Some(text) => push(out, "o", text),
+        None => Ok(()),
+    }
 }
 
 fn push_escapes(out: &mut Vec<u8>, options: EscapesOptions) -> Result<(), AllocError> {
@@ -41,11 +44,11 @@ fn push_under(out: &mut Vec<u8>, options: UnderOptions, base: Path<'_>) -> Resul
     push(out, "under:", base)?;
     push_if(out, options.inverted, "+inverted")?;
     push_if(out, options.stripped, "+stripped")?;
-    push_if(out, options.by_parts, "+by-parts")
+    push_if(out, options.by_components, "+by-components")
 }
 
-fn push_sort(out: &mut Vec<u8>, options: SortOptions) -> Result<(), AllocError> {
-    push(out, "sort", Path { bytes: b"" })?;
+fn push_sort(out: &mut Vec<u8>, name: &str, options: SortOptions) -> Result<(), AllocError> {
+    push(out, name, Path { bytes: b"" })?;
     push_if(out, options.unique, "+unique")?;
     push_if(out, options.reversed, "+reversed")
 }
@@ -66,6 +69,7 @@ fn push_command(out: &mut Vec<u8>, command: Command<'_>) -> Result<(), AllocErro
         Command::Canon => push(out, "canon", none),
         Command::Resolve => push(out, "resolve", none),
         Command::Parent => push(out, "parent", none),
+        Command::Ancestors => push(out, "ancestors", none),
         Command::Name => push(out, "name", none),
         Command::Stem => push(out, "stem", none),
         Command::Extension => push(out, "ext", none),
@@ -75,29 +79,34 @@ fn push_command(out: &mut Vec<u8>, command: Command<'_>) -> Result<(), AllocErro
         Command::Strip(base) => push(out, "strip:", base),
         Command::Relative(dir) => push(out, "relative:", dir),
         Command::Key => push(out, "key", none),
-        Command::Unkey(false) => push(out, "unkey", none),
-        Command::Unkey(true) => push(out, "unkey+null", none),
+        Command::Unkey => push(out, "unkey", none),
         Command::Escapes(options) => push_escapes(out, options),
         Command::Under(options, base) => push_under(out, options, base),
-        Command::Sort(options) => push_sort(out, options),
+        Command::Sort(options) => push_sort(out, "sort", options),
+        Command::Check(options) => push_sort(out, "check", options),
         Command::Uniq => push(out, "uniq", none),
     }
 }
 
 fn push_invocation(out: &mut Vec<u8>, invocation: Invocation<'_>) -> Result<(), AllocError> {
     match invocation {
-        Invocation::Help => out.extend_from_slice(b"help")?,
+        Invocation::Help(name) => push(out, "help:", name)?,
         Invocation::Version => out.extend_from_slice(b"version")?,
         Invocation::Equal(settings, a, b) => {
             push(out, "equal:", a)?;
             push(out, "=", b)?;
             push_settings(out, settings)?;
         }
-        Invocation::Each(command, settings, operands) => {
+        Invocation::Each(command, settings, None) => {
             push_command(out, command)?;
             push_settings(out, settings)?;
-            for operand in &operands {
-                push(out, " ", *operand)?;
+            push(out, " <", Path { bytes: b"" })?;
+        }
+        Invocation::Each(command, settings, Some(paths)) => {
+            push_command(out, command)?;
+            push_settings(out, settings)?;
+            for path in &paths {
+                push(out, " ", *path)?;
             }
         }
     }
@@ -137,35 +146,37 @@ fn means(alloc: Global, line: &str, want: &str) -> bool {
 #[test]
 fn commands(rt: HostRuntime) {
     for (line, want) in [
-        ("canon", "canon/"),
+        ("canon", "canon/ <"),
         ("canon a b", "canon/ a b"),
         ("resolve a", "resolve/ a"),
         ("parent a", "parent/ a"),
+        ("ancestors a", "ancestors/ a"),
         ("name a", "name/ a"),
         ("stem a", "stem/ a"),
         ("ext a", "ext/ a"),
         ("parts a", "parts/ a"),
         ("parts -b a", "parts-from-back/ a"),
         ("join r a", "join:r/ a"),
-        ("join --beneath r", "beneath:r/"),
+        ("join --beneath r", "beneath:r/ <"),
         ("join r --in-root a", "in-root:r/ a"),
-        ("join --verbatim --verbatim r", "verbatim:r/"),
+        ("join --verbatim --verbatim r", "verbatim:r/ <"),
         ("strip b a", "strip:b/ a"),
         ("relative --from=d a", "relative:d/ a"),
         ("key a", "key/ a"),
-        ("key -z", "key/z"),
+        ("key -z", "key/z <"),
         ("unkey 6100", "unkey/ 6100"),
-        ("unkey 6100 --null", "unkey+null/z 6100"),
+        ("unkey 6100 --null", "unkey/z 6100"),
         ("escapes -v a", "escapes+inverted/ a"),
-        ("escapes --reason", "escapes+reason/"),
+        ("escapes --reason", "escapes+reason/ <"),
         ("under b a", "under:b/ a"),
         (
-            "under -v b --strip --by-parts",
-            "under:b+inverted+stripped+by-parts/",
+            "under -v b --strip --by-components",
+            "under:b+inverted+stripped+by-components/ <",
         ),
         ("sort b a", "sort/ b a"),
-        ("sort -zu", "sort+unique/z"),
-        ("-r sort -u", "sort+unique+reversed/"),
+        ("sort -zu", "sort+unique/z <"),
+        ("-r sort -u", "sort+unique+reversed/ <"),
+        ("sort -cu a", "check+unique/ a"),
         ("uniq a", "uniq/ a"),
         ("equal a b", "equal:a=b/"),
     ] {
@@ -177,21 +188,36 @@ fn commands(rt: HostRuntime) {
 fn options(rt: HostRuntime) {
     for (line, want) in [
         ("-z canon a -p b", "canon/zp a b"),
-        ("canon -zpq --line-buffered -z", "canon/zpql"),
-        ("canon --null --pair --quiet", "canon/zpq"),
-        ("canon - -z -- -p --help -", "canon/z - -p --help -"),
+        ("canon -zpq -z", "canon/zpq <"),
+        ("canon --null --pair --quiet", "canon/zpq <"),
+        ("canon --or=x --or y a", "canon/oy a"),
+        ("canon --or --help", "canon/o--help <"),
+        ("canon - -z a", "canon/z - a"),
+        ("canon -z -- -p --help -", "canon/z -p --help -"),
         ("-- canon --", "canon/ --"),
+        ("-- canon", "canon/ <"),
+        ("canon --", "canon/"),
+        ("join --", "MissingRoot join"),
+        ("join -- r a", "join:r/ a"),
+        ("join r -- a", "join:r/ a"),
+        ("join r --", "join:r/"),
+        ("join r a -- b", "BeforeDashes a"),
         ("relative --from d a", "relative:d/ a"),
         ("relative --from -- a", "relative:--/ a"),
-        ("relative --from --help", "relative:--help/"),
+        ("relative --from --help", "relative:--help/ <"),
         ("relative --from= a", "relative:/ a"),
-        ("relative --from=a=b", "relative:a=b/"),
-        ("relative --from a --from=b", "relative:b/"),
+        ("relative --from=a=b", "relative:a=b/ <"),
+        ("relative --from a --from=b", "relative:b/ <"),
         ("equal -q a b", "equal:a=b/q"),
+        ("equal a -- b", "equal:a=b/"),
         ("canon -z a\nb", "canon/z a\nb"),
-        ("--help", "help"),
-        ("canon --bogus --help --version", "help"),
+        ("--help", "help:"),
+        ("-h canon x", "help:canon"),
+        ("help join", "help:join"),
+        ("join -h", "help:join"),
+        ("-x canon --help", "help:canon"),
         ("--version -x", "version"),
+        ("uniq --version", "version"),
     ] {
         assert!(rt; means(rt.alloc(), line, want), "at {line}");
     }
@@ -202,20 +228,27 @@ fn wrong_usage(rt: HostRuntime) {
     for (line, want) in [
         ("", "MissingCommand "),
         ("-z", "MissingCommand "),
-        ("cannon -b", "UnknownCommand cannon"),
-        ("canon -b", "UnknownOption b"),
-        ("canon -zxy", "UnknownOption x"),
-        ("canon -z-", "UnknownOption -"),
+        ("cannon a", "UnknownCommand cannon"),
+        ("-z help", "UnknownCommand help"),
+        ("canon -b", "UnknownLetter b"),
+        ("canon -zxy", "UnknownLetter x"),
+        ("canon -z\u{e9}y", "UnknownLetter \u{e9}"),
+        ("canon -zh", "UnknownLetter h"),
+        ("canon -z-", "UnknownLetter -"),
         ("canon --nul", "UnknownOption --nul"),
         ("canon --nul=1", "UnknownOption --nul=1"),
         ("canon --=1", "UnknownOption --=1"),
+        ("canon --help=1", "UnknownOption --help=1"),
+        ("canon --line-buffered", "UnknownOption --line-buffered"),
         ("canon --from=a", "UnknownOption --from=a"),
         ("canon --null=1", "UnexpectedValue --null=1"),
-        ("canon --help=1", "UnexpectedValue --help=1"),
         ("relative a --from", "MissingValue --from"),
-        ("key -v a", "UnknownOption v"),
+        ("canon --or", "MissingValue --or"),
+        ("key -v a", "UnknownLetter v"),
+        ("uniq -c", "UnknownLetter c"),
         ("unkey --from=a", "UnknownOption --from=a"),
         ("unkey a\nb", "NewlineInOperand a\nb"),
+        ("unkey --or=a\nb c", "NewlineInOperand a\nb"),
         ("relative a", "MissingFrom relative"),
         ("join", "MissingRoot join"),
         ("join --verbatim --beneath", "ContradictoryOptions join"),
@@ -226,6 +259,9 @@ fn wrong_usage(rt: HostRuntime) {
         ("equal a b c d", "UnexpectedOperand c"),
         ("canon a b\nc", "NewlineInOperand b\nc"),
         ("strip b\nc", "NewlineInOperand b\nc"),
+        ("canon a --help", "MisplacedRequest --help"),
+        ("cannon --help", "MisplacedRequest --help"),
+        ("join r -h", "MisplacedRequest -h"),
     ] {
         assert!(rt; means(rt.alloc(), line, want), "at {line}");
     }

@@ -6,4 +6,6 @@ mod arguments;
 #[cfg(test)]
 mod keys;
 #[cfg(test)]
+mod runs;
+#[cfg(test)]
 mod sorting;

@@ -1,26 +1,41 @@
--- The items of arguments, and what a meaning takes from them.
-use Rattle.std.proofs.Common.{◌≡◌, ◌≢◌, ℕ, true, false, List, [], ◌∷◌, ◌++◌, map}
-use Rattle.std.proofs.Common.{Option, Some, None, refl, sym, ap, ◌∙◌, eqb, ne_eqb}
-use Rattle.std.specs.List.{filter_map, list_all}
-use Rattle.std.proofs.lemmas.Bool.{eqb-false, false≢true}
+-- The items of arguments, and what is asked for by the first argument.
+use Rattle.std.proofs.Common.{◌≡◌, ◌≢◌, ◌<◌, ℕ, true, false, List, [], ◌∷◌, ◌++◌, map, codes}
+use Rattle.std.proofs.Common.{Option, Some, None, refl, sym, ap, ap₂, ◌∙◌, eqb, ne_eqb, arith}
+use Rattle.std.proofs.Common.{option_map, is_some}
+use Rattle.std.specs.List.{All, list_all}
+use Rattle.std.specs.Str.{bytes_eq}
+use Rattle.std.proofs.lemmas.Bool.{eqb-false, eqb-true, false≢true}
+use Rattle.std.proofs.lemmas.List.Elements.{All-head, All-tail}
+use Rattle.std.proofs.lemmas.Slice.Eq.{bytes_eq-Decides}
 use Rattle.unix_bytes.proofs.lemmas.lists.ListLemmas.{by_test}
+use Rattle.unix_bytes.proofs.lemmas.lossy.LossyLemmas.{is_text-from_IsText}
+use Rattle.unix_bytes.proofs.lemmas.prefixes.PrinterLemmas.{first_is_text}
+use Rattle.upath_commands.specs.declared.items.ItemKind.TheVariants as kind
 use Rattle.upath_commands.specs.declared.options.Flag.{Flag}
-use Rattle.upath_commands.specs.Arguments.{meaning_of, operand_of}
+use Rattle.upath_commands.specs.declared.usage.UsageErrorKind.TheVariants.{UnknownLetter}
+use Rattle.upath_commands.specs.Arguments.{asked_first, first_word, meaning_of, meaning_of_items}
+use Rattle.upath_commands.specs.Arguments.{request_of, request_or, requested}
 use Rattle.upath_commands.specs.ArgumentLaws.{is_plain, short}
-use Rattle.upath_commands.proofs.lemmas.MeaningLemmas.{meaning_with, meaning_with-same}
-use Rattle.upath_commands.specs.Items.{ItemValue, items_after, known, letter_items, operand}
+use Rattle.upath_commands.specs.Items.{character, items_after, letter_item}
+use Rattle.upath_commands.specs.Items.{letter_items, operand}
+use Rattle.upath_commands.specs.Options.{option_by_letter, verb_by_name}
+
+-- bytes that differ are told apart
+pub differ : (xs ys : List ℕ) → xs ≢ ys → bytes_eq xs ys ≡ false
+differ xs ys h =
+    by_test (bytes_eq xs ys) (λ e. absurd (h ((bytes_eq-Decides xs ys).0 e))) (λ e. e)
 
 -- an argument that doesn't begin with a dash is an operand
-items_after-plain : (argument : List ℕ) (rest : List (List ℕ)) → is_plain argument ≡ true
-    → items_after false (argument ∷ rest) ≡ operand argument ∷ items_after false rest
+pub items_after-plain : (argument : List ℕ) (rest : List (List ℕ)) → is_plain argument ≡ true
+    → items_after None (argument ∷ rest) ≡ operand argument ∷ items_after None rest
 items_after-plain [] rest h = refl
 items_after-plain (b ∷ bs) rest h =
     by_test (eqb 45 b) (λ e. absurd (false≢true (rw e at h)))
-    (λ e. rw (e, ne_eqb b 45 (λ same. eqb-false 45 b e (sym same))) refl)
+    (λ e. rw (ne_eqb b 45 (λ same. eqb-false 45 b e (sym same)), e) refl)
 
 -- arguments that don't begin with dashes are operands
 pub items_after-plains : (before rest : List (List ℕ)) → list_all is_plain before ≡ true
-    → items_after false (before ++ rest) ≡ map operand before ++ items_after false rest
+    → items_after None (before ++ rest) ≡ map operand before ++ items_after None rest
 items_after-plains [] rest h = refl
 items_after-plains (argument ∷ before) rest h =
     by_test (is_plain argument)
@@ -30,53 +45,85 @@ items_after-plains (argument ∷ before) rest h =
 
 -- an argument with a dash and letters, the first of which isn't a dash, has an item for each letter
 pub items_after-short : (a : ℕ) (letters : List ℕ) (rest : List (List ℕ)) → a ≢ 45
-    → items_after false (short (a ∷ letters) ∷ rest)
-    ≡ letter_items (a ∷ letters) ++ items_after false rest
-items_after-short a letters rest h =
-    rw (ne_eqb a 45 h, ne_eqb 45 a (λ same. h (sym same))) refl
+    → bytes_eq (a ∷ letters) (codes "h") ≡ false
+    → items_after None (short (a ∷ letters) ∷ rest)
+    ≡ letter_items (a ∷ letters) ++ items_after None rest
+items_after-short a letters rest h e =
+    rw (ne_eqb a 45 h, e, ne_eqb 45 a (λ same. h (sym same))) refl
 
--- an option, known or unknown, is no operand
-pub operand_of-known : (option : Option Flag) (bytes : List ℕ)
-    → operand_of (known option, bytes) ≡ None
-operand_of-known None bytes = refl
-operand_of-known (Some flag) bytes = refl
+-- an ASCII character is one byte
+character-ascii : (x : ℕ) (xs : List ℕ) → x < 128 → character (x ∷ xs) ≡ x ∷ []
+character-ascii x xs h =
+    rw (is_text-from_IsText (x ∷ []) (first_is_text (x ∷ xs) (omega arith) h)) refl
 
--- operands before the items change nothing but the operands
-pub meaning_with-operands : (before : List (List ℕ)) (items : List ItemValue) (all : List (List ℕ))
-    → meaning_with (map operand before ++ items) all ≡ meaning_with items all
-meaning_with-operands [] items all = refl
-meaning_with-operands (argument ∷ before) items all =
-    let rest = map operand before ++ items in
-    meaning_with-same (operand argument ∷ rest) rest
-    record { flags = λ flag. refl; dir = refl } refl refl (λ verb. refl) all
-    ∙ meaning_with-operands before items all
+letter_item-first : (found : Option Flag) (x : ℕ) (xs ys : List ℕ) → x < 128
+    → letter_item found (x ∷ (xs ++ ys)) ≡ letter_item found (x ∷ xs)
+letter_item-first (Some flag) x xs ys h = refl
+letter_item-first None x xs ys h =
+    ap (λ bytes. (kind.Wrong UnknownLetter, bytes))
+    (character-ascii x (xs ++ ys) h ∙ sym (character-ascii x xs h))
 
--- operands after the first item change nothing but the operands
-pub meaning_with-later : (first : ItemValue) (operands : List (List ℕ)) (items : List ItemValue)
-    (all : List (List ℕ)) → meaning_with (first ∷ (map operand operands ++ items)) all
-    ≡ meaning_with (first ∷ items) all
-meaning_with-later first [] items all = refl
-meaning_with-later first (argument ∷ operands) items all =
-    let rest = map operand operands ++ items in
-    meaning_with-same (first ∷ operand argument ∷ rest) (first ∷ rest)
-    record { flags = λ flag. refl; dir = refl } refl refl (λ verb. refl) all
-    ∙ meaning_with-later first operands items all
+-- the items of letters that are joined, the first of which are ASCII
+pub letter_items-append : (xs ys : List ℕ) → All (λ b. b < 128) xs
+    → letter_items (xs ++ ys) ≡ letter_items xs ++ letter_items ys
+letter_items-append [] ys h = refl
+letter_items-append (x ∷ xs) ys h =
+    ap₂ (λ item items. item ∷ items)
+    (letter_item-first (option_by_letter x) x xs ys (All-head (λ b. b < 128) x xs h))
+    (letter_items-append xs ys (All-tail (λ b. b < 128) x xs h))
 
--- operands before the items are the first operands
-pub operands-before : (before : List (List ℕ)) (items : List ItemValue)
-    → filter_map operand_of (map operand before ++ items) ≡ before ++ filter_map operand_of items
-operands-before [] items = refl
-operands-before (argument ∷ before) items =
-    ap (λ operands. argument ∷ operands) (operands-before before items)
+-- an argument that doesn't begin with a dash and isn't `help` is no request
+pub request_of-plain : (argument : List ℕ) → is_plain argument ≡ true → argument ≢ codes "help"
+    → request_of argument ≡ None
+request_of-plain [] h other = refl
+request_of-plain (b ∷ bs) h other =
+    by_test (eqb 45 b) (λ e. absurd (false≢true (rw e at h)))
+    (λ e. rw (differ (b ∷ bs) (codes "help") other)
+    (rw (ne_eqb b 45 (λ same. eqb-false 45 b e (sym same))) refl))
 
--- arguments that don't begin with dashes are the first operands
-pub meaning_of-plains : (before rest : List (List ℕ)) → list_all is_plain before ≡ true
-    → meaning_of (before ++ rest) ≡ meaning_with (items_after false rest)
-    (before ++ filter_map operand_of (items_after false rest))
+-- letters after a dash are no request, but for `-h`
+pub request_of-short : (a : ℕ) (letters : List ℕ) → a ≢ 45
+    → bytes_eq (a ∷ letters) (codes "h") ≡ false → request_of (short (a ∷ letters)) ≡ None
+request_of-short a letters h e = rw (ne_eqb a 45 h, e) refl
+
+-- a first argument that is no request asks for nothing
+pub first_asks_nothing : (argument : List ℕ) (after : List (List ℕ)) → request_of argument ≡ None
+    → asked_first (argument ∷ after) ≡ None
+first_asks_nothing argument after h =
+    ap (option_map (λ asked. requested asked (first_word after))) h
+
+-- nor do arguments that don't begin with a dash, before one that is no request
+pub not_asked : (before : List (List ℕ)) (argument : List ℕ) (after : List (List ℕ))
+    → list_all is_plain before ≡ true → first_word before ≢ codes "help"
+    → request_of argument ≡ None → asked_first (before ++ argument ∷ after) ≡ None
+not_asked [] argument after plain other h = first_asks_nothing argument after h
+not_asked (word ∷ before) argument after plain other h =
+    by_test (is_plain word)
+    (λ e. first_asks_nothing word (before ++ argument ∷ after) (request_of-plain word e other))
+    (λ e. absurd (false≢true (rw e at plain)))
+
+-- if the first argument asks for nothing, the items have the meaning
+pub meaning_of-items : (arguments : List (List ℕ)) → asked_first arguments ≡ None
+    → meaning_of arguments ≡ meaning_of_items (items_after None arguments)
 unfolding meaning_of
-meaning_of-plains before rest h =
-    let items = items_after false rest in
-    ap (λ items. meaning_with items (filter_map operand_of items))
-    (items_after-plains before rest h)
-    ∙ meaning_with-operands before items (filter_map operand_of (map operand before ++ items))
-    ∙ ap (meaning_with items) (operands-before before items)
+meaning_of-items arguments h =
+    ap (λ asked. request_or asked (meaning_of_items (items_after None arguments))) h
+
+-- the name of a command doesn't begin with a dash
+pub verb-plain : (name : List ℕ) → is_some (verb_by_name name) ≡ true → is_plain name ≡ true
+verb-plain [] h = absurd (false≢true h)
+verb-plain (b ∷ bs) h =
+    by_test (eqb b 45)
+    (λ e. absurd (false≢true (rw (eqb-true b 45 e) at h)))
+    (λ e. rw (ne_eqb 45 b (λ same. eqb-false b 45 e (sym same))) refl)
+
+-- no command is named `help`
+pub verb-not_help : (name : List ℕ) → is_some (verb_by_name name) ≡ true → name ≢ codes "help"
+verb-not_help name h same =
+    false≢true (ap (λ name. is_some (verb_by_name name)) (sym same) ∙ h)
+
+-- what is asked for on a command
+pub option_map-some : {A B : Type 0} (found : Option A) (x : B) → is_some found ≡ true
+    → option_map (λ it. x) found ≡ Some x
+option_map-some None x h = absurd (false≢true h)
+option_map-some (Some it) x h = refl

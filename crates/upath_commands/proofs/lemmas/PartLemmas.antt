@@ -6,7 +6,7 @@ use Rattle.std.specs.List.{flat_map}
 use Rattle.std.proofs.iter.Yields.{gives_Drains}
 use Rattle.std.proofs.lemmas.Iterator.{YieldsList}
 use Rattle.unix_bytes.specs.declared.bytes.UnixStr.{UnixStr}
-use Rattle.upath_commands.specs.declared.command.Settings.{Settings}
+use Rattle.upath_commands.specs.Invocations.{SettingsValue}
 use Rattle.upath_commands.specs.Answers.{record_of, record_output}
 use Rattle.upath_commands.proofs.lemmas.RecordLemmas.{by_test}
 
@@ -18,7 +18,7 @@ flat_map-append f (x ∷ xs) ys =
     ∙ sym (append_assoc (f x) (flat_map f xs) (flat_map f ys))
 
 -- the output for answers, and for more answers after them
-pub record_output-append : (settings : Settings) (p : List ℕ) (xs ys : List (List ℕ))
+pub record_output-append : (settings : SettingsValue) (p : List ℕ) (xs ys : List (List ℕ))
     → record_output settings p (xs ++ ys)
     ≡ record_output settings p xs ++ record_output settings p ys
 record_output-append settings p xs ys =
@@ -27,7 +27,7 @@ record_output-append settings p xs ys =
 
 -- if the output for answers was appended, and that for one more, the output for all of them was
 -- appended
-pub adds_one : (settings : Settings) (p : List ℕ) (xs all : List (List ℕ)) (x : List ℕ)
+pub adds_one : (settings : SettingsValue) (p : List ℕ) (xs all : List (List ℕ)) (x : List ℕ)
     (old said new : List ℕ) → all ≡ xs ++ x ∷ [] → said ≡ old ++ record_output settings p xs
     → new ≡ said ++ record_output settings p (x ∷ [])
     → new ≡ old ++ record_output settings p all
@@ -39,7 +39,7 @@ adds_one settings p xs all x old said new e so_far more =
 
 -- if the output for the names that an iterator returned up to its end was appended, the output for
 -- the list that it yields was appended
-pub adds_all : {S : Type 0} (settings : Settings) (p new old : List ℕ) {all : List (List ℕ)}
+pub adds_all : {S : Type 0} (settings : SettingsValue) (p new old : List ℕ) {all : List (List ℕ)}
     {s : S} {steps : S → Option UnixStr → S → Type 0}
     → YieldsList steps (λ name. name.bytes.now) s all
     → (names : List UnixStr) × Drains steps s names

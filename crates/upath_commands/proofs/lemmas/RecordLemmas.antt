@@ -9,7 +9,8 @@ use Rattle.std.specs.List.{slice_split, onto_first, position_or_len}
 use Rattle.std.proofs.lemmas.Bool.{eqb-true}
 use Rattle.std.proofs.lemmas.List.{at_drop_all, drop-drop, length-append, map-append}
 use Rattle.std.proofs.lemmas.List.Elements.{All-nil, All-cons}
-use Rattle.std.proofs.lemmas.List.Splits.{length-slice_split}
+use Rattle.std.proofs.lemmas.List.Splits.{length-slice_split, slice_split-cons_yes}
+use Rattle.std.proofs.lemmas.List.Splits.{slice_split-cons_no}
 use Rattle.std.proofs.Math.Seq.{take-append_seam, get_or-append_seam}
 use Rattle.unix_path.specs.declared.path.Path.{Path}
 use Rattle.upath_commands.specs.Records.{paths_of, records_of, without_empty_last}
@@ -247,3 +248,54 @@ records_done end input at paths l h =
     sym (append-nil paths)
     ∙ ap (λ records. paths ++ records)
     (sym (at_drop_all (records_of end) input at l ∙ records_of-nil end)) ∙ h
+
+onto_first-front : (z : ℕ) (ps qs : List (List ℕ)) → 0 < length ps
+    → onto_first z (ps ++ qs) ≡ onto_first z ps ++ qs
+onto_first-front z [] qs l = absurd (omega arith)
+onto_first-front z (p ∷ ps) qs l = refl
+
+some_pieces : (end : ℕ) (xs : List ℕ) → 0 < length (slice_split (is_end end) xs)
+some_pieces end xs = omega (arith, length-slice_split (is_end end) xs)
+
+-- the pieces of two strings with `end` between them
+pieces_meet : (end : ℕ) (zs ys : List ℕ) → slice_split (is_end end) (zs ++ end ∷ ys)
+    ≡ slice_split (is_end end) zs ++ slice_split (is_end end) ys
+pieces_meet end [] ys = slice_split-cons_yes (is_end end) end ys (eq_self end)
+pieces_meet end (z ∷ zs) ys =
+    by_test (is_end end z)
+    (λ e. slice_split-cons_yes (is_end end) z (zs ++ end ∷ ys) e
+    ∙ ap (λ ps. [] ∷ ps) (pieces_meet end zs ys)
+    ∙ ap (λ ps. ps ++ slice_split (is_end end) ys)
+    (sym (slice_split-cons_yes (is_end end) z zs e)))
+    (λ e. slice_split-cons_no (is_end end) z (zs ++ end ∷ ys) e
+    ∙ ap (onto_first z) (pieces_meet end zs ys)
+    ∙ onto_first-front z (slice_split (is_end end) zs) (slice_split (is_end end) ys)
+    (some_pieces end zs)
+    ∙ ap (λ ps. ps ++ slice_split (is_end end) ys)
+    (sym (slice_split-cons_no (is_end end) z zs e)))
+
+-- only the last piece may go
+last_pieces : (ps qs : List (List ℕ)) → 0 < length qs
+    → without_empty_last (ps ++ qs) ≡ ps ++ without_empty_last qs
+last_pieces [] qs l = refl
+last_pieces (p ∷ []) [] l = absurd (omega arith)
+last_pieces (p ∷ []) (q ∷ qs) l = without_empty_last-cons p q qs
+last_pieces (p ∷ r ∷ ps) qs l =
+    without_empty_last-cons p r (ps ++ qs) ∙ ap (λ l. p ∷ l) (last_pieces (r ∷ ps) qs l)
+
+records_before : (end : ℕ) (zs ys : List ℕ) → records_of end (zs ++ end ∷ ys)
+    ≡ slice_split (is_end end) zs ++ records_of end ys
+unfolding records_of
+records_before end zs ys =
+    ap without_empty_last (pieces_meet end zs ys)
+    ∙ last_pieces (slice_split (is_end end) zs) (slice_split (is_end end) ys) (some_pieces end ys)
+
+-- the records of two strings with `end` between them
+pub records_meet : (end : ℕ) (zs ys : List ℕ) → records_of end (zs ++ end ∷ ys)
+    ≡ records_of end (zs ++ end ∷ []) ++ records_of end ys
+records_meet end zs ys =
+    records_before end zs ys
+    ∙ ap (λ ps. ps ++ records_of end ys)
+    (sym (records_before end zs []
+    ∙ ap (λ l. slice_split (is_end end) zs ++ l) (records_of-nil end)
+    ∙ append-nil (slice_split (is_end end) zs)))

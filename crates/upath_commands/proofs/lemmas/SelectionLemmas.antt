@@ -1,4 +1,4 @@
--- Which of the paths that come are selected.
+-- Which of the paths are selected.
 use Rattle.std.proofs.Common.{◌≡◌, ℕ, Bool, true, false, not, ◌&&◌, List, [], ◌∷◌, ◌++◌, ap, refl}
 use Rattle.std.proofs.Common.{Some, sym, subst, ◌∙◌, cond, if◌then◌else◌, is_some}
 use Rattle.std.proofs.Common.{true≢false}
@@ -57,6 +57,26 @@ filter_all : {X : Type 0} (test : X → Bool) → ((x : X) → test x ≡ true) 
 filter_all test h [] = refl
 filter_all test h (x ∷ xs) = rw (h x) (ap (λ l. x ∷ l) (filter_all test h xs))
 
+filter-append : {X : Type 0} (test : X → Bool) (xs ys : List X)
+    → filter test (xs ++ ys) ≡ filter test xs ++ filter test ys
+filter-append test [] ys = refl
+filter-append test (x ∷ xs) ys =
+    by_test (test x)
+    (λ e. rw e (ap (λ l. x ∷ l) (filter-append test xs ys)))
+    (λ e. rw e (filter-append test xs ys))
+
+-- the first of equal paths begin with those among the first paths
+firsts-prefix : (xs ys : List (List ℕ))
+    → (more : List (List ℕ)) × (firsts_of (xs ++ ys) ≡ firsts_of xs ++ more)
+unfolding firsts_of
+firsts-prefix [] ys = (firsts_of ys, refl)
+firsts-prefix (x ∷ xs) ys =
+    let (more, e) = firsts-prefix xs ys in
+    let other : List ℕ → Bool = λ q. not (same_path x q) in (
+      filter other more,
+      ap (λ l. x ∷ l) (ap (filter other) e ∙ filter-append other (firsts_of xs) more),
+    )
+
 -- with a table without rows the first of equal paths are selected
 pub selected_firsts : {A : Type 0} (rows : List (List Value × A)) → rows ≡ []
     → (paths : List (List ℕ)) → filter (is_new rows) (firsts_of paths) ≡ firsts_of paths
@@ -96,3 +116,14 @@ take_first selection table q p new x e d found others paths =
     rw e (firsts_after p (table_of table) new x
     (subst (λ p. value_at (values p) new ≡ Some x) d found)
     (subst (λ p. SameElsewhere (values p) (table_of table) new) d others) paths)
+
+-- the selected paths begin with those among the first
+pub selected-prefix : (selection : Selection) (xs ys : List (List ℕ))
+    → (more : List (List ℕ)) × (selected selection (xs ++ ys) ≡ selected selection xs ++ more)
+selected-prefix All xs ys = (ys, refl)
+selected-prefix (Firsts table) xs ys =
+    let (more, e) = firsts-prefix xs ys in (
+      filter (is_new (table_of table)) more,
+      ap (filter (is_new (table_of table))) e
+          ∙ filter-append (is_new (table_of table)) (firsts_of xs) more,
+    )

@@ -18,8 +18,6 @@ use Rattle.unix_path.specs.Parts.{values}
 use Rattle.unix_path.specs.declared.path.Path.{Path}
 use Rattle.upath_commands.specs.Records.{paths_of}
 use Rattle.upath_commands.specs.Sorting.{comes_before, insert_sorted, same_path, sorted_by}
-use Rattle.upath_commands.specs.Sorting.{sorted_of, unique_of}
-use Rattle.upath_commands.specs.declared.command.SortOptions.{SortOptions}
 use Rattle.upath_commands.proofs.lemmas.RecordLemmas.{by_test}
 
 and_false : (b : Bool) → (b && false) ≡ false

@@ -1,30 +1,49 @@
-use Rattle.std.proofs.Common.{[], ◌∷◌, ◌++◌, map, false, ap, sym, ◌∙◌}
-use Rattle.std.specs.List.{cons_option, filter_map}
-use Rattle.upath_commands.specs.Arguments.{meaning_of, operand_of}
+use Rattle.std.proofs.Common.{◌≡◌, ◌≢◌, ◌⊎◌, inl, inr, ℕ, false, List, [], ◌∷◌, ◌++◌, map, codes}
+use Rattle.std.proofs.Common.{length, Option, Some, None, refl, ap, sym, ◌∙◌, ne_eqb}
+use Rattle.std.specs.Str.{bytes_eq}
+use Rattle.upath_commands.specs.declared.options.Flag.{Flag}
+use Rattle.upath_commands.specs.Arguments.{first_word, is_dashes, meaning_of_items, operand_of}
+use Rattle.upath_commands.specs.Arguments.{request_after}
+use Rattle.upath_commands.specs.ArgumentLaws.{short}
 use Rattle.upath_commands.specs.Items.{items_after, letter_item, operand}
-use Rattle.upath_commands.specs.Options.{option_by_letter}
-use Rattle.upath_commands.proofs.lemmas.ItemLemmas.{items_after-plains, items_after-short}
-use Rattle.upath_commands.proofs.lemmas.ItemLemmas.{meaning_of-plains, meaning_with-later}
-use Rattle.upath_commands.proofs.lemmas.ItemLemmas.{operand_of-known, operands-before}
-use Rattle.upath_commands.proofs.lemmas.MeaningLemmas.{meaning_with}
+use Rattle.upath_commands.specs.Options.{option_by_letter, request_by_word}
+use Rattle.upath_commands.proofs.lemmas.ItemLemmas.{first_asks_nothing, items_after-plains}
+use Rattle.upath_commands.proofs.lemmas.ItemLemmas.{items_after-short, meaning_of-items, not_asked}
+use Rattle.upath_commands.proofs.lemmas.ItemLemmas.{request_of-short}
+use Rattle.upath_commands.proofs.lemmas.MeaningLemmas.{moved}
+use Rattle.upath_commands.proofs.lemmas.RequestLemmas.{after_no_request, asked-moved}
 use Rattle.upath_commands.proofs.argument_laws.options_follow_operands.Goals as goal
 
+-- an option, known or not, isn't `--`
+no_dashes : (found : Option Flag) (letters : List ℕ)
+    → is_dashes (letter_item found letters) ≡ false
+no_dashes None letters = refl
+no_dashes (Some flag) letters = refl
+
+-- nor is it an operand
+no_operand : (found : Option Flag) (letters : List ℕ)
+    → operand_of (letter_item found letters) ≡ None
+no_operand None letters = refl
+no_operand (Some flag) letters = refl
+
+nothing_asked : (before after : List (List ℕ))
+    → (length before ≢ 1) ⊎ (request_by_word (first_word after) ≡ None)
+    → (length before ≢ 1) ⊎ ((name : List ℕ) → request_after name (items_after None after) ≡ None)
+nothing_asked before after (inl h) = inl h
+nothing_asked before after (inr h) = inr (after_no_request after h)
+
 pub returns : goal.returns
-unfolding meaning_of
-returns c = λ letter before after plain h.
+returns c = λ letter before after plain other not_dash not_h asked.
     let found = option_by_letter letter in
-    let option = letter_item letter in
-    let items = items_after false after in
-    let no_operand = operand_of-known found (letter ∷ []) in
-    meaning_of-plains before _ plain
-    ∙ ap (λ items. meaning_with items (before ++ filter_map operand_of items))
-    (items_after-short letter [] after h)
-    ∙ ap (λ o. meaning_with (option ∷ items)
-    (before ++ cons_option o (filter_map operand_of items))) no_operand
-    ∙ sym (ap (λ items. meaning_with items (filter_map operand_of items))
-    (items_after-short letter [] (before ++ after) h
-    ∙ ap (λ items. option ∷ items) (items_after-plains before after plain))
-    ∙ ap (λ o. meaning_with (option ∷ (map operand before ++ items))
-    (cons_option o (filter_map operand_of (map operand before ++ items)))) no_operand
-    ∙ ap (meaning_with (option ∷ (map operand before ++ items))) (operands-before before items)
-    ∙ meaning_with-later option before items (before ++ filter_map operand_of items))
+    let letters = letter ∷ [] in
+    let e : bytes_eq letters (codes "h") ≡ false = rw (ne_eqb letter 104 not_h) refl in
+    let none = request_of-short letter [] not_dash e in
+    meaning_of-items _ (not_asked before _ after plain other none)
+    ∙ ap meaning_of_items (items_after-plains before _ plain
+    ∙ ap (λ items. map operand before ++ items) (items_after-short letter [] after not_dash e))
+    ∙ moved (letter_item found letters) before (items_after None after)
+    (no_dashes found letters) (no_operand found letters)
+    (asked-moved found letters before (items_after None after) (nothing_asked before after asked))
+    ∙ ap meaning_of_items (sym (items_after-short letter [] (before ++ after) not_dash e
+    ∙ ap (λ items. letter_item found letters ∷ items) (items_after-plains before after plain)))
+    ∙ sym (meaning_of-items _ (first_asks_nothing (short letters) (before ++ after) none))

@@ -1,44 +1,56 @@
-use Rattle.std.proofs.Common.{◌≡◌, ℕ, List, ◌∷◌, [], ◌++◌, codes, false, length}
+use Rattle.std.proofs.Common.{◌≡◌, ℕ, List, ◌∷◌, ◌++◌, codes, None, Some, length}
 use Rattle.std.proofs.Common.{arith, ap, lt-ltb, refl, sym, ◌∙◌}
-use Rattle.std.specs.List.{filter_map}
 use Rattle.upath_commands.specs.declared.items.ItemKind.TheVariants as kind
 use Rattle.upath_commands.specs.declared.options.Flag.TheVariants as option
 use Rattle.upath_commands.specs.declared.options.Verb.TheVariants as verb
-use Rattle.upath_commands.specs.Arguments.{fault_of, first_of, newline_fault, operand_of}
-use Rattle.upath_commands.specs.Arguments.{refusal_of, refuse, request_of, request_or}
-use Rattle.upath_commands.specs.Items.{ItemValue, items_after}
-use Rattle.upath_commands.proofs.lemmas.ItemLemmas.{meaning_of-plains}
-use Rattle.upath_commands.proofs.lemmas.MeaningLemmas.{meaning_of_verb-same, meaning_with}
+use Rattle.upath_commands.specs.Arguments.{dashes_at, fault_of, first_of, found_meaning}
+use Rattle.upath_commands.specs.Arguments.{meaning_of_items, operands_of, refuse}
+use Rattle.upath_commands.specs.Items.{ItemValue, items_after, operand}
+use Rattle.upath_commands.proofs.lemmas.ItemLemmas.{meaning_of-items}
+use Rattle.upath_commands.proofs.lemmas.MeaningLemmas.{verb_meaning-same, words_of}
+use Rattle.upath_commands.proofs.lemmas.DashLemmas.{dashes_after, dashes_after-next}
+use Rattle.upath_commands.proofs.lemmas.DashLemmas.{dashes_at-after}
 use Rattle.upath_commands.proofs.argument_laws.value_after_equals_sign.Goals as goal
 
--- the items of `--from` and its value, with the bytes of the argument that has the option
+-- the items of `relative`, and of `--from` and its value, with the argument that has the option
 abbrev valued : List ℕ → List ℕ → List ItemValue → List ItemValue
 valued argument dir items =
-    (kind.Option option.From, argument) ∷ (kind.Value, dir) ∷ items
+    operand (codes "relative")
+    ∷ (kind.Option option.From, argument) ∷ (kind.Value option.From, dir) ∷ items
 
-items_after-valued : (dir : List ℕ) (after : List (List ℕ))
-    → items_after false ((codes "--from=" ++ dir) ∷ after)
-    ≡ valued (codes "--from=" ++ dir) dir (items_after false after)
-items_after-valued dir after =
+items_after-joined : (dir : List ℕ) (after : List (List ℕ))
+    → items_after None (codes "relative" ∷ (codes "--from=" ++ dir) ∷ after)
+    ≡ valued (codes "--from=" ++ dir) dir (items_after None after)
+items_after-joined dir after =
     rw (lt-ltb 4 (length (codes "from=" ++ dir)) (omega arith)) refl
 
--- the argument that has the option doesn't matter to `relative`
-meaning_with-valued : (x y dir : List ℕ) (items : List ItemValue) (operands : List (List ℕ))
-    → meaning_with (valued x dir items) (codes "relative" ∷ operands)
-    ≡ meaning_with (valued y dir items) (codes "relative" ∷ operands)
-meaning_with-valued x y dir items operands =
-    ap (λ meaning. request_or (first_of request_of items) (refuse (first_of fault_of items)
-    (refuse (first_of (refusal_of verb.Relative) items)
-    (refuse (newline_fault items operands) meaning))))
-    (meaning_of_verb-same (valued x dir items) (valued y dir items)
-    record { flags = λ flag. refl; dir = refl } verb.Relative (codes "relative") operands)
+-- `--` comes after as many operands, whichever argument has the option
+dashes-valued : (x dir : List ℕ) (items : List ItemValue)
+    → dashes_at (valued x dir items) ≡ dashes_after 1 items
+dashes-valued x dir items =
+    let value : ItemValue = (kind.Value option.From, dir) in
+    let from : ItemValue = (kind.Option option.From, x) in
+    dashes_at-after (valued x dir items)
+    ∙ dashes_after-next 0 1 (operand (codes "relative")) (from ∷ value ∷ items) refl refl
+    ∙ dashes_after-next 1 1 from (value ∷ items) refl refl
+    ∙ dashes_after-next 1 1 value items refl refl
+
+-- the argument that has the option doesn't matter
+valued-same : (x y dir : List ℕ) (items : List ItemValue)
+    → meaning_of_items (valued x dir items) ≡ meaning_of_items (valued y dir items)
+valued-same x y dir items =
+    let xs = valued x dir items in
+    let ys = valued y dir items in
+    let name = codes "relative" in
+    ap (refuse (first_of fault_of items))
+    (verb_meaning-same xs ys record { flags = λ flag. refl; values = λ flag. refl } name
+    (dashes_at xs) verb.Relative refl (operands_of items)
+    ∙ ap (λ n. found_meaning (Some verb.Relative) (words_of ys name n) (operands_of items))
+    (dashes-valued x dir items ∙ sym (dashes-valued y dir items)))
 
 pub returns : goal.returns
 returns c = λ dir after.
-    let items = items_after false after in
-    let joined = codes "--from=" ++ dir in
-    meaning_of-plains (codes "relative" ∷ []) (codes "--from" ∷ dir ∷ after) refl
-    ∙ meaning_with-valued (codes "--from") joined dir items (filter_map operand_of items)
-    ∙ sym (meaning_of-plains (codes "relative" ∷ []) (joined ∷ after) refl
-    ∙ ap (λ items. meaning_with items (codes "relative" ∷ filter_map operand_of items))
-    (items_after-valued dir after))
+    meaning_of-items _ refl
+    ∙ valued-same (codes "--from") (codes "--from=" ++ dir) dir (items_after None after)
+    ∙ ap meaning_of_items (sym (items_after-joined dir after))
+    ∙ sym (meaning_of-items (codes "relative" ∷ (codes "--from=" ++ dir) ∷ after) refl)

@@ -1,4 +1,4 @@
-use Rattle.std.proofs.Common.{◌≡◌, ◌++◌, map, drop, false}
+use Rattle.std.proofs.Common.{◌≡◌, ◌++◌, map, drop, None}
 use Rattle.upath_commands.specs.Items.{item_value, items_after}
 use Rattle.upath_commands.specs.Invocations.{path_bytes}
 use Rattle.upath_commands.proofs.items.items_of.Given as goal
@@ -7,5 +7,5 @@ use Rattle.upath_commands.proofs.items.items_of.Given as goal
 abbrev pub invariant-loop-index : goal.invariant-loop-index
 invariant-loop-index l =
     map item_value l.items.items
-    ++ items_after l.awaits_value (map path_bytes (drop l.index l.arguments))
-    ≡ items_after false (map path_bytes l.arguments)
+    ++ items_after l.awaits (map path_bytes (drop l.index l.arguments))
+    ≡ items_after None (map path_bytes l.arguments)

@@ -1,8 +1,11 @@
-use Rattle.std.proofs.Common.{◌≡◌, ◌++◌, map, take}
+use Rattle.std.proofs.Common.{◌≡◌, ◌++◌, ◌-◌, map, drop, length}
 use Rattle.upath_commands.specs.Items.{item_value, letter_items}
 use Rattle.upath_commands.proofs.items.push_letters.Given as goal
 
 abbrev pub invariant-loop-index : goal.invariant-loop-index
 invariant-loop-index l =
-    map item_value l.items.items
-    ≡ map item_value l.initial.items.items ++ letter_items (take l.index l.letters)
+    map item_value l.items.items ++ letter_items (drop l.index l.letters)
+    ≡ map item_value l.initial.items.items ++ letter_items l.letters
+
+abbrev pub decreases-loop-index : goal.decreases-loop-index
+decreases-loop-index l = length l.letters - l.index

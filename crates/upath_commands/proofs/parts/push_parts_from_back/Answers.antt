@@ -1,18 +1,20 @@
-use Rattle.std.proofs.Common.{◌++◌, ◌∙◌, ap, map, refl, reverse}
+use Rattle.std.proofs.Common.{◌++◌, ◌∙◌, ap, map, reverse}
 use Rattle.unix_path.proofs.lemmas.names.ParentLemmas.{values-whole}
 use Rattle.unix_path.proofs.lemmas.walks.CursorLemmas.{Iter-yields_back}
 use Rattle.unix_path.specs.Parts.{value_bytes}
 use Rattle.upath_commands.specs.Answers.{record_output}
+use Rattle.upath_commands.specs.Invocations.{settings_value}
 use Rattle.upath_commands.proofs.lemmas.PartLemmas.{adds_all}
+use Rattle.upath_commands.proofs.lemmas.ReplyLemmas.{on_ok}
 use Rattle.upath_commands.proofs.parts.push_parts_from_back.Goals as goal
 
 pub returns : goal.returns
 returns c =
     let p = c.args.path.bytes.now in
-    let old = c.args.out.now.items in (
-      refl,
-      adds_all c.args.settings p c.push_each.new.out.items old
-          (Iter-yields_back c.rev.ensures.source) c.in_ok-push_each.ensures
-          ∙ ap (λ vs. old ++ record_output c.args.settings p (reverse (map value_bytes vs)))
-          (values-whole p _ c.iter.ensures.rest),
-    )
+    let old = c.args.out.now.items in
+    let settings = settings_value c.args.settings in
+    on_ok c.push_each.result
+    (λ h. adds_all settings p c.push_each.new.out.items old (Iter-yields_back c.rev.ensures.source) h
+    ∙ ap (λ vs. old ++ record_output settings p (reverse (map value_bytes vs)))
+    (values-whole p _ c.iter.ensures.rest))
+    c.push_each.ensures

@@ -1,9 +1,0 @@
-use Rattle.std.proofs.Common.{◌≡◌, map, drop}
-use Rattle.upath_commands.specs.Items.{item_value}
-use Rattle.upath_commands.specs.Arguments.{first_of, refusal_of}
-use Rattle.upath_commands.proofs.searches.refusal_in.Given as goal
-
-abbrev pub invariant-loop-item : goal.invariant-loop-item
-invariant-loop-item l =
-    first_of (refusal_of l.verb) (map item_value (drop l.item-index l.items))
-    ≡ first_of (refusal_of l.verb) (map item_value l.items)

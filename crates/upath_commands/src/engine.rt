@@ -1,0 +1,164 @@
+//! Answers paths, one after the other: operands, and the records of an input as they are read.
+ghost use Rattle.std.specs.Prelude.{◌≡◌, ◌++◌, ◌∷◌, [], ℕ, List, IfErr, IfSome, OnOk, OnErr};
+ghost use Rattle.upath_commands.specs.Answers.{end_of};
+ghost use Rattle.upath_commands.specs.Records.{paths_of, records_of};
+ghost use Rattle.upath_commands.specs.Replies.{Answered, state_of, Stopped};
+ghost use Rattle.upath_commands.specs.Selections.{selected, taken};
+ghost use Rattle.upath_commands.specs.Tasks.{task_value};
+
+use crate::input::read_some;
+use crate::output::RunError;
+use crate::push::end_of;
+use crate::records::records_in;
+use crate::replies::{Replies, Tally};
+use crate::selection::Selection;
+use crate::task::Task;
+use std::alloc::Global;
+use std::io::{Read, Write};
+use unix_bytes::search::after_last;
+use unix_path::Path;
+
+// The input is read in blocks of at most so many bytes.
+const BLOCK: usize = 65536;
+
+// Answers a path, or writes the message for it.
+fn answer_path<W: Write, E: Write>(
+    task: &Task<'_>,
+    path: Path<'_>,
+    replies: &mut Replies<W, E>,
+) -> Result<(), RunError>
+    ensures ok { OnOk result (Answered (task_value task.now)
+        (state_of W.contents E.contents replies.old) (state_of W.contents E.contents replies.new)
+        (path.entry.bytes.now ∷ [])) }
+    ensures err { OnErr result (Stopped (task_value task.now)
+        (state_of W.contents E.contents replies.old) (state_of W.contents E.contents replies.new)
+        (path.entry.bytes.now ∷ [])) }
+    ensures no_read { IfErr result (λ error. (error ≡ RunError.Read) → ⊥) }
+{
+    let is_answered = replies.answers.answer(task, path)?;
+    if !is_answered {
+        replies.messages.report(task, path)?;
+    }
+    let Tally { all, any } = replies.tally;
+    replies.tally = Tally {
+        all: all && is_answered,
+        any: any || is_answered,
+    };
+    Ok(())
+}
+
+// Answers a path, if it is selected.
+fn answer_next<W: Write, E: Write>(
+    alloc: Global,
+    task: &Task<'_>,
+    selection: &mut Selection,
+    path: Path<'_>,
+    replies: &mut Replies<W, E>,
+) -> Result<(), RunError>
+    ensures ok { OnOk result (Answered (task_value task.now)
+        (state_of W.contents E.contents replies.old) (state_of W.contents E.contents replies.new)
+        (taken selection.old path.entry.bytes.now)) }
+    ensures err { OnErr result (Stopped (task_value task.now)
+        (state_of W.contents E.contents replies.old) (state_of W.contents E.contents replies.new)
+        (taken selection.old path.entry.bytes.now)) }
+    ensures rest { OnOk result ((paths : List (List ℕ))
+        → selected selection.old (path.entry.bytes.now ∷ paths)
+        ≡ taken selection.old path.entry.bytes.now ++ selected selection.new paths) }
+    ensures no_read { IfErr result (λ error. (error ≡ RunError.Read) → ⊥) }
+{
+    if selection.take(alloc, path)? {
+        return answer_path(task, path, replies);
+    }
+    Ok(())
+}
+
+// Answers each of these paths that is selected.
+pub(crate) fn answer_paths<W: Write, E: Write>(
+    alloc: Global,
+    task: &Task<'_>,
+    selection: &mut Selection,
+    paths: &[Path<'_>],
+    replies: &mut Replies<W, E>,
+) -> Result<(), RunError>
+    ensures ok { OnOk result (Answered (task_value task.now)
+        (state_of W.contents E.contents replies.old) (state_of W.contents E.contents replies.new)
+        (selected selection.old (paths_of paths.now))) }
+    ensures err { OnErr result (Stopped (task_value task.now)
+        (state_of W.contents E.contents replies.old) (state_of W.contents E.contents replies.new)
+        (selected selection.old (paths_of paths.now))) }
+    ensures rest { OnOk result ((more : List (List ℕ))
+        → selected selection.old (paths_of paths.now ++ more)
+        ≡ selected selection.old (paths_of paths.now) ++ selected selection.new more) }
+    ensures no_read { IfErr result (λ error. (error ≡ RunError.Read) → ⊥) }
+{
+    let mut index = 0;
+    while index < paths.len() {
+        answer_next(alloc, task, selection, paths[index], replies)?;
+        index += 1;
+    }
+    Ok(())
+}
+
+// Answers each record of these bytes that is selected.
+fn answer_records<W: Write, E: Write>(
+    alloc: Global,
+    task: &Task<'_>,
+    selection: &mut Selection,
+    bytes: &[u8],
+    replies: &mut Replies<W, E>,
+) -> Result<(), RunError>
+    ensures ok { let value = task_value task.now in OnOk result (Answered value
+        (state_of W.contents E.contents replies.old) (state_of W.contents E.contents replies.new)
+        (selected selection.old (records_of (end_of value.settings) bytes.now))) }
+    ensures err { let value = task_value task.now in OnErr result (Stopped value
+        (state_of W.contents E.contents replies.old) (state_of W.contents E.contents replies.new)
+        (selected selection.old (records_of (end_of value.settings) bytes.now))) }
+    ensures rest { let records = records_of (end_of (task_value task.now).settings) bytes.now in
+        OnOk result ((more : List (List ℕ)) → selected selection.old (records ++ more)
+        ≡ selected selection.old records ++ selected selection.new more) }
+    ensures no_read { IfErr result (λ error. (error ≡ RunError.Read) → ⊥) }
+{
+    let paths = records_in(alloc, bytes, end_of(task.settings))?;
+    answer_paths(alloc, task, selection, paths.as_slice(), replies)
+}
+
+// Answers each record of an input that is selected. Before each read all answers are written. A
+// record is answered once its end is read, or the end of the input.
+pub(crate) fn answer_input<R: Read, W: Write, E: Write>(
+    alloc: Global,
+    task: &Task<'_>,
+    selection: &mut Selection,
+    reader: &mut R,
+    replies: &mut Replies<W, E>,
+) -> Result<(), RunError>
+    ensures ok { let value = task_value task.now in
+        OnOk result (IfSome (R.remaining reader.old) (λ input. Answered value
+        (state_of W.contents E.contents replies.old) (state_of W.contents E.contents replies.new)
+        (selected selection.old (records_of (end_of value.settings) input)))) }
+    ensures err { let value = task_value task.now in
+        OnErr result (IfSome (R.remaining reader.old) (λ input. Stopped value
+        (state_of W.contents E.contents replies.old) (state_of W.contents E.contents replies.new)
+        (selected selection.old (records_of (end_of value.settings) input)))) }
+{
+    let end = end_of(task.settings);
+    let mut chunk = [0u8; BLOCK];
+    let mut records = Vec::new(alloc);
+    for _ in 0..u64::MAX {
+        replies.answers.write_out()?;
+        let count = read_some(reader, &mut chunk)?;
+        if count == 0 {
+            return answer_records(alloc, task, selection, records.as_slice(), replies);
+        }
+        let read = &chunk[..count];
+        let len = after_last(read, end);
+        if len == 0 {
+            records.extend_from_slice(read)?;
+            continue;
+        }
+        records.extend_from_slice(&read[..len])?;
+        answer_records(alloc, task, selection, records.as_slice(), replies)?;
+        records.clear();
+        records.extend_from_slice(&read[len..])?;
+    }
+    Err(RunError::Read)
+}

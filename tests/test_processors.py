@@ -1,0 +1,207 @@
+#!/usr/bin/env python3
+"""Tests asm/ on each processor and system that it is for.
+
+aarch64    C tests and vectors with the library, and vectors through pathtool, with qemu-aarch64
+core2duo   the same for x86-64, with qemu-x86_64 as a processor without SSE4 and POPCNT
+windows    C tests and vectors with the library, under Wine
+wasm64     rows and vectors through the calls of the module, in headless Chromium
+
+The C tests are those of tests/c that test_bindings also runs. Vectors are those of tables.vectors,
+replayed through the pathtool of tests/c, and in Chromium through the one of tests/wasm. upath makes
+random runs under QEMU. It needs Debian's qemu-user, gcc-aarch64-linux-gnu and
+libc6-dev-arm64-cross; gcc and libc6-dev for x86-64; gcc-mingw-w64-x86-64 and wine64; or chromium.
+"""
+import base64
+import collections
+import contextlib
+import json
+import os
+import re
+import shutil
+import subprocess
+import tempfile
+
+import tables
+from c_tests import CALL_TESTS, STRICT, Build, CTest
+from support import main, needs, read, run, write
+
+# A system: the directory of asm/, the compiler for it with its flags, and the words that run a
+# program there.
+System = collections.namedtuple("System", "label folder compiler runner")
+ARM = System("aarch64", "aarch64-linux", ["aarch64-linux-gnu-gcc", "-static"], ["qemu-aarch64"])
+CORE2DUO = System("core2duo", "x86_64-linux", ["x86_64-linux-gnu-gcc", "-static"],
+                  ["qemu-x86_64", "-cpu", "core2duo"])
+MINGW = System("windows", "x86_64-windows",
+               ["x86_64-w64-mingw32-gcc", "-static", "-D__USE_MINGW_ANSI_STDIO=1"], [])
+# Ends a program after two minutes, since a wrong library may not return.
+LIMIT = ["timeout", "-k", "5", "120"]
+# The directory of Debian's Wine.
+WINE = "/usr/lib/wine"
+SCRIPTS = ["calls.js", "rows.js", "pathtool.js"]
+PAGE = """<!DOCTYPE html>
+<meta charset="utf-8">
+<pre id="answers"></pre>
+<script>{scripts}
+const given = {given};
+let answers;
+try {{
+    load(atob(given.module));
+    const counts = new Map(given.commands);
+    answers = {{rows: given.rows.map(askRow),
+                files: given.files.map((text) => answerFile(text, counts))}};
+}} catch (error) {{
+    answers = {{error: `${{error}} ${{error.stack}}`}};
+}}
+document.getElementById("answers").textContent = btoa(JSON.stringify(answers));
+</script>
+"""
+CHROMIUM = ["chromium", "--headless", "--no-sandbox", "--disable-gpu", "--disable-dev-shm-usage",
+            "--virtual-time-budget=60000", "--dump-dom"]
+
+
+def find_wine():
+    """Returns the path of Wine and that of its server, or None."""
+    path = f"{os.environ['PATH']}:{WINE}"
+    for name in "wine64", "wine":
+        wine, server = shutil.which(name, path=path), shutil.which("wineserver", path=path)
+        if wine and server:
+            return wine, server
+    return None
+
+
+@contextlib.contextmanager
+def running_wine():
+    """Yields the words that run a program under Wine, in a new prefix. A shell stays open there:
+    otherwise each program would start Wine's services, and would not end before they do."""
+    wine, server = find_wine()
+    quiet = {"stdout": subprocess.DEVNULL, "stderr": subprocess.DEVNULL}
+    with tempfile.TemporaryDirectory() as folder:
+        words = ["env", f"HOME={folder}", f"WINEPREFIX={folder}/prefix", "WINEDEBUG=-all",
+                 "WINEDLLOVERRIDES=mscoree,mshtml="]
+        os.mkdir(f"{folder}/prefix")
+        try:
+            subprocess.run([*words, wine, "wineboot", "--init"], **quiet, check=False)
+            with subprocess.Popen([*words, wine, "cmd"], stdin=subprocess.PIPE, **quiet):
+                yield [*words, wine]
+        finally:
+            subprocess.run([*words, server, "--kill"], **quiet, check=False)
+            subprocess.run([*words, server, "--wait"], **quiet, check=False)
+
+
+class Processors(CTest):
+    """Tests over the C library of a system."""
+
+    def check_links(self, system):
+        """Leaves the test out if the compiler links no program."""
+        found = run([*system.compiler, "-x", "c", "-", "-o", f"{self.folder}/program"],
+                    given=b"int main(void) { return 0; }\n")
+        if found.returncode:
+            self.leave_out(f"the tests of {system.label}", f"{system.compiler[0]} links no program")
+
+    def build_of(self, system, *linked):
+        """Returns how programs for a system are built and run."""
+        return Build(system.label, [*system.compiler, "-std=c11", "-O2", *STRICT], list(linked),
+                     [*LIMIT, *system.runner])
+
+    def try_library(self, system):
+        """Tests the library with the C tests and the vectors."""
+        library = f"{self.folder}/unix_path.o"
+        with self.row(system.label, "assembles"):
+            self.call(system.compiler[0], "-c", f"asm/{system.folder}/unix_path.s", "-o", library)
+        build = self.build_of(system, library)
+        self.together({f"{system.label}: {it}": (self.try_test, build, it) for it in CALL_TESTS})
+        self.try_pathtool(build)
+
+    def try_programs(self, system):
+        """Replays the vectors through pathtool, and makes random runs of upath."""
+        build, folder = self.build_of(system), f"asm/{system.folder}"
+        pathtool = self.compiled(build, [f"{folder}/pathtool.s", "asm/support.c"],
+                                 f"{self.folder}/pathtool")
+        self.replay(f"{system.label} program", [*build.runner, pathtool])
+        upath = self.compiled(build, [f"{folder}/upath.s", "asm/support.c"],
+                              f"{self.folder}/upath")
+        runner = f"{self.folder}/run_upath"
+        write(runner, "#!/bin/sh", f'exec {" ".join([*build.runner, upath])} "$@"', mode=0o755)
+        with self.row(system.label, "random runs of upath"):
+            self.call("tests/test_upath.py", "-k", "Random", env={
+                **os.environ, "UNIX_PATH_UPATH": runner, "runs": "150", "seed": "1"})
+
+    def try_system(self, system):
+        self.check_links(system)
+        self.try_library(system)
+        self.try_programs(system)
+
+    @needs("qemu-aarch64", "aarch64-linux-gnu-gcc")
+    def test_aarch64(self):
+        self.try_system(ARM)
+
+    @needs("qemu-x86_64", "x86_64-linux-gnu-gcc")
+    def test_core2duo(self):
+        self.try_system(CORE2DUO)
+
+    @needs("x86_64-w64-mingw32-gcc")
+    def test_windows(self):
+        if not find_wine():
+            self.leave_out("the tests of windows", "wine64 is missing")
+        self.check_links(MINGW)
+        with running_wine() as wine:
+            self.try_library(MINGW._replace(runner=wine))
+
+
+class Wasm(CTest):
+    """Tests of the module for wasm64."""
+
+    def given_rows(self):
+        """Returns the rows in the format of tests/wasm/rows.js: the call, its shape, the type that
+        it returns, and the paths."""
+        calls = tables.calls()
+        for row in tables.rows():
+            shape, answer = calls[row.call]
+            paths = row.fields[:2 if shape.endswith("TWO") else 1]
+            yield [row.call, shape, answer, [it.decode("latin-1") for it in paths]]
+
+    def write_page(self, path, files):
+        """Writes a page that asks the module all rows, and answers the lines of these files."""
+        module = read("asm/wasm64/unix_path.wasm")
+        given = {"module": base64.b64encode(module).decode(), "rows": list(self.given_rows()),
+                 "files": [read(it).decode("latin-1") for it in files],
+                 "commands": [[it.name, [it.fewest, it.most]] for it in tables.commands()]}
+        scripts = "\n".join(read(f"tests/wasm/{it}").decode() for it in SCRIPTS)
+        write(path, PAGE.format(scripts=scripts,
+                                given=json.dumps(given).replace("<", "\\u003C")))
+
+    def answers_in_chromium(self, files, folder):
+        """Returns the answers of a page."""
+        self.write_page(f"{folder}/page.html", files)
+        shown = run([*LIMIT, *CHROMIUM, f"--user-data-dir={folder}/chromium",
+                     f"file://{folder}/page.html"], HOME=folder)
+        found = re.search(rb'<pre id="answers">([\w+/=]+)</pre>', shown.stdout)
+        self.assertIsNotNone(found, shown.stderr[-4000:])
+        answers = json.loads(base64.b64decode(found[1]).decode("latin-1"))
+        self.assertIn("rows", answers, answers.get("error"))
+        return answers
+
+    def check_rows(self, answers):
+        """Checks that the rows made of the module's answers are those of the table."""
+        rows, given = tables.rows(), list(self.given_rows())
+        self.assertEqual(len(answers), len(rows))
+        for row, (_, _, _, paths), fields in zip(rows, given, answers):
+            found = [tables.spelled(it.encode("latin-1")) if isinstance(it, str) else it[0]
+                     for it in [*paths, *fields]]
+            self.assertEqual(tables.spelled_row(row.call, found), row.line)
+
+    @needs("chromium")
+    def test_wasm64(self):
+        """The module answers all rows and vectors, in one page."""
+        files = list(tables.vectors(self.folder))
+        answers = self.answers_in_chromium([given for _, given, _ in files], self.folder)
+        with self.row("wasm64: rows"):
+            self.check_rows(answers["rows"])
+        self.assertEqual(len(answers["files"]), len(files))
+        for (name, _, path), text in zip(files, answers["files"]):
+            with self.row(f"wasm64: {name}"):
+                self.same_lines(text.encode("latin-1"), read(path))
+
+
+if __name__ == "__main__":
+    main()
