@@ -103,9 +103,8 @@ reaches_inside careless entries ok closed top fs own e q c (way front v more e_i
 reaches_inside careless entries ok closed top fs own e q c (end follows l) =
     let in_top = end_inside careless entries ok closed top fs own e q c follows l in
     (in_top.0, sym in_top.1)
-reaches_inside careless entries ok closed top fs own e q c (unfollowed {q = place} front v e_is l) =
-    (
+reaches_inside careless entries ok closed top fs own e q c (unfollowed {q = at} front v e_is l) = (
   front ++ v ∷ [],
-  ap (λ x. x ++ v ∷ []) (front_place entries ok top fs own e front [] v place c e_is l)
+  ap (λ x. x ++ v ∷ []) (front_place entries ok top fs own e front [] v at c e_is l)
       ∙ append_assoc top front (v ∷ []),
 )
