@@ -1,0 +1,5 @@
+-- The lemmas, by subject.
+pub mod laws
+pub mod marks
+pub mod records
+pub mod refusals

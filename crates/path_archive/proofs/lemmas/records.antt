@@ -1,0 +1,3 @@
+-- Records split into the uses of entries.
+pub mod FieldLemmas
+pub mod SplitLemmas

@@ -1,0 +1,9 @@
+pub mod Entries
+pub mod FileSystems
+pub mod Extractions
+pub mod Rule
+pub mod Laws
+pub mod Records
+pub mod Slots
+pub mod Marks
+pub mod Refusals

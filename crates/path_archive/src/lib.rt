@@ -1,0 +1,17 @@
+//! Decides whether the entries of an archive, links among them, can be extracted below a directory
+//! without writing outside of it.
+//!
+//! The decision needs no file system. Laws do nothing at run time.
+#![tactic(auto)]
+
+mod decide;
+pub mod laws;
+mod names;
+mod order;
+mod pass;
+mod records;
+mod refusal;
+mod slot;
+
+pub use decide::refusals;
+pub use refusal::{Reason, Refusal};
