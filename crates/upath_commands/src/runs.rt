@@ -172,11 +172,13 @@ fn finish<W: Write, E: Write>(
     replies: &mut Replies<W, E>,
 ) -> Result<bool, RunError>
     ensures ok { OnOk result (Done
-        (state_of W.contents E.contents replies.old) (state_of W.contents E.contents replies.new) [] []) }
+        (state_of W.contents E.contents replies.old)
+        (state_of W.contents E.contents replies.new) [] []) }
     ensures yes { let state = state_of W.contents E.contents replies.old in IfOk result (λ yes.
         yes ≡ yes_of (command_value command.entry) state.all state.any) }
     ensures err { OnErr result (Broken
-        (state_of W.contents E.contents replies.old) (state_of W.contents E.contents replies.new) [] []) }
+        (state_of W.contents E.contents replies.old)
+        (state_of W.contents E.contents replies.new) [] []) }
 {
     replies.answers.finish()?;
     Ok(yes_of(command, replies.tally))
@@ -238,10 +240,12 @@ fn run_input<R: Read, W: Write, E: Write>(
 // Writes a text, and flushes. Returns true.
 fn run_text<W: Write, E: Write>(text: &[u8], replies: &mut Replies<W, E>) -> Result<bool, RunError>
     ensures ok { OnOk result (Done
-        (state_of W.contents E.contents replies.old) (state_of W.contents E.contents replies.new) text.now []) }
+        (state_of W.contents E.contents replies.old)
+        (state_of W.contents E.contents replies.new) text.now []) }
     ensures yes { IfOk result (λ yes. yes ≡ true) }
     ensures err { OnErr result (Broken
-        (state_of W.contents E.contents replies.old) (state_of W.contents E.contents replies.new) text.now []) }
+        (state_of W.contents E.contents replies.old)
+        (state_of W.contents E.contents replies.new) text.now []) }
 {
     replies.answers.write_text(text)?;
     Ok(true)
@@ -254,11 +258,13 @@ fn run_equal<W: Write, E: Write>(
     replies: &mut Replies<W, E>,
 ) -> Result<bool, RunError>
     ensures ok { OnOk result (Done
-        (state_of W.contents E.contents replies.old) (state_of W.contents E.contents replies.new) [] []) }
+        (state_of W.contents E.contents replies.old)
+        (state_of W.contents E.contents replies.new) [] []) }
     ensures yes { IfOk result (λ yes.
         yes ≡ is_eq (values_cmp (values path.entry.bytes.now) (values other.entry.bytes.now))) }
     ensures err { OnErr result (Broken
-        (state_of W.contents E.contents replies.old) (state_of W.contents E.contents replies.new) [] []) }
+        (state_of W.contents E.contents replies.old)
+        (state_of W.contents E.contents replies.new) [] []) }
 {
     replies.answers.finish()?;
     Ok(path == other)
@@ -376,12 +382,12 @@ fn refuse<W: Write, E: Write>(
     }
 }
 
-/// Does what the arguments ask for. Returns the exit status: 0 if the answer is yes, 1 if not, and 2
-/// for wrong usage.
+/// Does what the arguments ask for. Returns the exit status: 0 if the answer is yes, 1 if not, and
+/// 2 for wrong usage.
 ///
 /// For wrong usage nothing is read or written, and a message says what is wrong. After an error a
-/// prefix of the output was written, and a message says what failed, unless the option `-q` is given,
-/// nobody reads the output any more, or the error is `Arguments`, which the caller reports.
+/// prefix of the output was written, and a message says what failed, unless the option `-q` is
+/// given, nobody reads the output any more, or the error is `Arguments`, which the caller reports.
 ///
 /// For `equal`, `a` and `a/.` the status is 0.
 pub fn run_arguments<R: Read, W: Write, E: Write>(

@@ -1,7 +1,9 @@
 use Rattle.std.proofs.Common.{rules, arith, refl, ap, ◌∙◌, take}
 use Rattle.std.proofs.lemmas.List.{take_rest}
-use Rattle.upath_commands.proofs.lemmas.BlockLemmas.{Reading-init, Reading-stop, Reading-wait, Reading-wait_fail}
-use Rattle.upath_commands.proofs.lemmas.BlockLemmas.{Reading-more, Reading-block, Reading-block_fail, Reading-end}
+use Rattle.upath_commands.proofs.lemmas.BlockLemmas.{Reading-init, Reading-stop}
+use Rattle.upath_commands.proofs.lemmas.BlockLemmas.{Reading-wait, Reading-wait_fail}
+use Rattle.upath_commands.proofs.lemmas.BlockLemmas.{Reading-more, Reading-block}
+use Rattle.upath_commands.proofs.lemmas.BlockLemmas.{Reading-block_fail, Reading-end}
 use Rattle.upath_commands.proofs.lemmas.BlockLemmas.{Reading-end_fail}
 use Rattle.upath_commands.proofs.lemmas.OutputLemmas.{OnErr-of}
 use Rattle.upath_commands.proofs.lemmas.ReplyLemmas.{on_err, on_ok, Stopped-same}
@@ -31,7 +33,8 @@ returns-in_err-extend_from_slice-clause-err g c =
     (Reading-wait _ _ _ _ _ _ c.loop.selection _ _ _ c.loop.invariant
     (waited _ _ _ refl refl c.in_ok-write_out.ensures.ok refl refl)))
 
-pub returns-in_err-extend_from_slice-2-clause-err : goal.returns-in_err-extend_from_slice-2-clause-err
+pub returns-in_err-extend_from_slice-2-clause-err
+    : goal.returns-in_err-extend_from_slice-2-clause-err
 returns-in_err-extend_from_slice-2-clause-err g c =
     OnErr-of c.from_residual-in_err-extend_from_slice-2.result
     (Reading-stop _ _ _ _ _ _ c.loop.selection _ _
@@ -69,7 +72,8 @@ loop-preserved-then-len-eq0 g c =
 pub returns-in_err-answer_records-clause-err : goal.returns-in_err-answer_records-clause-err
 returns-in_err-answer_records-clause-err g c =
     OnErr-of c.from_residual-in_err-answer_records.result
-    (Reading-block_fail _ _ _ _ _ _ c.loop.selection _ _ _ _ c.as_slice-in-loop.result.now c.after_last-len.result
+    (Reading-block_fail _ _ _ _ _ _ c.loop.selection _ _ _ _
+    c.as_slice-in-loop.result.now c.after_last-len.result
     (omega (arith, c.if-len-eq0.false)) c.after_last-len.ensures.in_range
     (c.after_last-len.ensures.after (omega (arith, c.if-len-eq0.false)) ∙ c.end_of-end.ensures)
     (c.as_slice-in-loop.ensures.value ∙ c.in_ok-extend_from_slice-2.ensures.items)
@@ -82,7 +86,8 @@ pub returns-in_err-extend_from_slice-3-clause-err :
     goal.returns-in_err-extend_from_slice-3-clause-err
 returns-in_err-extend_from_slice-3-clause-err g c =
     OnErr-of c.from_residual-in_err-extend_from_slice-3.result
-    (Reading-block_fail _ _ _ _ _ _ c.loop.selection _ _ _ _ c.as_slice-in-loop.result.now c.after_last-len.result
+    (Reading-block_fail _ _ _ _ _ _ c.loop.selection _ _ _ _
+    c.as_slice-in-loop.result.now c.after_last-len.result
     (omega (arith, c.if-len-eq0.false)) c.after_last-len.ensures.in_range
     (c.after_last-len.ensures.after (omega (arith, c.if-len-eq0.false)) ∙ c.end_of-end.ensures)
     (c.as_slice-in-loop.ensures.value ∙ c.in_ok-extend_from_slice-2.ensures.items)
@@ -96,7 +101,8 @@ loop-preserved g c =
     let got = take c.in_ok-count.count c.read_some.new.chunk in
     rw c.in_ok-extend_from_slice-3.ensures.items (rw c.clear.ensures.items
     (rw (take_rest got c.after_last-len.result)
-    (Reading-block _ _ _ _ _ _ c.loop.selection _ _ _ _ c.as_slice-in-loop.result.now c.after_last-len.result
+    (Reading-block _ _ _ _ _ _ c.loop.selection _ _ _ _
+    c.as_slice-in-loop.result.now c.after_last-len.result
     (omega (arith, c.if-len-eq0.false)) c.after_last-len.ensures.in_range
     (c.after_last-len.ensures.after (omega (arith, c.if-len-eq0.false)) ∙ c.end_of-end.ensures)
     (c.as_slice-in-loop.ensures.value ∙ c.in_ok-extend_from_slice-2.ensures.items)

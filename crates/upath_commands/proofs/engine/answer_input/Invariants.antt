@@ -6,7 +6,8 @@ use Rattle.upath_commands.proofs.engine.answer_input.Given as goal
 
 abbrev pub invariant-loop : goal.invariant-loop
 invariant-loop g l =
-    Reading (task_value l.task) (end_of (task_value l.task).settings) (g.R.Read.remaining l.initial.reader)
+    Reading (task_value l.task) (end_of (task_value l.task).settings)
+    (g.R.Read.remaining l.initial.reader)
     (g.R.Read.remaining l.reader) l.records.items l.initial.selection l.selection
     (state_of g.W.Write.contents g.E.Write.contents l.initial.replies)
     (state_of g.W.Write.contents g.E.Write.contents l.replies)

@@ -14,7 +14,8 @@ returns c =
     let old = c.args.out.now.items in
     let settings = settings_value c.args.settings in
     on_ok c.push_each.result
-    (λ h. adds_all settings p c.push_each.new.out.items old (Iter-yields_back c.rev.ensures.source) h
+    (λ h. adds_all settings p c.push_each.new.out.items old
+    (Iter-yields_back c.rev.ensures.source) h
     ∙ ap (λ vs. old ++ record_output settings p (reverse (map value_bytes vs)))
     (values-whole p _ c.iter.ensures.rest))
     c.push_each.ensures

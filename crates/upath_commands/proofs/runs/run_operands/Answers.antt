@@ -1,7 +1,8 @@
 use Rattle.std.proofs.Common.{◌∙◌}
 use Rattle.upath_commands.proofs.lemmas.OutputLemmas.{OnErr-of}
 use Rattle.upath_commands.proofs.lemmas.ReplyLemmas.{if_ok, on_err, on_ok}
-use Rattle.upath_commands.proofs.lemmas.RunLemmas.{Broken-after, Broken-stopped, Done-after, yes-new}
+use Rattle.upath_commands.proofs.lemmas.RunLemmas.{Broken-after, Broken-stopped}
+use Rattle.upath_commands.proofs.lemmas.RunLemmas.{Done-after, yes-new}
 use Rattle.upath_commands.proofs.runs.run_operands.Goals as goal
 
 pub returns-in_err-answer_operands-clause-err : goal.returns-in_err-answer_operands-clause-err

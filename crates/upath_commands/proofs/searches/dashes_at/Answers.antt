@@ -10,7 +10,8 @@ loop-item-preserved c =
     let n = c.loop-item.count in (
       omega (arith, bound, c.operand_count-count.ensures.bound),
       sym (dashes_after-next n _ _
-          (map item_value (drop (c.loop-item.item-index + 1) c.args.items.now)) (sym c.is_dashes.ensures ∙ c.if-is_dashes.false)
+          (map item_value (drop (c.loop-item.item-index + 1) c.args.items.now))
+          (sym c.is_dashes.ensures ∙ c.if-is_dashes.false)
           (ap (λ k. n + k) c.operand_count-count.ensures.value))
           ∙ ap (dashes_after n) (sym (at_drop_more (map item_value) c.args.items.now
           c.loop-item.item-index _ (search rules))) ∙ so_far,
