@@ -1,7 +1,7 @@
 # GNU make builds, installs and tests by these targets; `make help` lists them.
 #
 # The SHA-256 of asm/PROVED.txt, which tools/generate writes here.
-PROVED = 9ef17ee05ec7169d4306409852c1bb5fcba6f72f2e5e6f3951fd3e1c98a55acd
+PROVED = 5a507acafbff018919b2fcf3d8dbb40e2227ce85188643388ecff5c4e5f3483a
 PREFIX ?= /usr/local
 LIBDIR ?= $(PREFIX)/lib
 INCLUDEDIR ?= $(PREFIX)/include
