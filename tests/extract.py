@@ -39,7 +39,8 @@ def write_tar(path, entries):
     with tarfile.open(path, "w", format=tarfile.GNU_FORMAT) as archive:
         for kind, name, target in entries:
             info = tarfile.TarInfo(name)
-            info.type, info.linkname, info.mode = KINDS[kind], target, MODES.get(kind, 0o600) & 0o777
+            info.type, info.linkname = KINDS[kind], target
+            info.mode = MODES.get(kind, 0o600) & 0o777
             info.size = len(name) if kind == "f" else 0
             archive.addfile(info, io.BytesIO(name.encode()))
 
