@@ -1,7 +1,7 @@
 # GNU make builds, installs and tests by these targets; `make help` lists them.
 #
 # The SHA-256 of asm/PROVED.txt, which tools/generate writes here.
-PROVED = 5a507acafbff018919b2fcf3d8dbb40e2227ce85188643388ecff5c4e5f3483a
+PROVED = c4e90e4a19a25928602b5bd10ce7d0a5d96b0e2779ebb31ebbed0b9adae7330b
 PREFIX ?= /usr/local
 LIBDIR ?= $(PREFIX)/lib
 INCLUDEDIR ?= $(PREFIX)/include
