@@ -16,6 +16,7 @@ needs libsqlite3-dev; etcd needs etcd-server and pathtool. What lacks something 
 import functools
 import glob
 import itertools
+import json
 import os
 import re
 import shlex
@@ -415,7 +416,7 @@ class Misuses(Compiled):
 @has_cpp
 @has_shared
 class Installed(Compiled):
-    """What tools/install installs, and nothing else, is enough to build programs."""
+    """What is installed, and nothing else, is enough to build programs."""
 
     def install(self, label, folder):
         """Installs the library below a directory. Returns the directory with the libraries."""
@@ -448,26 +449,64 @@ class Installed(Compiled):
                         build = Build(label, [*compiler, "-O2"], linked)
                         self.check_needed(self.try_example(build, name), way == "shared")
 
+    def install_by_cmake(self, place):
+        """Installs the library by CMakeLists.txt. Returns the directory with the libraries."""
+        self.call("cmake", "-S", ROOT, "-B", f"{place}.built", f"-DCMAKE_INSTALL_PREFIX={place}",
+                  "-DCMAKE_INSTALL_LIBDIR=lib", env={**os.environ, "CC": shlex.join(CCS[0])})
+        self.call("cmake", "--build", f"{place}.built")
+        self.call("cmake", "--install", f"{place}.built")
+        return f"{place}/lib"
+
+    def try_project(self, label, project, place, libraries=("unix_path", "static")):
+        """Builds the project of tests/cmake over what is installed below a directory."""
+        shutil.copytree(f"{ROOT}/tests/cmake", project)
+        for example in "c/join_beneath.c", "cpp/sizes.cpp":
+            shutil.copy2(f"{ROOT}/examples/{example}", project)
+        self.call("cmake", "-S", project, "-B", f"{project}/built", f"-DVERSION={read_version()}",
+                  f"-DCMAKE_PREFIX_PATH={place}",
+                  env={**os.environ, "CC": shlex.join(CCS[0]), "CXX": shlex.join(CPPS[0])})
+        self.call("cmake", "--build", f"{project}/built")
+        for example, library in itertools.product(("c/join_beneath", "cpp/sizes"), libraries):
+            with self.row(label, example, library):
+                program = f"{project}/built/{example.partition('/')[0]}_{library}"
+                self.example([program], example)
+                self.check_needed(program, library == "unix_path")
+
     @needs("cmake", "make")
     def test_cmake(self):
-        """Builds the project of tests/cmake."""
-        for place, label in enumerate(PLACES):
-            project = f"{self.folder}/{place}/project"
-            libraries = self.install(label, f"{self.folder}/{place}/place")
-            shutil.copytree(f"{ROOT}/tests/cmake", project)
-            for example in "c/join_beneath.c", "cpp/sizes.cpp":
-                shutil.copy2(f"{ROOT}/examples/{example}", project)
-            self.call("cmake", "-S", project, "-B", f"{project}/built",
-                      f"-DVERSION={read_version()}",
-                      f"-DCMAKE_PREFIX_PATH={os.path.dirname(libraries)}",
-                      env={**os.environ, "CC": shlex.join(CCS[0]), "CXX": shlex.join(CPPS[0])})
-            self.call("cmake", "--build", f"{project}/built")
-            for example in "c/join_beneath", "cpp/sizes":
-                for library in "unix_path", "static":
-                    with self.row(label, example, library):
-                        program = f"{project}/built/{example.partition('/')[0]}_{library}"
-                        self.example([program], example)
-                        self.check_needed(program, library == "unix_path")
+        """Builds the project over what tools/install installs, and over what cmake does, which are
+        the same files."""
+        places = {}
+        for number, label in enumerate((*PLACES, "by cmake")):
+            place = f"{self.folder}/{number}/place"
+            libraries = (self.install(label, place) if label in PLACES
+                         else self.install_by_cmake(place))
+            places[label] = {os.path.relpath(it, place) for it in
+                             glob.glob(f"{place}/**", recursive=True) if not os.path.isdir(it)}
+            self.try_project(label, f"{self.folder}/{number}/project", os.path.dirname(libraries))
+        self.assertEqual(places["installed"], places["by cmake"])
+
+    @needs("cmake", "make")
+    def test_vcpkg(self):
+        """Builds the project over what the port for vcpkg installs."""
+        place = f"{self.folder}/packages"
+        self.call("cmake", f"-DTOP={ROOT}", f"-DCURRENT_PACKAGES_DIR={place}", "-P",
+                  "tests/cmake/vcpkg.cmake")
+        self.try_project("vcpkg", f"{self.folder}/project", place, ["static"])
+        self.assertEqual(set(os.listdir(f"{place}/share")), {"unix_path", "unix-path"})
+        self.assertEqual(json.loads(read("packaging/vcpkg/vcpkg.json"))["name"], "unix-path")
+
+    def test_conan(self):
+        """Builds a package by the recipe for Conan. Without conan only the recipe's syntax is
+        checked."""
+        with self.row("syntax"):
+            compile(read("packaging/conan/conanfile.py"), "conanfile.py", "exec")
+        with self.row("package"):
+            if not shutil.which("conan"):
+                self.leave_out("the package for Conan", "conan isn't on the path")
+            home = {**os.environ, "CONAN_HOME": f"{self.folder}/conan"}
+            self.call("conan", "profile", "detect", env=home)
+            self.call("conan", "create", "packaging/conan", env=home)
 
 
 @has_shared
