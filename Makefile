@@ -1,7 +1,7 @@
 # GNU make builds, installs and tests by these targets; `make help` lists them.
 #
 # The SHA-256 of asm/PROVED.txt, which tools/generate writes here.
-PROVED = c4e90e4a19a25928602b5bd10ce7d0a5d96b0e2779ebb31ebbed0b9adae7330b
+PROVED = d31f44e508559da9785e80b158f5d8a58bdbd6bf4bb2bd0e51319251d68ca0b3
 PREFIX ?= /usr/local
 LIBDIR ?= $(PREFIX)/lib
 INCLUDEDIR ?= $(PREFIX)/include

@@ -594,14 +594,21 @@ class calls : public operators<View> {
     void has_stem() const UNIX_PATH_REFUSED("call file_stem().has_value()");
     void has_extension() const UNIX_PATH_REFUSED("call extension().has_value()");
     void has_parent_path() const UNIX_PATH_REFUSED("call parent().has_value()");
+    void root_name() const UNIX_PATH_REFUSED("no path has a root name");
+    void has_root_name() const UNIX_PATH_REFUSED("no path has a root name");
     void root_path() const UNIX_PATH_REFUSED("call is_absolute(): the only root is `/`");
     void root_directory() const UNIX_PATH_REFUSED("call is_absolute(): the only root is `/`");
     void has_root_path() const UNIX_PATH_REFUSED("call is_absolute()");
     void has_root_directory() const UNIX_PATH_REFUSED("call is_absolute()");
     void relative_path() const UNIX_PATH_REFUSED("call strip_prefix(\"/\"), or base.relative_path");
+    void has_relative_path() const UNIX_PATH_REFUSED("call strip_prefix(\"/\")");
     void lexically_normal() const UNIX_PATH_REFUSED("call resolved(), which drops a last slash");
     void lexically_relative(View) const UNIX_PATH_REFUSED("call base.relative_path(path)");
     void lexically_proximate(View) const UNIX_PATH_REFUSED("call base.relative_path(path)");
+    void make_preferred() const UNIX_PATH_REFUSED("needs nothing: the separator is `/`");
+    void generic_string() const UNIX_PATH_REFUSED("call string() of path");
+    void u8string() const UNIX_PATH_REFUSED("call string() of path, or is_utf8()");
+    void remove_filename() const UNIX_PATH_REFUSED("call pop() of path");
     void replace_filename(View) const UNIX_PATH_REFUSED("call set_file_name of path");
     void replace_extension(View) const UNIX_PATH_REFUSED("call set_extension(\"rs\") of path");
 
@@ -650,6 +657,8 @@ class view : public detail::calls<view, view, std::string> {
     constexpr std::string_view bytes() const noexcept { return bytes_; }
     constexpr const char *data() const noexcept { return bytes_.data(); }
     constexpr std::size_t size() const noexcept { return bytes_.size(); }
+    /// Returns a copy of the bytes.
+    explicit operator std::string() const { return std::string(bytes_); }
     /// A system call needs a NUL after the path, which a view doesn't have.
     void c_str() const UNIX_PATH_REFUSED("call path(view).c_str(): a view has no NUL after it");
 

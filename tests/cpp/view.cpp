@@ -384,6 +384,7 @@ void converted_parts() {
     const std::string_view text = part;
     CHECK(part.kind() == unix_path::kind::normal && text.data() == part.bytes().data());
     CHECK(std::string(part) == "b.c" && view(part).extension() == "c");
+    CHECK(std::string(view("a//b\0"sv)) == "a//b\0"sv);
     CHECK(view("/").join(part) == "/b.c");
     for (component it : view("../a").components()) {
         CHECK(view(it).components().front() == it && *view(it).components().begin() == it);
