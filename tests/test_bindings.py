@@ -497,13 +497,9 @@ class Installed(Compiled):
         self.assertEqual(json.loads(read("packaging/vcpkg/vcpkg.json"))["name"], "unix-path")
 
     def test_conan(self):
-        """Builds a package by the recipe for Conan. Without conan only the recipe's syntax is
-        checked."""
-        with self.row("syntax"):
-            compile(read("packaging/conan/conanfile.py"), "conanfile.py", "exec")
-        with self.row("package"):
-            if not shutil.which("conan"):
-                self.leave_out("the package for Conan", "conan isn't on the path")
+        """Checks the syntax of the recipe for Conan. With conan, also builds a package by it."""
+        compile(read("packaging/conan/conanfile.py"), "conanfile.py", "exec")
+        if shutil.which("conan"):
             home = {**os.environ, "CONAN_HOME": f"{self.folder}/conan"}
             self.call("conan", "profile", "detect", env=home)
             self.call("conan", "create", "packaging/conan", env=home)

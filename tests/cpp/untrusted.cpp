@@ -5,13 +5,13 @@
 
 #include <cstddef>
 #include <functional>
-#include <memory>
 #include <new>
 #include <optional>
 #include <stdexcept>
 #include <string>
 #include <string_view>
 #include <type_traits>
+#include <vector>
 
 #include "check.hpp"
 
@@ -26,20 +26,13 @@ constexpr int rounds = 5'000;
 // The most steps of a walk that may not end.
 constexpr int most_steps = 100;
 
-// The bytes of paths, in blocks of their own, so that AddressSanitizer finds a byte outside.
 const std::string first_bytes = "/a//b.c", second_bytes = "../d";
 
-class block {
-  public:
-    explicit block(std::string_view bytes) : size_(bytes.size()), data_(new char[bytes.size()]) {
-        bytes.copy(data_.get(), size_);
-    }
-    view whole() const { return std::string_view(data_.get(), size_); }
-
-  private:
-    std::size_t size_;
-    std::unique_ptr<char[]> data_;
-};
+// The same bytes in blocks of their own, so that AddressSanitizer finds a byte outside.
+const std::vector<char> first_block(first_bytes.begin(), first_bytes.end()),
+    second_block(second_bytes.begin(), second_bytes.end());
+const std::string_view first(first_block.data(), first_block.size()),
+    second(second_block.data(), second_block.size());
 
 // Checks that a slice lies in these bytes, and reads it.
 void in(std::string_view outer, std::string_view slice) {
@@ -108,8 +101,8 @@ void attempt(Call call) {
 template <typename T>
 void try_calls(const all_calls<T> &it, view b) {
     const std::string_view whole = it.bytes();
-    const std::unique_ptr<char[]> memory(new char[4]);
-    const unix_path::buffer out(memory.get(), 4);
+    std::vector<char> memory(4);
+    const unix_path::buffer out = memory;
 #define FIND(name) in(whole, it.name());
 #define ASK(answer, name) in(whole, it.name());
 #define FIND_OF_TWO(name) in(whole, it.name(b));
@@ -121,7 +114,6 @@ void try_calls(const all_calls<T> &it, view b) {
     attempt([&] { in(whole, it.name(b.bytes())); });                                               \
     in(std::string_view(out.data(), out.size()), it.name(b.bytes(), out));
 #include "../calls.inc"
-    CHECK(unix_path::version() + 1 > 0 || unix_path::version() == 0);
 }
 
 // Steps through a range, which may have no end. Calls look(item) for each item.
@@ -164,23 +156,21 @@ void try_ranges(const T &it) {
 }
 
 void views() {
-    const block a(first_bytes), b(second_bytes), none("");
     for (int round = 0; round < rounds; round++) {
-        try_calls<view>(all_calls<view>(a.whole().bytes()), b.whole());
-        try_calls<view>(all_calls<view>(), none.whole());
+        try_calls<view>(all_calls<view>(first), second);
+        try_calls<view>(all_calls<view>(), view());
     }
 }
 
 void paths() {
     for (int round = 0; round < rounds; round++) {
-        try_calls<path>(all_calls<path>(first_bytes), second_bytes);
+        try_calls<path>(all_calls<path>(first_bytes), second);
     }
 }
 
 void ranges() {
-    const block a(first_bytes);
     for (int round = 0; round < rounds / 25; round++) {
-        try_ranges(a.whole());
+        try_ranges(view(first));
         try_ranges(path(first_bytes));
         try_ranges(view());
     }
