@@ -1,7 +1,7 @@
 # GNU make builds, installs and tests by these targets; `make help` lists them.
 #
 # The SHA-256 of asm/PROVED.txt, which tools/generate writes here.
-PROVED = d31f44e508559da9785e80b158f5d8a58bdbd6bf4bb2bd0e51319251d68ca0b3
+PROVED = bd6cf9c99ba4e7a6058923e855b756b22c5cdbe20458328744042f57af4bde60
 PREFIX ?= /usr/local
 LIBDIR ?= $(PREFIX)/lib
 INCLUDEDIR ?= $(PREFIX)/include

@@ -630,8 +630,8 @@ class calls : public operators<View> {
 }  // namespace detail
 
 /// A path, which refers to bytes that live elsewhere. Paths are compared by their components:
-/// `a/./b//` equals `a/b`. To compare bytes, compare `bytes()`. The calls of detail::calls above
-/// are members too.
+/// `a/./b//` equals `a/b`. To compare bytes, compare `bytes()`. The calls of detail::calls above,
+/// such as `starts_with` and `join_beneath`, are members too.
 class view : public detail::calls<view, view, std::string> {
   public:
     constexpr view() noexcept = default;
