@@ -1,0 +1,53 @@
+// Replays rows and vectors in Chromium, by both modules.
+import assert from "node:assert";
+import {once} from "node:events";
+import {createServer} from "node:http";
+import {test} from "node:test";
+import {Chromium} from "./chromium.mjs";
+import {MODULES, read, vectors} from "./places.mjs";
+
+const TYPES = {mjs: "text/javascript", json: "application/json", wasm: "application/wasm"};
+const files = new Map(vectors().map((it) => [`/vectors/${it.replace(/.*\//, "")}`, it]));
+
+// Serves the files of the repository, and the vectors.
+function serve({url}, response) {
+    const ending = url.replace(/.*\./, ""), vector = files.get(url.replace(/\.\w+$/, ""));
+    try {
+        const body = read(vector ? `${vector}.${ending}` : url.slice(1));
+        response.writeHead(200, {"Content-Type": TYPES[ending] ?? "text/plain"}).end(body);
+    } catch {
+        response.writeHead(404).end();
+    }
+}
+
+// Replays everything in a page. Returns names with what is wrong, or null.
+async function replayIn({module, names}) {
+    const get = async (name) => new Uint8Array(
+        await (await fetch(name.startsWith("/") ? name : `/${name}`)).arrayBuffer());
+    const {readAll, replay} = await import("/bindings/js/tests/replay.mjs");
+    return replay(await get(module), await readAll(get, names));
+}
+
+const server = createServer(serve).listen(0, "127.0.0.1");
+await once(server, "listening");
+const origin = `http://127.0.0.1:${server.address().port}`;
+const chromium = new Chromium(), page = await chromium.open(), found = [];
+await page.go(`${origin}/bindings/js/package.json`);
+const joined = await page.ask(async () => {
+    const {load} = await import("/bindings/js/unix_path.mjs");
+    return (await load()).joinBeneath("/srv", "a/../b");
+});
+for (const [name, module] of Object.entries(MODULES)) {
+    const answers = await page.ask(replayIn, {module, names: [...files.keys()]});
+    found.push(...answers.map(([what, fault]) => [`${name} in Chromium: ${what}`, fault]));
+}
+await chromium.close();
+server.close();
+
+test("load() fetches the module", () => {
+    assert.equal(joined, "/srv/b");
+    assert(page.requests.includes(`${origin}/bindings/js/unix_path.wasm`));
+});
+for (const [name, fault] of found) {
+    test(name, () => assert.equal(fault, null));
+}
