@@ -15,7 +15,7 @@ const escaped = (byte) => `\\x${byte.toString(16).padStart(2, "0")}`;
 const shown = (page, id) => page.ask((it) => document.getElementById(it).innerText
                                      .replace(/\s+/g, " ").trim(), id);
 
-// Replaces a field's text, as typing does.
+// Replaces a field's text, as typing does, which tells the page of each line by itself.
 async function type(page, id, text) {
     await page.ask((it) => document.getElementById(it).select(), id);
     await (text ? page.send("Input.insertText", {text}) : page.press("Delete", 46));
@@ -45,8 +45,9 @@ const TESTS = {
 
     async "answers why ./a is not a"(page) {
         await click(page, "Why is ./a not a?");
-        assert.match(await shown(page, "compared"), new RegExp("^equal No. Component 1 is the "
-            + "leading . in the first path, and the name a in the second. order ./a is before a:"));
+        assert.match(await shown(page, "compared"), new RegExp("^first path ./a equal No. "
+            + "Component 1 is the leading . in the first path, and the name a in the second. order "
+            + "./a is before a:"));
         assert.equal(await page.ask(() => document.activeElement.id), "other");
     },
 
@@ -64,8 +65,8 @@ const TESTS = {
         assert.equal(await shown(page, "by-components"), "a/b key 61 00 62 00 a.b key 61 2F 62 00");
         assert.equal(await shown(page, "by-bytes"), "a.b a/b");
         assert.equal(await shown(page, "why"), "By components, a/b is before a.b: component 1 is "
-            + "the name a, which is before the name a.b. By bytes it is after it: byte 1 is 2F in "
-            + "the one, and 2E in the other.");
+            + "the name a, which is before the name a.b. By bytes it is after it: byte 1 is 2F, "
+            + "/, in the one, and 2E, ., in the other.");
     },
 
     async "answers the three questions before anything is typed"(page) {
@@ -153,7 +154,10 @@ const TESTS = {
 
     async "takes any byte, and shows it"(page) {
         const all = Array.from({length: 256}, (_, it) => escaped(it));
-        await type(page, "list", all.filter((it) => it !== "\\x2f").join("\n"));
+        await page.ask((lines) => {
+            document.getElementById("list").value = lines;
+            dispatchEvent(new Event("input"));
+        }, all.filter((it) => it !== "\\x2f").join("\n"));
         const lines = await page.ask(() => [...document.querySelectorAll("#by-bytes li")]
             .map((it) => it.textContent));
         assert.equal(lines.length, 255);
