@@ -1,12 +1,13 @@
 #!/usr/bin/env python3
 """Tests the package for JavaScript, bindings/js, and docs/playground.html.
 
-Node and headless Chromium replay the rows of rows.txt, the vectors of tables.vectors, and LINES
-random lines (by default 100,000, from SEED), whose answers are those of pathtool. They do so by the
-module of asm/wasm64 and by the one for 32-bit memories that wasm-opt makes of it. The package's
-tests are in bindings/js/tests. It needs nodejs, chromium, binaryen and node-typescript of Debian;
-what lacks one of them is left out.
+Node and headless Chromium replay the rows of rows.txt, the vectors of tables.vectors, and from SEED
+LINES random lines (by default 100,000) with the answers of pathtool, and a quarter as many random
+rows with those of the shared library. They do so by the module of asm/wasm64 and by the one for
+32-bit memories that wasm-opt makes of it. The package's tests are in bindings/js/tests. It needs
+nodejs, chromium, binaryen and node-typescript of Debian; what lacks one of them is left out.
 """
+import importlib
 import os
 import random
 import re
@@ -17,7 +18,7 @@ import tempfile
 import unittest
 
 import tables
-from support import PROGRAM, ROOT, Case, main, needs, read, run, said, write
+from support import LIBRARY, PROGRAM, ROOT, SONAME, Case, main, needs, read, run, said, write
 from test_differential import ROWS, Lines
 
 COUNT = int(os.environ.get("LINES") or 100_000)
@@ -45,6 +46,21 @@ def write_random(folder):
             file.write(text)
 
 
+def write_random_rows(folder):
+    """Writes random rows, with the answers of the shared library."""
+    os.environ["UNIX_PATH_SO"] = f"{os.path.dirname(LIBRARY)}/{SONAME}"
+    sys.path.append(f"{ROOT}/examples/python")
+    calls = list(importlib.import_module("test_rows").CALLS.items())
+    maker = Lines(SEED, "rows")
+    with open(f"{folder}/random-{SEED}.rows", "w", encoding="ascii") as file:
+        for at in range(COUNT // 4):
+            name, (count, ask) = calls[at % len(calls)]
+            path = maker.path()
+            paths = [path, maker.other_path(path)][:count]
+            line = tables.spelled_row(name, [*map(tables.spelled, paths), *ask(name, *paths)])
+            print(line, file=file)
+
+
 @needs("node")
 class Js(Case):
     """The tests that Node runs."""
@@ -58,6 +74,7 @@ class Js(Case):
                 if os.path.dirname(file) != cls.vectors:
                     shutil.copy(file, cls.vectors)
         write_random(cls.vectors)
+        write_random_rows(cls.vectors)
 
     def replay(self, name):
         """Runs a file of tests. Each of its tests is a row."""

@@ -4,28 +4,27 @@ import {once} from "node:events";
 import {createServer} from "node:http";
 import {test} from "node:test";
 import {Chromium} from "./chromium.mjs";
-import {MODULES, read, vectors} from "./places.mjs";
+import {MODULES, ROWS, VECTORS, read} from "./places.mjs";
 
 const TYPES = {mjs: "text/javascript", json: "application/json", wasm: "application/wasm"};
-const files = new Map(vectors().map((it) => [`/vectors/${it.replace(/.*\//, "")}`, it]));
 
-// Serves the files of the repository, and the vectors.
+// Serves the files of the repository; below /at are absolute paths.
 function serve({url}, response) {
-    const ending = url.replace(/.*\./, ""), vector = files.get(url.replace(/\.\w+$/, ""));
     try {
-        const body = read(vector ? `${vector}.${ending}` : url.slice(1));
-        response.writeHead(200, {"Content-Type": TYPES[ending] ?? "text/plain"}).end(body);
+        const body = read(url.startsWith("/at/") ? url.slice(3) : url.slice(1));
+        const type = TYPES[url.replace(/.*\./, "")] ?? "text/plain";
+        response.writeHead(200, {"Content-Type": type}).end(body);
     } catch {
         response.writeHead(404).end();
     }
 }
 
 // Replays everything in a page. Returns names with what is wrong, or null.
-async function replayIn({module, names}) {
+async function replayIn({module, rows, vectors}) {
     const get = async (name) => new Uint8Array(
-        await (await fetch(name.startsWith("/") ? name : `/${name}`)).arrayBuffer());
+        await (await fetch(name.startsWith("/") ? `/at${name}` : `/${name}`)).arrayBuffer());
     const {readAll, replay} = await import("/bindings/js/tests/replay.mjs");
-    return replay(await get(module), await readAll(get, names));
+    return replay(await get(module), await readAll(get, rows, vectors));
 }
 
 const server = createServer(serve).listen(0, "127.0.0.1");
@@ -38,7 +37,7 @@ const joined = await page.ask(async () => {
     return (await load()).joinBeneath("/srv", "a/../b");
 });
 for (const [name, module] of Object.entries(MODULES)) {
-    const answers = await page.ask(replayIn, {module, names: [...files.keys()]});
+    const answers = await page.ask(replayIn, {module, rows: ROWS, vectors: VECTORS});
     found.push(...answers.map(([what, fault]) => [`${name} in Chromium: ${what}`, fault]));
 }
 await chromium.close();

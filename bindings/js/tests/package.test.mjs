@@ -86,6 +86,14 @@ test("walks from both ends, in turn with other calls", () => {
     assert.equal(paths.components("a/b")[Symbol.iterator]().next().value.value, "a");
 });
 
+test("answers that are longer than the paths", () => {
+    for (let count = 1; count < 50; count++) {
+        const up = new Array(count).fill("..").join("/");
+        assert.equal(paths.relativePath("a/".repeat(count), ""), up);
+        assert.equal(paths.toStringLossy(new Uint8Array(count).fill(0xFF)), "\uFFFD".repeat(count));
+    }
+});
+
 test("a path of 100 MB", () => {
     const path = bigPath();
     assert.equal(paths.canonical(path).length, BIG - 1);

@@ -110,13 +110,12 @@ const TESTS = {
             const kept = await page.ask((name) => {
                 const said = [...document.querySelectorAll("#pieces dt")].find((it) => (
                     it.textContent === name)).nextElementSibling;
-                const code = said.querySelector(".struck") ?? said.firstElementChild;
-                return [...code.childNodes].filter((it) => it.localName !== "del"
-                    && code.localName === "code").map((it) => it.textContent).join("");
+                return [...said.querySelector(".struck")?.childNodes ?? []]
+                    .filter((it) => it.localName !== "del").map((it) => it.textContent).join("");
             }, call);
             const bytes = Buffer.from(kept.replace(/\\x(..)/g, (_, code) => `%${code}`)
                 .replace(/[^%\w./-]/g, encodeURIComponent), "latin1").toString();
-            assert.equal(unescape(bytes), form, `${call} of ${path}`);
+            assert.equal(unescape(bytes), form === path ? "" : form, `${call} of ${path}`);
         }
     },
 

@@ -8,10 +8,12 @@ export const MODULES = {wasm32: "bindings/js/unix_path.wasm", wasm64: "asm/wasm6
 
 export const read = (name) => readFileSync(name.startsWith("/") ? name : `${ROOT}/${name}`);
 
-// Returns the vectors, as paths without their endings: those of tests/vectors, or of the directory
-// that UNIX_PATH_VECTORS names, which tests/test_js.py fills.
-export function vectors() {
-    const folder = process.env.UNIX_PATH_VECTORS ?? `${ROOT}/tests/vectors`;
-    return readdirSync(folder).filter((it) => it.endsWith(".in"))
-        .map((it) => `${folder}/${it.slice(0, -3)}`);
-}
+// The directory of vectors: tests/vectors, or one that tests/test_js.py fills.
+const FOLDER = process.env.UNIX_PATH_VECTORS ?? `${ROOT}/tests/vectors`;
+
+const named = (ending) => readdirSync(FOLDER).filter((it) => it.endsWith(ending))
+    .map((it) => `${FOLDER}/${it}`);
+
+// The vectors, as paths without their endings, and the tables of rows.
+export const VECTORS = named(".in").map((it) => it.slice(0, -3));
+export const ROWS = ["tests/rows.txt", ...named(".rows")];

@@ -44,7 +44,8 @@ function wrongRows(rows, ask) {
         return row.found.length !== row.wanted.length
             || row.found.some((it, at) => it !== row.wanted[at]);
     });
-    return wrong.map((it) => `${it.line}: found ${JSON.stringify(it.found)}`).join("\n") || null;
+    return wrong.slice(0, 20).map((it) => `${it.line}: found ${JSON.stringify(it.found)}`)
+        .join("\n") || null;
 }
 
 // The calls that find a part of the first path, whose answers have its index; it is left out of
@@ -71,12 +72,13 @@ export async function replay(bytes, given) {
     return found;
 }
 
-// Reads what is replayed: `read` returns the bytes of a file of the repository, and `names` are the
-// vectors, as paths without their endings.
-export async function readAll(read, names) {
+// Reads what is replayed: `read` returns the bytes of a file of the repository, `rows` are tables
+// of rows, and `names` the vectors, as paths without their endings.
+export async function readAll(read, rows, names) {
     const text = async (name) => fromBytes(await read(name));
     const vectors = names.map(async (name) => [
         name.replace(/.*\//, ""), await text(`${name}.in`), await text(`${name}.out`)]);
-    return {rows: await text("tests/rows.txt"), calls: await text("tests/calls.inc"),
-            commands: await text("tests/commands.txt"), vectors: await Promise.all(vectors)};
+    return {rows: (await Promise.all(rows.map(text))).join(""),
+            calls: await text("tests/calls.inc"), commands: await text("tests/commands.txt"),
+            vectors: await Promise.all(vectors)};
 }

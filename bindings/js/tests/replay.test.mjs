@@ -1,10 +1,10 @@
 // Replays rows and vectors in Node, by both modules.
 import assert from "node:assert";
 import {test} from "node:test";
-import {MODULES, read, vectors} from "./places.mjs";
+import {MODULES, ROWS, VECTORS, read} from "./places.mjs";
 import {readAll, replay} from "./replay.mjs";
 
-const given = await readAll(read, vectors());
+const given = await readAll(read, ROWS, VECTORS);
 for (const [name, path] of Object.entries(MODULES)) {
     const module = read(path);
     if (!WebAssembly.validate(module)) {
