@@ -2,8 +2,8 @@
 // unix_path.d.ts documents each function. This file isn't proved.
 
 const PAGE = 65536;
-// The records that calls read and write are at the start of the free memory.
-const STATE = 0, RECORD = 16, RECORDS = 64;
+// The free memory begins with the state of a walk and the record that a call writes.
+const RECORD = 16, RECORDS = 64;
 // An instance whose memory is larger than this is dropped after the call.
 const MOST_KEPT = 16 << 20;
 // A walk over a path longer than this has an instance of its own, so that no step copies the path.
@@ -76,12 +76,19 @@ function pageType(memory) {
 class Instance {
     constructor(module) {
         this.calls = new WebAssembly.Instance(module).exports;
-        this.base = this.size;
         this.pages = pageType(this.calls.memory);
+        this.look();
+        this.base = this.size;
+    }
+
+    // Makes the views of the memory, which a growth detaches.
+    look() {
+        this.bytes = new Uint8Array(this.calls.memory.buffer);
+        this.numbers = new DataView(this.calls.memory.buffer);
     }
 
     get size() {
-        return this.calls.memory.buffer.byteLength;
+        return this.bytes.length;
     }
 
     // Grows the memory until it has this many free bytes. All addresses stay below 2^32.
@@ -93,6 +100,7 @@ class Instance {
             }
             if (pages > 0) {
                 this.calls.memory.grow(this.pages(pages));
+                this.look();
             }
         } catch (error) {
             throw new RangeError(`no memory for ${length} bytes`, {cause: error});
@@ -103,13 +111,13 @@ class Instance {
     // arguments of a call, and the index after them, where `room` bytes are free.
     place(paths, room = 0) {
         this.reserve(paths.reduce((sum, it) => sum + it.length, RECORDS + room));
-        const memory = new Uint8Array(this.calls.memory.buffer);
+        const words = [];
         let end = this.base + RECORDS;
-        const words = paths.flatMap((path) => {
-            memory.set(path, end);
+        for (const path of paths) {
+            this.bytes.set(path, end);
+            words.push(BigInt(end), BigInt(path.length));
             end += path.length;
-            return [BigInt(end - path.length), BigInt(path.length)];
-        });
+        }
         return {words, end};
     }
 
@@ -119,17 +127,19 @@ class Instance {
 
     // Returns the numbers of the record that a call writes, or null if it returns false.
     find(name, words, ...state) {
-        const memory = new DataView(this.calls.memory.buffer, this.base, RECORDS);
-        const found = this.call(name, ...words, ...state, BigInt(this.base + RECORD));
-        return found === 0 ? null : [0, 8, 16].map((at) => memory.getBigUint64(RECORD + at, true));
+        const record = this.base + RECORD;
+        const found = this.call(name, ...words, ...state, BigInt(record));
+        return found === 0 ? null : [record, record + 8, record + 16].map((at) => (
+            this.numbers.getBigUint64(at, true)));
     }
 
     // Makes a call that reads and writes these two numbers, the state of a walk.
     step(name, words, state) {
-        const memory = new DataView(this.calls.memory.buffer, this.base, RECORDS);
-        state.forEach((it, at) => memory.setBigUint64(STATE + 8 * at, it, true));
-        const found = this.find(name, words, BigInt(this.base + STATE));
-        state.forEach((_, at) => { state[at] = memory.getBigUint64(STATE + 8 * at, true); });
+        state.forEach((it, at) => this.numbers.setBigUint64(this.base + 8 * at, it, true));
+        const found = this.find(name, words, BigInt(this.base));
+        state.forEach((_, at) => {
+            state[at] = this.numbers.getBigUint64(this.base + 8 * at, true);
+        });
         return found;
     }
 
@@ -140,8 +150,7 @@ class Instance {
         if (length > room) {
             return this.write(name, paths, Number(length));
         }
-        return length < 0 ? length : new Uint8Array(this.calls.memory.buffer, end,
-                                                    Number(length)).slice();
+        return length < 0 ? length : this.bytes.slice(end, end + Number(length));
     }
 }
 

@@ -6,7 +6,8 @@ import {test} from "node:test";
 import {Chromium} from "./chromium.mjs";
 import {MODULES, ROWS, VECTORS, read} from "./places.mjs";
 
-const TYPES = {mjs: "text/javascript", json: "application/json", wasm: "application/wasm"};
+const TYPES = {mjs: "text/javascript", json: "application/json", wasm: "application/wasm",
+               html: "text/html"};
 
 // Serves the files of the repository; below /at are absolute paths.
 function serve({url}, response) {
@@ -40,12 +41,25 @@ for (const [name, module] of Object.entries(MODULES)) {
     const answers = await page.ask(replayIn, {module, rows: ROWS, vectors: VECTORS});
     found.push(...answers.map(([what, fault]) => [`${name} in Chromium: ${what}`, fault]));
 }
+const playground = await chromium.open(), address = `${origin}/docs/playground.html`;
+await playground.go(address);
+const shown = await playground.ask(async () => {
+    while (!document.getElementById("summary").textContent) {
+        await new Promise((resolve) => { setTimeout(resolve, 5); });
+    }
+    return document.getElementById("summary").textContent;
+});
 await chromium.close();
 server.close();
 
 test("load() fetches the module", () => {
     assert.equal(joined, "/srv/b");
     assert(page.requests.includes(`${origin}/bindings/js/unix_path.wasm`));
+});
+test("the page works from a server, and asks it for nothing else", () => {
+    assert.match(shown, /^17 bytes, 4 components\./);
+    assert.deepEqual(playground.requests, [address]);
+    assert.deepEqual(playground.faults, []);
 });
 for (const [name, fault] of found) {
     test(name, () => assert.equal(fault, null));
