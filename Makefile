@@ -1,7 +1,7 @@
 # GNU make builds, installs and tests by these targets; `make help` lists them.
 #
 # The SHA-256 of asm/PROVED.txt, which tools/generate writes here.
-PROVED = 5a507acafbff018919b2fcf3d8dbb40e2227ce85188643388ecff5c4e5f3483a
+PROVED = bd6cf9c99ba4e7a6058923e855b756b22c5cdbe20458328744042f57af4bde60
 PREFIX ?= /usr/local
 LIBDIR ?= $(PREFIX)/lib
 INCLUDEDIR ?= $(PREFIX)/include

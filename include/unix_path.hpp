@@ -1,4 +1,5 @@
-// Unix paths as plain bytes, for C++17 and later, over the calls of unix_path.h.
+// Unix paths as plain bytes, for C++17 and later, over the calls of unix_path.h. For a path that
+// owns its bytes include unix_path_owned.hpp.
 //
 // This joins a request from outside to a root, so that the result stays beneath the root:
 //
@@ -12,23 +13,32 @@
 // This looks up a path in a map that has the path in another spelling:
 //
 //     std::map<std::string, int, unix_path::less> sizes{{"src//main.c", 42}};
-//     std::string_view asked = "./src/main.c";
-//     if (auto rest = unix_path::view(asked).strip_prefix(".")) {
-//         auto found = sizes.find(*rest);
-//         std::puts(found == sizes.end() ? "none" : found->first.c_str());
-//     }
+//     auto found = sizes.find(unix_path::view("src/./main.c"));
+//     std::puts(found == sizes.end() ? "none" : found->first.c_str());
 //
-// It prints `src//main.c`. The look-up copies nothing. Both examples need <cstdio>, and the second
-// <map>; unix_path.h says how to link.
+// It prints `src//main.c`. The look-up copies nothing.
+//
+// The components of a path are a range in both directions, and from C++20 on a view and a borrowed
+// range:
+//
+//     auto parts = unix_path::view("/src/./main.c").components();
+//     auto names = std::count_if(parts.begin(), parts.end(), [](unix_path::component part) {
+//         return part.kind() == unix_path::kind::normal;
+//     });
+//     std::cout << names << " names, and the last is " << parts.back() << '\n';
+//
+// It prints `2 names, and the last is main.c`. The examples need <algorithm>, <cstdio>, <iostream>,
+// <map> and <string>; unix_path.h says how to link.
 //
 // A member function does the same as the call of its name in unix_path.h. That header describes the
 // calls, their error codes, and their use by threads and signal handlers. The calls are proved.
 // This file is not: only tests check that it passes on arguments and results.
 //
 // Nothing here throws by itself. A function that is `noexcept` does not allocate. A function that
-// returns a std::string, or a result with one, throws std::bad_alloc if an allocation fails. A
-// std::string_view with a null pointer is an empty path. A part of a path that a function returns,
-// such as a file name, refers to the path's own bytes, which have to outlive it.
+// returns a std::string, or a result with one, throws std::bad_alloc if an allocation fails, and
+// std::length_error if the result is longer than any string. A std::string_view with a null pointer
+// is an empty path. A part of a path that a function returns, such as a file name, refers to the
+// path's own bytes, which have to outlive it. clang warns of parts that don't.
 #ifndef UNIX_PATH_HPP
 #define UNIX_PATH_HPP
 
@@ -40,6 +50,7 @@
 #include <cstdint>
 #include <exception>
 #include <functional>
+#include <iosfwd>
 #include <iterator>
 #include <optional>
 #include <string>
@@ -64,6 +75,13 @@
 #endif
 #ifndef UNIX_PATH_LIFETIME
 #define UNIX_PATH_LIFETIME
+#endif
+
+// Refuses a call with a sentence: older compilers show the line that has it.
+#if __cplusplus > 202302L && defined(__cpp_deleted_function)
+#define UNIX_PATH_REFUSED(sentence) = delete (sentence)
+#else
+#define UNIX_PATH_REFUSED(sentence) = delete
 #endif
 
 namespace unix_path {
@@ -109,6 +127,13 @@ constexpr const char *to_string(error why) noexcept {
         break;
     }
     return "short_buffer";
+}
+
+/// Writes the error's name. Here and below `<<` needs <ostream>, which a program that has a stream
+/// includes.
+template <typename Traits>
+std::basic_ostream<char, Traits> &operator<<(std::basic_ostream<char, Traits> &out, error why) {
+    return out << to_string(why);
 }
 
 /// The value that a call returns, or an error. Its members are named as in std::expected. Reading
@@ -241,15 +266,43 @@ constexpr const char *to_string(component_kind kind) noexcept {
     return "normal";
 }
 
+/// A shorter name: `part.kind() == unix_path::kind::normal`.
+using kind = component_kind;
+
+/// Writes the kind's name.
+template <typename Traits>
+std::basic_ostream<char, Traits> &operator<<(std::basic_ostream<char, Traits> &out,
+                                             component_kind shown) {
+    return out << to_string(shown);
+}
+
 /// A component of a path: its kind and its bytes, which are bytes of the path and not a copy.
-struct component {
-    component_kind kind;
-    std::string_view bytes;
+/// Components are equal if both their kinds and their bytes are. A component converts to a
+/// std::string_view, to a view, and by `std::string(part)` to a copy.
+class component {
+  public:
+    constexpr component() noexcept = default;
+    constexpr component(component_kind kind, std::string_view bytes) noexcept
+        : kind_(kind), bytes_(bytes) {}
+
+    constexpr component_kind kind() const noexcept { return kind_; }
+    constexpr std::string_view bytes() const noexcept { return bytes_; }
+    constexpr operator std::string_view() const noexcept { return bytes_; }
 
     friend bool operator==(component a, component b) noexcept {
-        return a.kind == b.kind && a.bytes == b.bytes;
+        return a.kind_ == b.kind_ && a.bytes_ == b.bytes_;
     }
     friend bool operator!=(component a, component b) noexcept { return !(a == b); }
+    /// Writes the bytes.
+    template <typename Traits>
+    friend std::basic_ostream<char, Traits> &operator<<(std::basic_ostream<char, Traits> &out,
+                                                        component part) {
+        return out << part.bytes_;
+    }
+
+  private:
+    component_kind kind_ = component_kind::normal;
+    std::string_view bytes_{};
 };
 
 /// A chunk of a path: valid UTF-8 and the invalid bytes after it, as unix_path_next_chunk finds
@@ -274,13 +327,312 @@ enum class request_check : std::int32_t {
     has_nul = UNIX_PATH_REQUEST_HAS_NUL,
 };
 
+class view;
+class path;
 class components;
 class ancestors;
 class chunks;
 
+namespace detail {
+
+// Returns at most `length` bytes from index `start` on, cut where the bytes end. Whatever the
+// library returned, the slice is in these bytes.
+constexpr std::string_view slice(std::string_view bytes, std::size_t start,
+                                 std::size_t length) noexcept {
+    return bytes.substr(start < bytes.size() ? start : bytes.size(), length);
+}
+
+// The calls with `out`, with the paths on which they are made.
+struct of_one {
+    std::size_t (*call)(const void *, std::size_t, void *, std::size_t);
+    std::string_view a;
+    std::size_t operator()(char *out, std::size_t room) const noexcept {
+        return call(a.data(), a.size(), out, room);
+    }
+};
+struct of_two {
+    std::size_t (*call)(const void *, std::size_t, const void *, std::size_t, void *, std::size_t);
+    std::string_view a, b;
+    std::size_t operator()(char *out, std::size_t room) const noexcept {
+        return call(a.data(), a.size(), b.data(), b.size(), out, room);
+    }
+};
+
+inline error error_of(std::size_t answer) noexcept {
+    switch (answer) {
+    case UNIX_PATH_SEPARATOR: return error::separator;
+    case UNIX_PATH_ESCAPES: return error::escapes;
+    case UNIX_PATH_NUL_IN_REQUEST: return error::nul_in_request;
+    case UNIX_PATH_NOT_A_KEY: return error::not_a_key;
+    case UNIX_PATH_NO_END: return error::no_end;
+    case UNIX_PATH_NO_RELATIVE_PATH: return error::no_relative_path;
+    default: return error::too_long;
+    }
+}
+
+// Returns what the call writes, or its error. The string has `room` bytes at first.
+template <typename Owned, typename Call>
+result<Owned> grown(std::size_t room, const Call &call) {
+    std::string out(room, '\0');
+    for (;;) {
+        const std::size_t length = call(out.data(), out.size());
+        if (!unix_path_is_length(length)) {
+            return error_of(length);
+        }
+        const bool is_written = length <= out.size();
+        out.resize(length);
+        if (is_written) {
+            return result<Owned>(Owned(std::move(out)));
+        }
+    }
+}
+
+// Returns what a call writes that fails only if its result is longer than any string. For such a
+// result the string throws std::length_error.
+template <typename Owned, typename Call>
+Owned whole(std::size_t room, const Call &call) {
+    result<Owned> out = grown<Owned>(room, call);
+    if (!out.has_value()) {
+        std::string().reserve(SIZE_MAX);
+    }
+    return *std::move(out);
+}
+
+// Returns what the call writes to the buffer, or its error.
+template <typename Call>
+result<std::string_view> written(buffer out, const Call &call) noexcept {
+    const std::size_t length = call(out.data(), out.size());
+    if (!unix_path_is_length(length)) {
+        return error_of(length);
+    }
+    if (length > out.size()) {
+        return {error::short_buffer, length};
+    }
+    return std::string_view(out.data(), length);
+}
+
+// The operators of view and path, which both convert to a View. Paths are compared by components.
+template <typename View>
+class operators {
+    friend bool operator==(View a, View b) noexcept {
+        return unix_path_equal(a.data(), a.size(), b.data(), b.size());
+    }
+    friend bool operator!=(View a, View b) noexcept { return !(a == b); }
+    friend bool operator<(View a, View b) noexcept { return a.compare(b) < 0; }
+    friend bool operator<=(View a, View b) noexcept { return a.compare(b) <= 0; }
+    friend bool operator>(View a, View b) noexcept { return a.compare(b) > 0; }
+    friend bool operator>=(View a, View b) noexcept { return a.compare(b) >= 0; }
+#ifdef __cpp_lib_three_way_comparison
+    friend std::weak_ordering operator<=>(View a, View b) noexcept { return a.compare(b) <=> 0; }
+#endif
+    /// Returns the hash, under the name that Boost's containers look for.
+    friend std::size_t hash_value(View path) noexcept { return path.hash(); }
+    /// Writes the bytes, without quotes.
+    template <typename Traits>
+    friend std::basic_ostream<char, Traits> &operator<<(std::basic_ostream<char, Traits> &out,
+                                                        View path) {
+        return out << path.bytes();
+    }
+};
+
+// The calls that view and path share: `Self` is one of the two, and `Owned` the type of the paths
+// that it returns. View is view, which is not yet complete here.
+template <typename View, typename Self, typename Owned>
+class calls : public operators<View> {
+  public:
+    // Comparisons by components. `compare` returns -1, 0 or 1.
+
+    int compare(View other) const noexcept {
+        return unix_path_compare(self().data(), self().size(), other.data(), other.size());
+    }
+    std::uint64_t hash() const noexcept { return unix_path_hash(self().data(), self().size()); }
+
+    // Questions.
+
+    /// Returns true if there are no bytes.
+    constexpr bool empty() const noexcept { return self().bytes().empty(); }
+    /// Returns true if the path has a NUL byte, at which a system call ends the path.
+    constexpr bool has_nul() const noexcept {
+        return self().bytes().find('\0') != std::string_view::npos;
+    }
+    /// Returns true if this path begins with the components of base. `/dest/../etc` starts with
+    /// `/dest`: join a path from outside by `join_beneath`.
+    bool starts_with(View base) const noexcept {
+        return unix_path_starts_with(self().data(), self().size(), base.data(), base.size());
+    }
+    bool ends_with(View end) const noexcept {
+        return unix_path_ends_with(self().data(), self().size(), end.data(), end.size());
+    }
+    bool is_absolute() const noexcept {
+        return unix_path_is_absolute(self().data(), self().size());
+    }
+    bool is_relative() const noexcept { return !is_absolute(); }
+    bool is_utf8() const noexcept { return unix_path_is_utf8(self().data(), self().size()); }
+    bool is_canonical() const noexcept {
+        return unix_path_is_canonical(self().data(), self().size());
+    }
+    /// Returns true if the path has a root or ever goes above where it starts.
+    bool escapes() const noexcept { return unix_path_escapes(self().data(), self().size()); }
+    /// Returns the first reason for which `join_beneath` refuses a request, or `ok`.
+    request_check check_request() const noexcept {
+        return static_cast<request_check>(unix_path_check_request(self().data(), self().size()));
+    }
+    /// Returns true if no name remains of a request when `join_in_root` resolves it: the join is
+    /// then the root itself.
+    bool request_is_root() const noexcept {
+        return unix_path_request_is_root(self().data(), self().size());
+    }
+    /// Returns true if the last component is a name and a slash or a `/.` follows it.
+    bool ends_in_slash() const noexcept {
+        return unix_path_ends_in_slash(self().data(), self().size());
+    }
+    /// Returns the index just after the last slash of the longest prefix that the bytes of both
+    /// paths share, or 0 if this prefix has no slash.
+    std::size_t common_dir(View other) const noexcept {
+        return unix_path_common_dir(self().data(), self().size(), other.data(), other.size());
+    }
+
+    // New paths and keys. Without `out`, a function allocates: a view returns a std::string, and a
+    // path a path. With `out`, it writes to a buffer, allocates nothing and appends no NUL. An
+    // error is the error code of the call: unix_path.h has a table of the error codes. The system
+    // reads a path only up to its first NUL, for which `has_nul` tests, and refuses an empty path:
+    // pass `.` instead.
+    //
+    // `join` is for trusted paths. The other joins are for requests, which are paths from outside.
+    // They join a request to this path, the root, which stays verbatim. A table in unix_path.h
+    // compares the four joins. All are lexical: where a component below the root may be a link, let
+    // the system refuse links, as openat2 of Linux does.
+
+    /// Joins two trusted paths. Returns `path` itself if it has a root. For a request from outside
+    /// call `join_beneath` instead.
+    Owned join(View path) const { return whole<Owned>(both(path), with(unix_path_join, path)); }
+    result<std::string_view> join(View path, buffer out) const noexcept {
+        return written(out, with(unix_path_join, path));
+    }
+    Owned with_file_name(View name) const {
+        return whole<Owned>(both(name), with(unix_path_with_file_name, name));
+    }
+    result<std::string_view> with_file_name(View name, buffer out) const noexcept {
+        return written(out, with(unix_path_with_file_name, name));
+    }
+    result<Owned> with_extension(std::string_view extension) const {
+        return grown<Owned>(both(extension), with(unix_path_with_extension, extension));
+    }
+    result<std::string_view> with_extension(std::string_view extension, buffer out) const noexcept {
+        return written(out, with(unix_path_with_extension, extension));
+    }
+    result<Owned> with_added_extension(std::string_view extension) const {
+        return grown<Owned>(both(extension), with(unix_path_with_added_extension, extension));
+    }
+    result<std::string_view> with_added_extension(std::string_view extension, buffer out) const
+        noexcept {
+        return written(out, with(unix_path_with_added_extension, extension));
+    }
+    Owned canonical() const { return whole<Owned>(self().size(), with(unix_path_canonical)); }
+    result<std::string_view> canonical(buffer out) const noexcept {
+        return written(out, with(unix_path_canonical));
+    }
+    std::string to_string_lossy() const {
+        return whole<std::string>(self().size(), with(unix_path_to_string_lossy));
+    }
+    result<std::string_view> to_string_lossy(buffer out) const noexcept {
+        return written(out, with(unix_path_to_string_lossy));
+    }
+    Owned resolved() const { return whole<Owned>(self().size(), with(unix_path_resolved)); }
+    result<std::string_view> resolved(buffer out) const noexcept {
+        return written(out, with(unix_path_resolved));
+    }
+    /// Joins root and request verbatim, for a root whose components may be links. Refuses a request
+    /// with a root, a `..` or a NUL. The system follows links below the root wherever they lead.
+    result<Owned> join_verbatim(View request) const {
+        return grown<Owned>(both(request), with(unix_path_join_verbatim, request));
+    }
+    result<std::string_view> join_verbatim(View request, buffer out) const noexcept {
+        return written(out, with(unix_path_join_verbatim, request));
+    }
+    /// Joins a request that must stay beneath the root. Returns the root's bytes and then the names
+    /// that the request resolves to, without the request's trailing slash. To resolve the root's
+    /// own `..` too, join to the path that the root's `resolved` returns.
+    result<Owned> join_beneath(View request) const {
+        return grown<Owned>(both(request), with(unix_path_join_beneath, request));
+    }
+    result<std::string_view> join_beneath(View request, buffer out) const noexcept {
+        return written(out, with(unix_path_join_beneath, request));
+    }
+    /// Joins a request as in a chroot, such as the decoded path of a URL. It is like
+    /// `join_beneath`, except that leading slashes of the request are dropped, and a `..` at the
+    /// root stays there. No call decodes `%2e`.
+    result<Owned> join_in_root(View request) const {
+        return grown<Owned>(both(request), with(unix_path_join_in_root, request));
+    }
+    result<std::string_view> join_in_root(View request, buffer out) const noexcept {
+        return written(out, with(unix_path_join_in_root, request));
+    }
+    /// Returns the relative path from this path to `to`. Both are resolved lexically. Where a
+    /// component of this path may be a link, only the system knows where `..` leads.
+    result<Owned> relative_path(View to) const {
+        return grown<Owned>(both(to), with(unix_path_relative_path, to));
+    }
+    result<std::string_view> relative_path(View to, buffer out) const noexcept {
+        return written(out, with(unix_path_relative_path, to));
+    }
+    /// Returns the key of the path, for a store that compares keys byte by byte.
+    std::string key() const { return whole<std::string>(self().size() + 2, with(unix_path_key)); }
+    result<std::string_view> key(buffer out) const noexcept {
+        return written(out, with(unix_path_key));
+    }
+
+    // Names of std::filesystem::path for which there is another name here, mostly since the result
+    // differs. docs/CPP.md compares all of them.
+
+    void begin() const UNIX_PATH_REFUSED("loop over components()");
+    void end() const UNIX_PATH_REFUSED("loop over components()");
+    void filename() const UNIX_PATH_REFUSED("call file_name(), which is nothing for `..`");
+    void stem() const UNIX_PATH_REFUSED("call file_stem(), which is nothing for `..`");
+    void parent_path() const UNIX_PATH_REFUSED("call parent(), which is nothing for `/`");
+    void has_filename() const UNIX_PATH_REFUSED("call file_name().has_value()");
+    void has_stem() const UNIX_PATH_REFUSED("call file_stem().has_value()");
+    void has_extension() const UNIX_PATH_REFUSED("call extension().has_value()");
+    void has_parent_path() const UNIX_PATH_REFUSED("call parent().has_value()");
+    void root_name() const UNIX_PATH_REFUSED("no path has a root name");
+    void has_root_name() const UNIX_PATH_REFUSED("no path has a root name");
+    void root_path() const UNIX_PATH_REFUSED("call is_absolute(): the only root is `/`");
+    void root_directory() const UNIX_PATH_REFUSED("call is_absolute(): the only root is `/`");
+    void has_root_path() const UNIX_PATH_REFUSED("call is_absolute()");
+    void has_root_directory() const UNIX_PATH_REFUSED("call is_absolute()");
+    void relative_path() const UNIX_PATH_REFUSED("call strip_prefix(\"/\"), or base.relative_path");
+    void has_relative_path() const UNIX_PATH_REFUSED("call strip_prefix(\"/\")");
+    void lexically_normal() const UNIX_PATH_REFUSED("call resolved(), which drops a last slash");
+    void lexically_relative(View) const UNIX_PATH_REFUSED("call base.relative_path(path)");
+    void lexically_proximate(View) const UNIX_PATH_REFUSED("call base.relative_path(path)");
+    void make_preferred() const UNIX_PATH_REFUSED("needs nothing: the separator is `/`");
+    void generic_string() const UNIX_PATH_REFUSED("call string() of path");
+    void u8string() const UNIX_PATH_REFUSED("call string() of path, or is_utf8()");
+    void remove_filename() const UNIX_PATH_REFUSED("call pop() of path");
+    void replace_filename(View) const UNIX_PATH_REFUSED("call set_file_name of path");
+    void replace_extension(View) const UNIX_PATH_REFUSED("call set_extension(\"rs\") of path");
+
+  private:
+    constexpr const Self &self() const noexcept { return static_cast<const Self &>(*this); }
+    of_one with(std::size_t (*call)(const void *, std::size_t, void *, std::size_t)) const
+        noexcept {
+        return {call, self().bytes()};
+    }
+    of_two with(std::size_t (*call)(const void *, std::size_t, const void *, std::size_t, void *,
+                                    std::size_t),
+                View other) const noexcept {
+        return {call, self().bytes(), other.bytes()};
+    }
+    // Returns the size of this path and another, with one byte between them.
+    std::size_t both(View other) const noexcept { return self().size() + other.size() + 1; }
+};
+
+}  // namespace detail
+
 /// A path, which refers to bytes that live elsewhere. Paths are compared by their components:
-/// `a/./b//` equals `a/b`. To compare bytes, compare `bytes()`.
-class view {
+/// `a/./b//` equals `a/b`. To compare bytes, compare `bytes()`. The calls of detail::calls above,
+/// such as `starts_with` and `join_beneath`, are members too.
+class view : public detail::calls<view, view, std::string> {
   public:
     constexpr view() noexcept = default;
     constexpr view(std::string_view bytes) noexcept : bytes_(bytes) {}
@@ -289,70 +641,26 @@ class view {
     constexpr view(const char *string) noexcept
         : bytes_(string == nullptr ? std::string_view() : std::string_view(string)) {}
     view(std::nullptr_t) = delete;
-    /// Rejects types that convert to a temporary std::string, to whose bytes the view could not
-    /// refer. Instead of a `std::filesystem::path` pass its `native()`.
+    /// Creates a path of one component.
+    constexpr view(component part) noexcept : bytes_(part.bytes()) {}
+    /// Refers to the bytes of a path of unix_path_owned.hpp.
+    view(const path &owned UNIX_PATH_LIFETIME) noexcept;
+    /// Refuses types that convert to a temporary std::string, to whose bytes the view could not
+    /// refer.
     template <class T, std::enable_if_t<std::is_convertible_v<const T &, std::string> &&
                                             !std::is_convertible_v<const T &, std::string_view> &&
-                                            !std::is_convertible_v<const T &, const char *>,
+                                            !std::is_convertible_v<const T &, const char *> &&
+                                            !std::is_base_of_v<path, T>,
                                         int> = 0>
-    view(const T &) = delete;
+    view(const T &) UNIX_PATH_REFUSED("pass native() of a std::filesystem::path");
 
     constexpr std::string_view bytes() const noexcept { return bytes_; }
     constexpr const char *data() const noexcept { return bytes_.data(); }
     constexpr std::size_t size() const noexcept { return bytes_.size(); }
-    constexpr bool empty() const noexcept { return bytes_.empty(); }
-    /// Returns true if the path has a NUL byte, at which a system call ends the path.
-    constexpr bool has_nul() const noexcept {
-        return bytes_.find('\0') != std::string_view::npos;
-    }
-
-    // Comparisons by components. `compare` returns -1, 0 or 1.
-
-    int compare(view other) const noexcept {
-        return unix_path_compare(data(), size(), other.data(), other.size());
-    }
-    friend bool operator==(view a, view b) noexcept {
-        return unix_path_equal(a.data(), a.size(), b.data(), b.size());
-    }
-    friend bool operator!=(view a, view b) noexcept { return !(a == b); }
-    friend bool operator<(view a, view b) noexcept { return a.compare(b) < 0; }
-    friend bool operator<=(view a, view b) noexcept { return a.compare(b) <= 0; }
-    friend bool operator>(view a, view b) noexcept { return a.compare(b) > 0; }
-    friend bool operator>=(view a, view b) noexcept { return a.compare(b) >= 0; }
-#ifdef __cpp_lib_three_way_comparison
-    friend std::weak_ordering operator<=>(view a, view b) noexcept { return a.compare(b) <=> 0; }
-#endif
-    std::uint64_t hash() const noexcept { return unix_path_hash(data(), size()); }
-
-    // Questions.
-
-    /// Returns true if this path begins with the components of base. `/dest/../etc` starts with
-    /// `/dest`: join a path from outside by `join_beneath`.
-    bool starts_with(view base) const noexcept {
-        return unix_path_starts_with(data(), size(), base.data(), base.size());
-    }
-    bool ends_with(view end) const noexcept {
-        return unix_path_ends_with(data(), size(), end.data(), end.size());
-    }
-    bool is_absolute() const noexcept { return unix_path_is_absolute(data(), size()); }
-    bool is_utf8() const noexcept { return unix_path_is_utf8(data(), size()); }
-    bool is_canonical() const noexcept { return unix_path_is_canonical(data(), size()); }
-    /// Returns true if the path has a root or ever goes above where it starts.
-    bool escapes() const noexcept { return unix_path_escapes(data(), size()); }
-    /// Returns the first reason for which `join_beneath` refuses a request, or `ok`.
-    request_check check_request() const noexcept {
-        return static_cast<request_check>(unix_path_check_request(data(), size()));
-    }
-    /// Returns true if no name remains of a request when `join_in_root` resolves it: the join is
-    /// then the root itself.
-    bool request_is_root() const noexcept { return unix_path_request_is_root(data(), size()); }
-    /// Returns true if the last component is a name and a slash or a `/.` follows it.
-    bool ends_in_slash() const noexcept { return unix_path_ends_in_slash(data(), size()); }
-    /// Returns the index just after the last slash of the longest prefix that the bytes of both
-    /// paths share, or 0 if this prefix has no slash.
-    std::size_t common_dir(view other) const noexcept {
-        return unix_path_common_dir(data(), size(), other.data(), other.size());
-    }
+    /// Returns a copy of the bytes.
+    explicit operator std::string() const { return std::string(bytes_); }
+    /// A system call needs a NUL after the path, which a view doesn't have.
+    void c_str() const UNIX_PATH_REFUSED("call path(view).c_str(): a view has no NUL after it");
 
     // Slices of the path. The parent, and the rest after a base, are views. A name, or a part of
     // one, is a std::string_view.
@@ -376,6 +684,7 @@ class view {
         unix_path_span span;
         return text_at(unix_path_file_stem(data(), size(), &span), span);
     }
+    /// Returns the part of the file name after its last dot: `gz` for `a.tar.gz`, and not `.gz`.
     std::optional<std::string_view> extension() const noexcept {
         unix_path_span span;
         return text_at(unix_path_extension(data(), size(), &span), span);
@@ -391,65 +700,15 @@ class view {
     /// Returns the chunks of valid UTF-8 and of invalid bytes.
     unix_path::chunks chunks() const noexcept;
 
-    // New paths and keys. Without `out`, a function returns a std::string. With `out`, it writes to
-    // a buffer, allocates nothing and appends no NUL. An error is the error code of the call:
-    // unix_path.h has a table of the error codes. The system reads a path only up to its first NUL,
-    // for which `has_nul` tests, and refuses an empty path: pass `.` instead.
-    //
-    // `join` is for trusted paths. The other joins are for requests, which are paths from outside.
-    // They join a request to this path, the root, which stays verbatim. A table in unix_path.h
-    // compares the four joins. All are lexical: where a component below the root may be a link, let
-    // the system refuse links, as openat2 of Linux does.
-
-    /// Joins two trusted paths. Returns `path` itself if it has a root. For a request from outside
-    /// call `join_beneath` instead.
-    std::string join(view path) const;
-    result<std::string_view> join(view path, buffer out) const noexcept;
-    std::string with_file_name(view name) const;
-    result<std::string_view> with_file_name(view name, buffer out) const noexcept;
-    result<std::string> with_extension(std::string_view extension) const;
-    result<std::string_view> with_extension(std::string_view extension, buffer out) const noexcept;
-    result<std::string> with_added_extension(std::string_view extension) const;
-    result<std::string_view> with_added_extension(std::string_view extension, buffer out) const
-        noexcept;
-    std::string canonical() const;
-    result<std::string_view> canonical(buffer out) const noexcept;
-    std::string to_string_lossy() const;
-    result<std::string_view> to_string_lossy(buffer out) const noexcept;
-    std::string resolved() const;
-    result<std::string_view> resolved(buffer out) const noexcept;
-    /// Joins root and request verbatim, for a root whose components may be links. Refuses a request
-    /// with a root, a `..` or a NUL. The system follows links below the root wherever they lead.
-    result<std::string> join_verbatim(view request) const;
-    result<std::string_view> join_verbatim(view request, buffer out) const noexcept;
-    /// Joins a request that must stay beneath the root. Returns the root's bytes and then the names
-    /// that the request resolves to, without the request's trailing slash. To resolve the root's
-    /// own `..` too, join to the path that the root's `resolved` returns.
-    result<std::string> join_beneath(view request) const;
-    result<std::string_view> join_beneath(view request, buffer out) const noexcept;
-    /// Joins a request as in a chroot, such as the decoded path of a URL. It is like
-    /// `join_beneath`, except that leading slashes of the request are dropped, and a `..` at the
-    /// root stays there. No call decodes `%2e`.
-    result<std::string> join_in_root(view request) const;
-    result<std::string_view> join_in_root(view request, buffer out) const noexcept;
-    /// Returns the relative path from this path to `to`. Both are resolved lexically. Where a
-    /// component of this path may be a link, only the system knows where `..` leads.
-    result<std::string> relative_path(view to) const;
-    result<std::string_view> relative_path(view to, buffer out) const noexcept;
-    /// Returns the key of the path, for a store that compares keys byte by byte.
-    std::string key() const;
-    result<std::string_view> key(buffer out) const noexcept;
-
   private:
-    std::string_view text_at(unix_path_span span) const noexcept {
-        return bytes_.empty() ? bytes_ : std::string_view(data() + span.start, span.length);
-    }
     std::optional<std::string_view> text_at(bool is_there, const unix_path_span &span) const
         noexcept {
-        return is_there ? std::optional(text_at(span)) : std::nullopt;
+        return is_there ? std::optional(detail::slice(bytes_, span.start, span.length))
+                        : std::nullopt;
     }
     std::optional<view> path_at(bool is_there, const unix_path_span &span) const noexcept {
-        return is_there ? std::optional(view(text_at(span))) : std::nullopt;
+        return is_there ? std::optional(view(detail::slice(bytes_, span.start, span.length)))
+                        : std::nullopt;
     }
 
     std::string_view bytes_{};
@@ -477,7 +736,7 @@ class walk {
     view rest() const noexcept {
         unix_path_span span;
         unix_path_as_path(path_.data(), path_.size(), &walk_, &span);
-        return path_.bytes().substr(span.start, span.length);
+        return detail::slice(path_.bytes(), span.start, span.length);
     }
 
   private:
@@ -485,8 +744,8 @@ class walk {
         if (!is_there) {
             return std::nullopt;
         }
-        return component{static_cast<component_kind>(part.kind),
-                         {path_.data() + part.start, part.length}};
+        return component(static_cast<component_kind>(part.kind),
+                         detail::slice(path_.bytes(), part.start, part.length));
     }
 
     view path_;
@@ -529,7 +788,7 @@ class components {
         iterator() noexcept = default;
         component operator*() const noexcept {
             return {static_cast<component_kind>(part_.kind),
-                    path_.bytes().substr(part_.start, part_.length)};
+                    detail::slice(path_.bytes(), part_.start, part_.length)};
         }
         pointer operator->() const noexcept { return pointer(**this); }
         iterator &operator++() noexcept {
@@ -623,11 +882,16 @@ class components {
     using const_iterator = iterator;
     using value_type = component;
 
+    components() noexcept = default;
     explicit components(view path) noexcept : path_(path) {}
     iterator begin() const noexcept { return ++iterator(path_, 0); }
     iterator end() const noexcept { return iterator(path_, path_.size()); }
     reverse_iterator rbegin() const noexcept { return reverse_iterator(end()); }
     reverse_iterator rend() const noexcept { return reverse_iterator(begin()); }
+    /// Returns the first component, which only the empty path lacks. There it is an empty name.
+    component front() const noexcept { return *begin(); }
+    /// Returns the last component, which only the empty path lacks. There it is an empty name.
+    component back() const noexcept { return *rbegin(); }
     /// Returns true if there is no component: only the empty path has none.
     bool empty() const noexcept { return path_.empty(); }
 
@@ -654,7 +918,7 @@ class ancestors {
             unix_path_span span;
             const bool is_there =
                 unix_path_next_ancestor(whole_.data(), whole_.size(), &next_, &span);
-            path_ = is_there ? std::optional(view(whole_.bytes().substr(0, span.length)))
+            path_ = is_there ? std::optional(view(detail::slice(whole_.bytes(), 0, span.length)))
                              : std::nullopt;
             return *this;
         }
@@ -678,6 +942,7 @@ class ancestors {
     using const_iterator = iterator;
     using value_type = view;
 
+    ancestors() noexcept = default;
     explicit ancestors(view path) noexcept : path_(path) {}
     iterator begin() const noexcept { return iterator(path_); }
     iterator end() const noexcept { return iterator(); }
@@ -707,9 +972,9 @@ class chunks {
                 chunk_ = std::nullopt;
                 return *this;
             }
-            const std::string_view left = path_.bytes().substr(found.start);
-            chunk_ = chunk{left.substr(0, found.valid_length),
-                           left.substr(found.valid_length, found.broken_length)};
+            const std::string_view left = detail::slice(path_.bytes(), found.start, SIZE_MAX);
+            chunk_ = chunk{detail::slice(left, 0, found.valid_length),
+                           detail::slice(left, found.valid_length, found.broken_length)};
             return *this;
         }
         iterator operator++(int) noexcept {
@@ -732,6 +997,7 @@ class chunks {
     using const_iterator = iterator;
     using value_type = chunk;
 
+    chunks() noexcept = default;
     explicit chunks(view path) noexcept : path_(path) {}
     iterator begin() const noexcept { return iterator(path_); }
     iterator end() const noexcept { return iterator(); }
@@ -769,235 +1035,47 @@ struct hash {
     std::size_t operator()(view path) const noexcept { return path.hash(); }
 };
 
-namespace detail {
-
-inline error error_of(std::size_t answer) noexcept {
-    switch (answer) {
-    case UNIX_PATH_SEPARATOR: return error::separator;
-    case UNIX_PATH_ESCAPES: return error::escapes;
-    case UNIX_PATH_NUL_IN_REQUEST: return error::nul_in_request;
-    case UNIX_PATH_NOT_A_KEY: return error::not_a_key;
-    case UNIX_PATH_NO_END: return error::no_end;
-    case UNIX_PATH_NO_RELATIVE_PATH: return error::no_relative_path;
-    default: return error::too_long;
-    }
-}
-
-// Returns the result that the call writes to a string, or its error. The string has `room` bytes at
-// first.
-template <typename Call>
-result<std::string> grown(std::size_t room, Call call) {
-    std::string out(room, '\0');
-    for (;;) {
-        const std::size_t length = call(out.data(), out.size());
-        if (!unix_path_is_length(length)) {
-            return error_of(length);
-        }
-        const bool is_written = length <= out.size();
-        out.resize(length);
-        if (is_written) {
-            return result<std::string>(std::move(out));
-        }
-    }
-}
-
-// Returns the result that the call writes to the buffer, or its error.
-template <typename Call>
-result<std::string_view> written(buffer out, Call call) noexcept {
-    const std::size_t length = call(out.data(), out.size());
-    if (!unix_path_is_length(length)) {
-        return error_of(length);
-    }
-    if (length > out.size()) {
-        return {error::short_buffer, length};
-    }
-    return std::string_view(out.data(), length);
-}
-
-inline auto join_call(view a, view b) noexcept {
-    return [a, b](char *out, std::size_t room) noexcept {
-        return unix_path_join(a.data(), a.size(), b.data(), b.size(), out, room);
-    };
-}
-inline auto with_file_name_call(view a, view b) noexcept {
-    return [a, b](char *out, std::size_t room) noexcept {
-        return unix_path_with_file_name(a.data(), a.size(), b.data(), b.size(), out, room);
-    };
-}
-inline auto with_extension_call(view a, view b) noexcept {
-    return [a, b](char *out, std::size_t room) noexcept {
-        return unix_path_with_extension(a.data(), a.size(), b.data(), b.size(), out, room);
-    };
-}
-inline auto with_added_extension_call(view a, view b) noexcept {
-    return [a, b](char *out, std::size_t room) noexcept {
-        return unix_path_with_added_extension(a.data(), a.size(), b.data(), b.size(), out, room);
-    };
-}
-inline auto canonical_call(view a) noexcept {
-    return [a](char *out, std::size_t room) noexcept {
-        return unix_path_canonical(a.data(), a.size(), out, room);
-    };
-}
-inline auto to_string_lossy_call(view a) noexcept {
-    return [a](char *out, std::size_t room) noexcept {
-        return unix_path_to_string_lossy(a.data(), a.size(), out, room);
-    };
-}
-inline auto resolved_call(view a) noexcept {
-    return [a](char *out, std::size_t room) noexcept {
-        return unix_path_resolved(a.data(), a.size(), out, room);
-    };
-}
-inline auto join_verbatim_call(view a, view b) noexcept {
-    return [a, b](char *out, std::size_t room) noexcept {
-        return unix_path_join_verbatim(a.data(), a.size(), b.data(), b.size(), out, room);
-    };
-}
-inline auto join_beneath_call(view a, view b) noexcept {
-    return [a, b](char *out, std::size_t room) noexcept {
-        return unix_path_join_beneath(a.data(), a.size(), b.data(), b.size(), out, room);
-    };
-}
-inline auto join_in_root_call(view a, view b) noexcept {
-    return [a, b](char *out, std::size_t room) noexcept {
-        return unix_path_join_in_root(a.data(), a.size(), b.data(), b.size(), out, room);
-    };
-}
-inline auto relative_path_call(view a, view b) noexcept {
-    return [a, b](char *out, std::size_t room) noexcept {
-        return unix_path_relative_path(a.data(), a.size(), b.data(), b.size(), out, room);
-    };
-}
-
-inline auto key_call(view a) noexcept {
-    return [a](char *out, std::size_t room) noexcept {
-        return unix_path_key(a.data(), a.size(), out, room);
-    };
-}
-inline auto from_key_call(std::string_view key) noexcept {
-    return [key](char *out, std::size_t room) noexcept {
-        return unix_path_from_key(key.data(), key.size(), out, room);
-    };
-}
-inline auto key_range_end_call(std::string_view key) noexcept {
-    return [key](char *out, std::size_t room) noexcept {
-        return unix_path_key_range_end(key.data(), key.size(), out, room);
-    };
-}
-
-// Returns the size of two paths with one byte between them.
-inline std::size_t room_of(view a, view b) noexcept { return a.size() + b.size() + 1; }
-
-}  // namespace detail
-
-inline std::string view::join(view path) const {
-    return *detail::grown(detail::room_of(*this, path), detail::join_call(*this, path));
-}
-inline result<std::string_view> view::join(view path, buffer out) const noexcept {
-    return detail::written(out, detail::join_call(*this, path));
-}
-inline std::string view::with_file_name(view name) const {
-    return *detail::grown(detail::room_of(*this, name), detail::with_file_name_call(*this, name));
-}
-inline result<std::string_view> view::with_file_name(view name, buffer out) const noexcept {
-    return detail::written(out, detail::with_file_name_call(*this, name));
-}
-inline result<std::string> view::with_extension(std::string_view extension) const {
-    return detail::grown(detail::room_of(*this, extension),
-                         detail::with_extension_call(*this, extension));
-}
-inline result<std::string_view> view::with_extension(std::string_view extension,
-                                                     buffer out) const noexcept {
-    return detail::written(out, detail::with_extension_call(*this, extension));
-}
-inline result<std::string> view::with_added_extension(std::string_view extension) const {
-    return detail::grown(detail::room_of(*this, extension),
-                         detail::with_added_extension_call(*this, extension));
-}
-inline result<std::string_view> view::with_added_extension(std::string_view extension,
-                                                           buffer out) const noexcept {
-    return detail::written(out, detail::with_added_extension_call(*this, extension));
-}
-inline std::string view::canonical() const {
-    return *detail::grown(size(), detail::canonical_call(*this));
-}
-inline result<std::string_view> view::canonical(buffer out) const noexcept {
-    return detail::written(out, detail::canonical_call(*this));
-}
-inline std::string view::to_string_lossy() const {
-    return *detail::grown(size(), detail::to_string_lossy_call(*this));
-}
-inline result<std::string_view> view::to_string_lossy(buffer out) const noexcept {
-    return detail::written(out, detail::to_string_lossy_call(*this));
-}
-inline std::string view::resolved() const {
-    return *detail::grown(size(), detail::resolved_call(*this));
-}
-inline result<std::string_view> view::resolved(buffer out) const noexcept {
-    return detail::written(out, detail::resolved_call(*this));
-}
-inline result<std::string> view::join_verbatim(view request) const {
-    return detail::grown(detail::room_of(*this, request),
-                         detail::join_verbatim_call(*this, request));
-}
-inline result<std::string_view> view::join_verbatim(view request, buffer out) const noexcept {
-    return detail::written(out, detail::join_verbatim_call(*this, request));
-}
-inline result<std::string> view::join_beneath(view request) const {
-    return detail::grown(detail::room_of(*this, request),
-                         detail::join_beneath_call(*this, request));
-}
-inline result<std::string_view> view::join_beneath(view request, buffer out) const noexcept {
-    return detail::written(out, detail::join_beneath_call(*this, request));
-}
-inline result<std::string> view::join_in_root(view request) const {
-    return detail::grown(detail::room_of(*this, request),
-                         detail::join_in_root_call(*this, request));
-}
-inline result<std::string_view> view::join_in_root(view request, buffer out) const noexcept {
-    return detail::written(out, detail::join_in_root_call(*this, request));
-}
-inline result<std::string> view::relative_path(view to) const {
-    return detail::grown(detail::room_of(*this, to), detail::relative_path_call(*this, to));
-}
-inline result<std::string_view> view::relative_path(view to, buffer out) const noexcept {
-    return detail::written(out, detail::relative_path_call(*this, to));
-}
-inline std::string view::key() const {
-    return *detail::grown(size() + 2, detail::key_call(*this));
-}
-inline result<std::string_view> view::key(buffer out) const noexcept {
-    return detail::written(out, detail::key_call(*this));
-}
-
 /// Returns the canonical form of the paths for which view::key returns this key, or
 /// error::not_a_key.
 inline result<std::string> from_key(std::string_view key) {
-    return detail::grown(key.size() + key.size() / 2, detail::from_key_call(key));
+    return detail::grown<std::string>(key.size() + key.size() / 2,
+                                      detail::of_one{unix_path_from_key, key});
 }
 inline result<std::string_view> from_key(std::string_view key, buffer out) noexcept {
-    return detail::written(out, detail::from_key_call(key));
+    return detail::written(out, detail::of_one{unix_path_from_key, key});
 }
 
 /// Returns the end of a key's range, or error::no_end or error::not_a_key. A path starts with the
 /// key's path if and only if the path's own key is at least the key and less than this end.
 inline result<std::string> key_range_end(std::string_view key) {
-    return detail::grown(key.size(), detail::key_range_end_call(key));
+    return detail::grown<std::string>(key.size(), detail::of_one{unix_path_key_range_end, key});
 }
 inline result<std::string_view> key_range_end(std::string_view key, buffer out) noexcept {
-    return detail::written(out, detail::key_range_end_call(key));
+    return detail::written(out, detail::of_one{unix_path_key_range_end, key});
 }
 
 }  // namespace unix_path
+
+#if defined(__cpp_lib_ranges)
+template <>
+inline constexpr bool std::ranges::enable_view<unix_path::components> = true;
+template <>
+inline constexpr bool std::ranges::enable_borrowed_range<unix_path::components> = true;
+template <>
+inline constexpr bool std::ranges::enable_view<unix_path::ancestors> = true;
+template <>
+inline constexpr bool std::ranges::enable_borrowed_range<unix_path::ancestors> = true;
+template <>
+inline constexpr bool std::ranges::enable_view<unix_path::chunks> = true;
+template <>
+inline constexpr bool std::ranges::enable_borrowed_range<unix_path::chunks> = true;
+#endif
 
 /// The hash of unix_path::hash, for maps whose keys are views.
 template <>
 struct std::hash<unix_path::view> {
     std::size_t operator()(unix_path::view path) const noexcept { return path.hash(); }
 };
-
-#undef UNIX_PATH_LIFETIME
 
 #endif
 #endif

@@ -70,7 +70,7 @@ class Refusal(ctypes.Structure):
 
 
 class Use(ctypes.Structure):
-    _fields_ = [("words", ctypes.c_size_t * 6)]
+    _fields_ = [("words", ctypes.c_size_t * 5)]
 
 
 def load():

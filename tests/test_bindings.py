@@ -16,6 +16,7 @@ needs libsqlite3-dev; etcd needs etcd-server and pathtool. What lacks something 
 import functools
 import glob
 import itertools
+import json
 import os
 import re
 import shlex
@@ -45,7 +46,25 @@ VERSIONS = {"c": [["c11"], ["c17"], ["c23", "c2x"]],
 # The misuses of tests/c/misuse.c and tests/cpp/misuse.cpp that gcc notices, and those that clang
 # notices.
 MISUSES = {"c": {"gcc": range(1, 8), "clang": (1, 2, 7)},
-           "cpp": {"gcc": (1,), "clang": (1, 2)}}
+           "cpp": {"gcc": (1,), "clang": (1, 2, 6, 7, 8, 9)}}
+# The misuses of tests/cpp/misuse.cpp that every compiler refuses, and what it then shows.
+LACKING = r"unix_path\.hpp.*error.*UNIX_PATH_EXPORTS_ONLY leaves out"
+REFUSALS = {3: LACKING, 4: LACKING, **{
+    it: rf"(?s)error.* deleted .*{re.escape(why)}" for it, why in {
+        5: "pass native() of", 10: "call resolved()", 11: "call file_name()",
+        12: "call set_extension(", 13: "loop over components()", 14: "call strip_prefix(",
+        15: "a view has no NUL after it"}.items()}}
+HEADERS = {"c": ["unix_path.h"], "c++": ["unix_path.h", "unix_path.hpp", "unix_path_owned.hpp"]}
+# An expression of the table of docs/CPP.md, how it is tested with a type, and what it needs.
+EXPRESSION = re.compile(r"`((?:[pqP][ (:.]|typename|std::|swap|hash|out|in ).*?)`")
+VALID = """static_assert(([]<typename P>(P *) {{
+    return requires(P p, const P q, std::string s, std::ostream &out, std::istream &in) {{ {0}; }};
+}})(static_cast<{1} *>(nullptr)) == {2}, R"({0}: {1})");"""
+INCLUDED = ("filesystem", "functional", "iostream", "string", "unix_path_owned.hpp")
+# What the examples at the heads of the headers need.
+HEADS = {"unix_path.h": ("c", "stdio.h", "string.h"),
+         "unix_path.hpp": ("cpp", "algorithm", "cstdio", "iostream", "map", "string"),
+         "unix_path_owned.hpp": ("cpp", "iostream", "map")}
 # The directories of an installation below a directory, and where the libraries are then.
 PLACES = {"installed": ({"PREFIX": "{}", "LIBDIR": "{}/lib", "INCLUDEDIR": "{}/include"}, "lib"),
           "installed apart": ({"DESTDIR": "{}", "PREFIX": "/usr", "LIBDIR": "/opt/own/lib",
@@ -133,17 +152,18 @@ class Compiled(CTest):
         return program
 
     def try_head(self, build, header):
-        """Builds and runs the example at the head of a header. It has to print what the text after
-        it says."""
-        ending, *includes = {"unix_path.h": ("c", "stdio.h", "string.h"), "unix_path.hpp": (
-            "cpp", "cstdio", "map", "string", "string_view")}[header]
-        head = re.sub(r"(?m)^( \*|//) ?", "", read(f"include/{header}").decode())
-        code = re.search(r"(?:^ {4}.*\n|^ *\n)+", head[head.index("\n    "):], re.M)[0]
+        """Builds and runs the examples at the head of a header. Each has to print what the text
+        after it says."""
+        ending, *includes = HEADS[header]
+        text = read(f"include/{header}").decode().split("#ifndef")[0]
+        head = re.sub(r"(?m)^( \*|//) ?", "", text)
+        found = re.findall(r"((?:^ {4}.*\n)(?:^ {4}.*\n|^ *\n)*)It prints `(.*?)`", head, re.M)
+        self.assertEqual(len(found), head.count("It prints"))
         source = f"{tempfile.mkdtemp(dir=self.folder)}/head.{ending}"
-        write(source, *(f"#include <{it}>" for it in (*includes, header)),
-              f"int main(void) {{\n{code}    return 0;\n}}")
+        write(source, *(f"#include <{it}>" for it in (*includes, header)), "int main(void) {",
+              *(f"{{\n{code}}}" for code, _ in found), "    return 0;\n}")
         printed = self.passes([self.compiled(build, [source], f"{source}.program")])
-        self.assertEqual(printed.decode(), re.search(r"It prints `(.*?)`", head)[1] + "\n")
+        self.assertEqual(printed.decode(), "".join(f"{wanted}\n" for _, wanted in found))
 
 
 class Calls:
@@ -180,9 +200,36 @@ class Cpp(Calls, Compiled):
     def try_calls(self, flags, linked, is_oldest=False):
         compilers = CPPS if is_oldest else [*CPPS, *over_libcxx()]
         found = builds(compilers, "c++", [*STRICT, *flags], linked, is_oldest)
-        self.try_all(self.try_test, found, ["view_rows", "view", "header"])
-        self.try_all(self.try_example, found, ["sizes.cpp"])
-        self.try_all(self.try_head, found, ["unix_path.hpp"])
+        self.try_all(self.try_test, found, ["view_rows", "view", "owned", "header"])
+        self.try_all(self.try_example, found, ["sizes.cpp", "requests.cpp"])
+        self.try_all(self.try_head, found, HEADERS["c++"][1:])
+
+    def test_untrusted(self):
+        """With a library that returns random results, each slice is in its path or buffer."""
+        for cc, build in zip(CCS, builds(CPPS, "c++", [*STRICT, *SANITIZED], is_oldest=True)):
+            with self.row(build.label):
+                answers = f"{self.folder}/answers.o"
+                self.call(*cc, "-std=c11", *STRICT, *SANITIZED, "-c",
+                          "bindings/rust/tests/untrusted/answers.c", "-o", answers)
+                self.try_test(build._replace(linked=[answers]), "untrusted")
+
+    def test_table(self):
+        """Each expression in the table of docs/CPP.md is valid for the types that the page says."""
+        rows = re.findall(r"^\| (`.*?) \| (.*) \|$", read("docs/CPP.md").decode(), re.M)[1:]
+        lines, count = [f"#include <{it}>" for it in INCLUDED], 0
+        for left, right in rows:
+            theirs, ours = (EXPRESSION.findall(it) for it in (left, right))
+            count += len(theirs)
+            is_same = right.startswith("the same")
+            lines += [VALID.format(it, "std::filesystem::path", "true") for it in theirs]
+            lines += [VALID.format(it, "unix_path::path", str(is_same or it in ours).lower())
+                      for it in dict.fromkeys([*theirs, *ours])]
+        self.assertGreaterEqual(count, 65)
+        write(f"{self.folder}/table.cpp", *lines)
+        for build in builds(CPPS, "c++", STRICT):
+            if "20" in build.label:
+                with self.row(build.label):
+                    self.passes([*build.words, "-fsyntax-only", f"{self.folder}/table.cpp"])
 
 
 @has_cc
@@ -283,11 +330,11 @@ class Headers(Compiled):
         found = [(build, language) for language, compilers, warnings in (
             ("c", CCS, QUIET), ("c++", CPPS, QUIET_CPP))
                  for build in builds(compilers, language, warnings)]
-        for header in "unix_path.h", "unix_path.hpp":
+        for header in HEADERS["c++"]:
             source = f"{self.folder}/{header}.twice"
             write(source, *[f'#include "{header}"'] * 2)
             for (build, language), form in itertools.product(found, forms):
-                if header == "unix_path.h" or language == "c++" and form != forms[2]:
+                if header in HEADERS[language] and (header in HEADERS["c"] or form != forms[2]):
                     jobs[f"{build.label} {header} {form}"] = (self.passes, [
                         *build.words, "-fsyntax-only", "-x", language, f"-D{form}", source])
         self.together(jobs)
@@ -315,11 +362,11 @@ class Headers(Compiled):
 
     @has_cpp
     def test_older_standard(self):
-        """The header for C++ has one message for an older version of the language."""
-        source = f"{self.folder}/older.cpp"
-        write(source, '#include "unix_path.hpp"')
-        for words in CPPS:
-            with self.row(words[0]):
+        """Each header for C++ has one message for an older version of the language."""
+        for words, header in itertools.product(CPPS, HEADERS["c++"][1:]):
+            with self.row(words[0], header):
+                source = f"{self.folder}/older.cpp"
+                write(source, f'#include "{header}"')
                 printed = said(run([*words, "-std=c++14", "-Iinclude", "-fsyntax-only", source]))
                 errors = re.findall(r"^.*error: .*", printed, re.M)
                 self.assertEqual(len(errors), 1, printed)
@@ -355,12 +402,11 @@ class Misuses(Compiled):
 
     @has_cpp
     def test_cpp(self):
-        jobs, lacks = {}, r"unix_path\.hpp.*error.*UNIX_PATH_EXPORTS_ONLY leaves out"
+        jobs = {}
         for build in builds(CPPS, "c++", [*STRICT, "-O2"], is_oldest=True):
             words, noticed = self.misuses(build, "cpp")
             jobs[f"{build.label}: none"] = (self.passes, [*words, "-DMISUSE=0"])
-            whys = {**{it: r"-Werror[=,]" for it in noticed}, 3: lacks, 4: lacks,
-                    5: r"error.*deleted"}
+            whys = {**{it: r"-Werror[=,]" for it in noticed}, **REFUSALS}
             for it, why in whys.items():
                 jobs[f"{build.label}: {it}"] = (self.refused, [*words, f"-DMISUSE={it}"], why)
         self.together(jobs)
@@ -370,7 +416,7 @@ class Misuses(Compiled):
 @has_cpp
 @has_shared
 class Installed(Compiled):
-    """What tools/install installs, and nothing else, is enough to build programs."""
+    """What is installed, and nothing else, is enough to build programs."""
 
     def install(self, label, folder):
         """Installs the library below a directory. Returns the directory with the libraries."""
@@ -403,26 +449,60 @@ class Installed(Compiled):
                         build = Build(label, [*compiler, "-O2"], linked)
                         self.check_needed(self.try_example(build, name), way == "shared")
 
+    def install_by_cmake(self, place):
+        """Installs the library by CMakeLists.txt. Returns the directory with the libraries."""
+        self.call("cmake", "-S", ROOT, "-B", f"{place}.built", f"-DCMAKE_INSTALL_PREFIX={place}",
+                  "-DCMAKE_INSTALL_LIBDIR=lib", env={**os.environ, "CC": shlex.join(CCS[0])})
+        self.call("cmake", "--build", f"{place}.built")
+        self.call("cmake", "--install", f"{place}.built")
+        return f"{place}/lib"
+
+    def try_project(self, label, project, place, libraries=("unix_path", "static")):
+        """Builds the project of tests/cmake over what is installed below a directory."""
+        shutil.copytree(f"{ROOT}/tests/cmake", project)
+        for example in "c/join_beneath.c", "cpp/sizes.cpp":
+            shutil.copy2(f"{ROOT}/examples/{example}", project)
+        self.call("cmake", "-S", project, "-B", f"{project}/built", f"-DVERSION={read_version()}",
+                  f"-DCMAKE_PREFIX_PATH={place}",
+                  env={**os.environ, "CC": shlex.join(CCS[0]), "CXX": shlex.join(CPPS[0])})
+        self.call("cmake", "--build", f"{project}/built")
+        for example, library in itertools.product(("c/join_beneath", "cpp/sizes"), libraries):
+            with self.row(label, example, library):
+                program = f"{project}/built/{example.partition('/')[0]}_{library}"
+                self.example([program], example)
+                self.check_needed(program, library == "unix_path")
+
     @needs("cmake", "make")
     def test_cmake(self):
-        """Builds the project of tests/cmake."""
-        for place, label in enumerate(PLACES):
-            project = f"{self.folder}/{place}/project"
-            libraries = self.install(label, f"{self.folder}/{place}/place")
-            shutil.copytree(f"{ROOT}/tests/cmake", project)
-            for example in "c/join_beneath.c", "cpp/sizes.cpp":
-                shutil.copy2(f"{ROOT}/examples/{example}", project)
-            self.call("cmake", "-S", project, "-B", f"{project}/built",
-                      f"-DVERSION={read_version()}",
-                      f"-DCMAKE_PREFIX_PATH={os.path.dirname(libraries)}",
-                      env={**os.environ, "CC": shlex.join(CCS[0]), "CXX": shlex.join(CPPS[0])})
-            self.call("cmake", "--build", f"{project}/built")
-            for example in "c/join_beneath", "cpp/sizes":
-                for library in "unix_path", "static":
-                    with self.row(label, example, library):
-                        program = f"{project}/built/{example.partition('/')[0]}_{library}"
-                        self.example([program], example)
-                        self.check_needed(program, library == "unix_path")
+        """Builds the project over what tools/install installs, and over what cmake does, which are
+        the same files."""
+        places = {}
+        for number, label in enumerate((*PLACES, "by cmake")):
+            place = f"{self.folder}/{number}/place"
+            libraries = (self.install(label, place) if label in PLACES
+                         else self.install_by_cmake(place))
+            places[label] = {os.path.relpath(it, place) for it in
+                             glob.glob(f"{place}/**", recursive=True) if not os.path.isdir(it)}
+            self.try_project(label, f"{self.folder}/{number}/project", os.path.dirname(libraries))
+        self.assertEqual(places["installed"], places["by cmake"])
+
+    @needs("cmake", "make")
+    def test_vcpkg(self):
+        """Builds the project over what the port for vcpkg installs."""
+        place = f"{self.folder}/packages"
+        self.call("cmake", f"-DTOP={ROOT}", f"-DCURRENT_PACKAGES_DIR={place}", "-P",
+                  "tests/cmake/vcpkg.cmake")
+        self.try_project("vcpkg", f"{self.folder}/project", place, ["static"])
+        self.assertEqual(set(os.listdir(f"{place}/share")), {"unix_path", "unix-path"})
+        self.assertEqual(json.loads(read("packaging/vcpkg/vcpkg.json"))["name"], "unix-path")
+
+    def test_conan(self):
+        """Checks the syntax of the recipe for Conan. With conan, also builds a package by it."""
+        compile(read("packaging/conan/conanfile.py"), "conanfile.py", "exec")
+        if shutil.which("conan"):
+            home = {**os.environ, "CONAN_HOME": f"{self.folder}/conan"}
+            self.call("conan", "profile", "detect", env=home)
+            self.call("conan", "create", "packaging/conan", env=home)
 
 
 @has_shared

@@ -14,6 +14,7 @@ import tarfile
 
 from support import (CALLS, ROOT, SONAME, TARGET, VERSION, VERSIONED, Case, copy_repository,
                      link_commands, main, needs, read, run, said, write, write_package)
+from asm import HEADERS
 from repository import MAP
 
 # The POSIX utilities that a machine has, and what is needed in addition.
@@ -27,7 +28,8 @@ TOOLS = ["make", "cc", "as", "ld", "ar"]
 LINE, ANSWER = b"canon\t.//a/./b/\n", b"./a/b\n"
 SHARED = f"libunix_path.so.{VERSION}"
 INSTALLED = set(f"""bin/pathtool bin/upath include/unix_path.h include/unix_path.hpp
-    lib/libunix_path.a lib/libunix_path.so lib/{SONAME} lib/{SHARED} lib/pkgconfig/unix_path.pc
+    include/unix_path_owned.hpp lib/libunix_path.a lib/libunix_path.so lib/{SONAME} lib/{SHARED}
+    lib/pkgconfig/unix_path.pc
     lib/cmake/unix_path/unix_path-config.cmake lib/cmake/unix_path/unix_path-config-version.cmake
     share/man/man1/pathtool.1 share/man/man1/upath.1 share/bash-completion/completions/upath
     share/zsh/site-functions/_upath share/fish/vendor_completions.d/upath.fish
@@ -160,8 +162,7 @@ class Refuses(BuildCase):
         """A damaged or missing file of asm/ or include/ is refused, and another digest of them."""
         path, top = self.posix_only(), copy_repository(self.folder)
         names = [f"asm/{TARGET}/unix_path.s", f"asm/{TARGET}/pathtool.s", f"asm/{TARGET}/upath.s",
-                 "asm/support.c", "asm/NOTICES.txt", "asm/PROVED.txt", "include/unix_path.h",
-                 "include/unix_path.hpp"]
+                 "asm/support.c", "asm/NOTICES.txt", "asm/PROVED.txt", *HEADERS]
         # If one of these is missing, a command that reads it before the check says so too.
         read_first = "asm/PROVED.txt", "include/unix_path.h"
         for name in names:
@@ -386,7 +387,7 @@ class CMake(BuildCase):
                                    "-DCMAKE_SYSTEM_PROCESSOR=riscv64")
             self.fails(found, "no assembly for riscv64-linux")
         top = copy_repository(self.folder)
-        for name in f"asm/{TARGET}/unix_path.s", "include/unix_path.h", "include/unix_path.hpp":
+        for name in f"asm/{TARGET}/unix_path.s", *HEADERS:
             with self.row(name):
                 change_byte(f"{top}/{name}")
                 found = self.configure(name, f"add_subdirectory({top} unix_path)")

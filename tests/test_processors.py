@@ -4,26 +4,21 @@
 aarch64    C tests and vectors with the library, and vectors through pathtool, with qemu-aarch64
 core2duo   the same for x86-64, with qemu-x86_64 as a processor without SSE4 and POPCNT
 windows    C tests and vectors with the library, under Wine
-wasm64     rows and vectors through the calls of the module, in headless Chromium
 
 The C tests are those of tests/c that test_bindings also runs. Vectors are those of tables.vectors,
-replayed through the pathtool of tests/c, and in Chromium through the one of tests/wasm. upath makes
-random runs under QEMU. It needs Debian's qemu-user, gcc-aarch64-linux-gnu and
-libc6-dev-arm64-cross; gcc and libc6-dev for x86-64; gcc-mingw-w64-x86-64 and wine64; or chromium.
+replayed through the pathtool of tests/c. upath makes random runs under QEMU. It needs Debian's
+qemu-user, gcc-aarch64-linux-gnu and libc6-dev-arm64-cross; gcc and libc6-dev for x86-64;
+gcc-mingw-w64-x86-64 and wine64. test_js.py tests the module for wasm64.
 """
-import base64
 import collections
 import contextlib
-import json
 import os
-import re
 import shutil
 import subprocess
 import tempfile
 
-import tables
 from c_tests import CALL_TESTS, STRICT, Build, CTest
-from support import main, needs, read, run, write
+from support import main, needs, run, write
 
 # A system: the directory of asm/, the compiler for it with its flags, and the words that run a
 # program there.
@@ -37,26 +32,6 @@ MINGW = System("windows", "x86_64-windows",
 LIMIT = ["timeout", "-k", "5", "120"]
 # The directory of Debian's Wine.
 WINE = "/usr/lib/wine"
-SCRIPTS = ["calls.js", "rows.js", "pathtool.js"]
-PAGE = """<!DOCTYPE html>
-<meta charset="utf-8">
-<pre id="answers"></pre>
-<script>{scripts}
-const given = {given};
-let answers;
-try {{
-    load(atob(given.module));
-    const counts = new Map(given.commands);
-    answers = {{rows: given.rows.map(askRow),
-                files: given.files.map((text) => answerFile(text, counts))}};
-}} catch (error) {{
-    answers = {{error: `${{error}} ${{error.stack}}`}};
-}}
-document.getElementById("answers").textContent = btoa(JSON.stringify(answers));
-</script>
-"""
-CHROMIUM = ["chromium", "--headless", "--no-sandbox", "--disable-gpu", "--disable-dev-shm-usage",
-            "--virtual-time-budget=60000", "--dump-dom"]
 
 
 def find_wine():
@@ -146,61 +121,6 @@ class Processors(CTest):
         self.check_links(MINGW)
         with running_wine() as wine:
             self.try_library(MINGW._replace(runner=wine))
-
-
-class Wasm(CTest):
-    """Tests of the module for wasm64."""
-
-    def given_rows(self):
-        """Returns the rows in the format of tests/wasm/rows.js: the call, its shape, the type that
-        it returns, and the paths."""
-        calls = tables.calls()
-        for row in tables.rows():
-            shape, answer = calls[row.call]
-            paths = row.fields[:2 if shape.endswith("TWO") else 1]
-            yield [row.call, shape, answer, [it.decode("latin-1") for it in paths]]
-
-    def write_page(self, path, files):
-        """Writes a page that asks the module all rows, and answers the lines of these files."""
-        module = read("asm/wasm64/unix_path.wasm")
-        given = {"module": base64.b64encode(module).decode(), "rows": list(self.given_rows()),
-                 "files": [read(it).decode("latin-1") for it in files],
-                 "commands": [[it.name, [it.fewest, it.most]] for it in tables.commands()]}
-        scripts = "\n".join(read(f"tests/wasm/{it}").decode() for it in SCRIPTS)
-        write(path, PAGE.format(scripts=scripts,
-                                given=json.dumps(given).replace("<", "\\u003C")))
-
-    def answers_in_chromium(self, files, folder):
-        """Returns the answers of a page."""
-        self.write_page(f"{folder}/page.html", files)
-        shown = run([*LIMIT, *CHROMIUM, f"--user-data-dir={folder}/chromium",
-                     f"file://{folder}/page.html"], HOME=folder)
-        found = re.search(rb'<pre id="answers">([\w+/=]+)</pre>', shown.stdout)
-        self.assertIsNotNone(found, shown.stderr[-4000:])
-        answers = json.loads(base64.b64decode(found[1]).decode("latin-1"))
-        self.assertIn("rows", answers, answers.get("error"))
-        return answers
-
-    def check_rows(self, answers):
-        """Checks that the rows made of the module's answers are those of the table."""
-        rows, given = tables.rows(), list(self.given_rows())
-        self.assertEqual(len(answers), len(rows))
-        for row, (_, _, _, paths), fields in zip(rows, given, answers):
-            found = [tables.spelled(it.encode("latin-1")) if isinstance(it, str) else it[0]
-                     for it in [*paths, *fields]]
-            self.assertEqual(tables.spelled_row(row.call, found), row.line)
-
-    @needs("chromium")
-    def test_wasm64(self):
-        """The module answers all rows and vectors, in one page."""
-        files = list(tables.vectors(self.folder))
-        answers = self.answers_in_chromium([given for _, given, _ in files], self.folder)
-        with self.row("wasm64: rows"):
-            self.check_rows(answers["rows"])
-        self.assertEqual(len(answers["files"]), len(files))
-        for (name, _, path), text in zip(files, answers["files"]):
-            with self.row(f"wasm64: {name}"):
-                self.same_lines(text.encode("latin-1"), read(path))
 
 
 if __name__ == "__main__":

@@ -10,15 +10,19 @@
 #include <cstdio>
 #include <cstdlib>
 #include <functional>
+#include <iomanip>
 #include <iterator>
 #include <map>
 #include <memory>
 #include <new>
 #include <set>
+#include <sstream>
 #include <string>
 #include <type_traits>
 #include <unordered_map>
 #include <vector>
+
+#include "check.hpp"
 
 #if __cplusplus >= 202002L && __has_include(<ranges>)
 #include <ranges>
@@ -30,6 +34,12 @@ static_assert(std::forward_iterator<unix_path::ancestors::iterator>);
 static_assert(std::ranges::forward_range<unix_path::ancestors>);
 static_assert(std::forward_iterator<unix_path::chunks::iterator>);
 static_assert(std::ranges::forward_range<unix_path::chunks>);
+#ifdef __cpp_lib_ranges
+template <typename T>
+constexpr bool is_borrowed_view = std::ranges::view<T> && std::ranges::borrowed_range<T>;
+static_assert(is_borrowed_view<unix_path::components> && is_borrowed_view<unix_path::ancestors>);
+static_assert(is_borrowed_view<unix_path::chunks>);
+#endif
 static_assert(std::is_constructible_v<unix_path::buffer, std::span<char>>);
 static_assert(!std::is_constructible_v<unix_path::buffer, std::span<const char>>);
 #endif
@@ -59,6 +69,7 @@ __attribute__((noinline)) void operator delete(void *block, std::size_t) noexcep
 namespace {
 
 using unix_path::buffer;
+using unix_path::chunk;
 using unix_path::component;
 using unix_path::component_kind;
 using unix_path::error;
@@ -97,36 +108,6 @@ static_assert(
     returns<unix_path::components::reverse_iterator, component, std::bidirectional_iterator_tag>);
 static_assert(returns<unix_path::ancestors::iterator, view, std::forward_iterator_tag>);
 static_assert(returns<unix_path::chunks::iterator, unix_path::chunk, std::forward_iterator_tag>);
-
-int wrong_checks = 0, passed_tests = 0, failed_tests = 0;
-
-#define CHECK(...)                                                                                 \
-    do {                                                                                           \
-        if (!(__VA_ARGS__) && wrong_checks++ < 5) {                                                \
-            std::printf("%s:%d: " #__VA_ARGS__ "\n", __FILE__, __LINE__);                          \
-        }                                                                                          \
-    } while (0)
-
-void run(const char *name, void (*test)()) {
-    wrong_checks = 0;
-    test();
-    (wrong_checks == 0 ? passed_tests : failed_tests)++;
-    std::printf("%s: %s\n", wrong_checks == 0 ? "passed" : "failed", name);
-}
-
-// Returns each string of at most `longest` of these letters.
-std::vector<std::string> strings(std::string_view letters, std::size_t longest) {
-    std::vector<std::string> all{""};
-    for (std::size_t begin = 0; longest > 0; longest--) {
-        const std::size_t end = all.size();
-        for (; begin < end; begin++) {
-            for (char letter : letters) {
-                all.push_back(all[begin] + letter);
-            }
-        }
-    }
-    return all;
-}
 
 void comparisons() {
     const std::string text = "a/./b//";
@@ -325,8 +306,9 @@ void steps_of(view path, const std::vector<component> &parts, unsigned turns) {
             (left & 1) == 1 ? (void)0 : (void)--at;
         }
         CHECK((at == all.begin()) == (index == 0) && (at == all.end()) == (index == parts.size()));
-        CHECK(index == parts.size() || (*at == parts[index] && at->bytes == parts[index].bytes));
-        CHECK(index == parts.size() || at->bytes.data() == parts[index].bytes.data());
+        CHECK(index == parts.size() || *at == parts[index]);
+        CHECK(index == parts.size() || at->bytes() == parts[index].bytes());
+        CHECK(index == parts.size() || at->bytes().data() == parts[index].bytes().data());
     }
 }
 
@@ -338,6 +320,8 @@ void iterators() {
         CHECK(std::equal(all.rbegin(), all.rend(), parts.rbegin(), parts.rend()));
         CHECK(static_cast<std::size_t>(std::distance(all.begin(), all.end())) == parts.size());
         CHECK(all.empty() == parts.empty());
+        CHECK(all.front() == (parts.empty() ? component() : parts.front()));
+        CHECK(all.back() == (parts.empty() ? component() : parts.back()));
         for (unsigned turns = 1; turns < 128; turns++) {
             steps_of(path, parts, turns);
         }
@@ -351,21 +335,21 @@ void reversed_parts() {
         const unix_path::components all = view(path).components();
         auto at = all.rbegin();
         for (auto part = parts.rbegin(); part != parts.rend(); ++part, ++at) {
-            CHECK(at->kind == part->kind && at->bytes == part->bytes && *at == *part);
+            CHECK(at->kind() == part->kind() && at->bytes() == part->bytes() && *at == *part);
             CHECK(*std::prev(at.base()) == *part);
         }
         CHECK(at == all.rend() && at.base() == all.begin());
         for (auto part = parts.begin(); part != parts.end(); ++part) {
-            CHECK((--at)->bytes.data() == part->bytes.data() && at != all.rend());
+            CHECK((--at)->bytes().data() == part->bytes().data() && at != all.rend());
         }
         CHECK(at == all.rbegin());
     }
     const unix_path::components all = view("/a/..").components();
     auto at = all.rbegin();
-    CHECK((at++)->bytes == ".." && (at++)->bytes == "a");
-    CHECK((at--)->kind == component_kind::root_dir);
-    CHECK(at->bytes == "a" && all.rbegin()->kind == component_kind::parent_dir);
-    CHECK((*std::make_reverse_iterator(all.end())).bytes == "..");
+    CHECK((at++)->bytes() == ".." && (at++)->bytes() == "a");
+    CHECK((at--)->kind() == component_kind::root_dir);
+    CHECK(at->bytes() == "a" && all.rbegin()->kind() == component_kind::parent_dir);
+    CHECK((*std::make_reverse_iterator(all.end())).bytes() == "..");
 }
 
 // Checks that the values that an iterator returns outlive the iterator, and don't change when it
@@ -390,8 +374,48 @@ void returned_values() {
     outlives(view("/a/b").ancestors());
     outlives(view("a\xFF" "b\xFF" "c"sv).chunks());
     const component &last = *view("/a/b").components().rbegin();
-    CHECK(last.bytes == "b" && view("/a/b").ancestors().begin()->size() == 4);
+    CHECK(last.bytes() == "b" && view("/a/b").ancestors().begin()->size() == 4);
     CHECK(view("a\xFF"sv).chunks().begin()->broken == "\xFF"sv);
+}
+
+// A component is a text, and a path of one component.
+void converted_parts() {
+    const component part = view("/a/b.c").components().back();
+    const std::string_view text = part;
+    CHECK(part.kind() == unix_path::kind::normal && text.data() == part.bytes().data());
+    CHECK(std::string(part) == "b.c" && view(part).extension() == "c");
+    CHECK(std::string(view("a//b\0"sv)) == "a//b\0"sv);
+    CHECK(view("/").join(part) == "/b.c");
+    for (component it : view("../a").components()) {
+        CHECK(view(it).components().front() == it && *view(it).components().begin() == it);
+    }
+}
+
+// Checks what `<<` writes: the bytes, as of a string.
+void streams() {
+    std::ostringstream out;
+    out << std::setw(5) << view("a//b") << '|' << view("a b\0c"sv) << '|';
+    out << view("../x").components().front() << '|' << view("/").components().front().kind() << '|';
+    out << view("../x").relative_path("y").error();
+    CHECK(out.str() == " a//b|a b\0c|..|root_dir|no_relative_path"sv);
+}
+
+// Algorithms of std::ranges return iterators of temporary ranges, and views can be combined.
+void pipelines() {
+#ifdef __cpp_lib_ranges
+    const auto is_name = [](component part) { return part.kind() == component_kind::normal; };
+    const auto found = std::ranges::find_if(view("../../a/b").components(), is_name);
+    CHECK(found->bytes() == "a" && std::ranges::distance(view("/a").ancestors()) == 2);
+    CHECK(std::ranges::find(view("a\xFF"sv).chunks(), "\xFF"sv, &chunk::broken)->valid == "a");
+#if !defined(__clang__) || __clang_major__ >= 16  // older ones refuse views of libstdc++
+    std::string names;
+    auto named = view("/a/../b").components() | std::views::filter(is_name);
+    for (component part : named | std::views::reverse | std::views::take(2)) {
+        names += part;
+    }
+    CHECK(names == "ba");
+#endif
+#endif
 }
 
 // Checks components taken from both ends, and the rest between them.
@@ -565,10 +589,10 @@ void memory() {
     char out[128];
     std::size_t before = requests, length = 0;
     for (component part : a.components()) {
-        length += part.bytes.size();
+        length += part.bytes().size();
     }
     for (auto at = a.components().rbegin(); at != a.components().rend(); ++at) {
-        length += (*at).bytes.size();
+        length += (*at).bytes().size();
     }
     for (view ancestor : a.ancestors()) {
         length += ancestor.hash() % 2;
@@ -638,6 +662,9 @@ int main() {
     run("iterators", iterators);
     run("reversed parts", reversed_parts);
     run("values that iterators return", returned_values);
+    run("components as texts and paths", converted_parts);
+    run("streams", streams);
+    run("pipelines", pipelines);
     run("walks", walks);
     run("parents", parents);
     run("chunks", chunks);
@@ -646,6 +673,5 @@ int main() {
     run("maps", maps);
     run("memory", memory);
     run("errors that are looked at", looked_at_errors);
-    std::printf("%d passed, %d failed\n", passed_tests, failed_tests);
-    return failed_tests != 0;
+    return finish();
 }

@@ -109,14 +109,14 @@ fields parts_of(view path, view) {
                     == std::vector<component>(parts.rbegin(), parts.rend());
     fields taken;
     for (component part : parts) {
-        is_known = is_known && part.kind == kind_of(part.bytes);
-        taken.push_back(spelled(part.bytes));
-        taken.push_back(std::to_string(part.bytes.data() - path.data()));
+        is_known = is_known && part.kind() == kind_of(part.bytes());
+        taken.push_back(spelled(part.bytes()));
+        taken.push_back(std::to_string(part.bytes().data() - path.data()));
     }
     const view whole = unix_path::walk(path).rest();
     if (!parts.empty()) {
-        const std::string_view last = parts.back().bytes;
-        is_known = is_known && whole.data() == parts.front().bytes.data()
+        const std::string_view last = parts.back().bytes();
+        is_known = is_known && whole.data() == parts.front().bytes().data()
                    && whole.data() + whole.size() == last.data() + last.size();
     }
     return is_known && whole.empty() == parts.empty() ? taken : fields{"not from each end"};

@@ -22,8 +22,7 @@ impl Digest {
         self.add(u64::from(flag));
     }
 
-    // Adds the bytes, eight at once, and then one number made from the last up to seven bytes and
-    // the number of all bytes.
+    // Adds the bytes in words of eight, and then a word made of the remaining bytes and the length.
     pub(crate) fn add_bytes(&mut self, bytes: &[u8]) {
         let (words, rest) = bytes.as_chunks::<8>();
         for word in words {

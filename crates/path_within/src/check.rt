@@ -72,7 +72,7 @@ fn escapes_by_components(path: Path<'_>) -> bool
     false
 }
 
-// Tests whether the path escapes. Accepts a path of names only without visiting its components.
+// Tests whether the path escapes. A path that consists of names only is accepted without a walk.
 #[tactic(auto, using(crate::proofs::lemmas::names_only::RequestLemmas::names_only_stays))]
 pub(crate) fn check_escape(path: Path<'_>) -> Check
     ensures refused { result ≡ Refused ↔ Escapes (values path.entry.bytes.now) }
@@ -98,8 +98,8 @@ fn is_root_or_parent_dir(part: Component<'_>) -> bool
     matches!(part, Component::RootDir | Component::ParentDir)
 }
 
-// Tests whether the path has a root or a `..`. Accepts a path of names only without visiting its
-// components.
+// Tests whether the path has a root or a `..`. A path that consists of names only is accepted
+// without a walk.
 pub(crate) fn check_parent_dir(path: Path<'_>) -> Check
     ensures refused { result ≡ Refused
         ↔ (has_root_or_parent_dir (values path.entry.bytes.now) ≡ true) }

@@ -28,8 +28,8 @@ static EXTENSIONS_SET: [(&str, &str, &str, bool); 18] = [
     ("foo.rs/.", "txt", "foo.txt", true),
 ];
 
-// Returns true if setting the extension changes `old` to `new`, both in place, where the call
-// returns `answer`, and in a copy.
+// Sets the extension of `old` in place and in a copy. Returns true if both become `new`, and the
+// call in place returns `answer`.
 fn takes_extension(
     alloc: Global,
     old: &str,
@@ -68,8 +68,8 @@ static EXTENSIONS_ADDED: [(&str, &str, &str, bool); 13] = [
     ("", "x", "", false),
 ];
 
-// Returns true if adding the extension changes `old` to `new`, both in place, where the call
-// returns `answer`, and in a copy.
+// Adds the extension to `old` in place and to a copy. Returns true if both become `new`, and the
+// call in place returns `answer`.
 fn adds_extension(
     alloc: Global,
     old: &str,

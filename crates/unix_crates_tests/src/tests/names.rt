@@ -18,7 +18,7 @@ static PLACES: [(&str, &str, Option<usize>, Option<usize>); 12] = [
     ("../foo.//", "..", Some(7), Some(6)),
 ];
 
-fn has_places(row: &(&str, &str, Option<usize>, Option<usize>)) -> bool {
+fn has_indices(row: &(&str, &str, Option<usize>, Option<usize>)) -> bool {
     let p = path(row.0);
     p.before_name().bytes == row.1.as_bytes() && p.name_end() == row.2 && p.stem_end() == row.3
 }
@@ -26,6 +26,6 @@ fn has_places(row: &(&str, &str, Option<usize>, Option<usize>)) -> bool {
 #[test]
 fn places_of_file_names(rt: HostRuntime) {
     for row in PLACES.iter() {
-        assert!(rt; has_places(row), "{}", row.0);
+        assert!(rt; has_indices(row), "{}", row.0);
     }
 }

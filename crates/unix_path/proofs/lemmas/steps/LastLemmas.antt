@@ -45,10 +45,10 @@ last_after_slash s start h some named no_dot =
 
 -- if s ends in a component, and its last piece has at least one byte and comes after a slash, this
 -- piece is neither empty nor `.`
-pub last_counts : (s : List ℕ) (start : ℕ) → IsLastStart s start → 0 < start → start < length s
-    → EndsInPart s → (bytes_eq (drop start s) [] ≡ false)
+pub last_is_significant : (s : List ℕ) (start : ℕ) → IsLastStart s start → 0 < start
+    → start < length s → EndsInPart s → (bytes_eq (drop start s) [] ≡ false)
     × (bytes_eq (drop start s) cur_dir ≡ false)
-last_counts s start h some l ends = grind (arith, common_steps)
+last_is_significant s start h some l ends = grind (arith, common_steps)
 
 -- if s ends in a component, and its last piece isn't empty, the components of s are those of the
 -- bytes before this piece, and then the component of the piece
@@ -65,7 +65,7 @@ last_part s zero h l ends =
       parts-nil,
     )
 last_part s (suc k) h l ends =
-    let c = last_counts s (suc k) h (omega arith) l ends in
+    let c = last_is_significant s (suc k) h (omega arith) l ends in
     let y = drop (suc k) s in
     let v : value_of_piece y ≡ first_value y = rw c.1 refl in (
       suc k,

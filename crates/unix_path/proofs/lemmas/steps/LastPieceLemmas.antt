@@ -7,7 +7,7 @@ use Rattle.std.proofs.lemmas.Bool.{or_cases, and_parts}
 use Rattle.std.proofs.lemmas.List.{drop_all, drop_more}
 use Rattle.std.proofs.lemmas.Slice.Eq.{bytes_eq-Decides}
 use Rattle.std.proofs.lemmas.Grind.{common_steps}
-use Rattle.unix_path.proofs.lemmas.steps.LastLemmas.{last_counts}
+use Rattle.unix_path.proofs.lemmas.steps.LastLemmas.{last_is_significant}
 pub use Rattle.unix_path.proofs.lemmas.steps.LastLemmas.{IsLastStart}
 use Rattle.unix_path.specs.Parts.{CurDir, ParentDir, Normal, cur_dir, parent_dir, parts}
 use Rattle.unix_path.specs.Scan.{ends_with_parent_dir, EndsInPart, is_trailing}
@@ -31,7 +31,7 @@ no_parent_piece s start h l no_parent = grind (arith, common_steps)
 pub last_name : (s : List ℕ) (start : ℕ) → IsLastStart s start → start < length s → EndsInPart s
     → bytes_eq s cur_dir ≡ false → ends_with_parent_dir s ≡ false
     → first_value (drop start s) ≡ Normal (drop start s)
-last_name s start h l ends no_dot no_parent = grind (arith, no_parent_piece, last_counts)
+last_name s start h l ends no_dot no_parent = grind (arith, no_parent_piece, last_is_significant)
 
 -- if s ends in a component, its last piece is neither empty nor `.` nor `..`, and the first n bytes
 -- of s are the bytes before this piece without trailing filler, then removing the last component of
