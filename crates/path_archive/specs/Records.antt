@@ -70,8 +70,8 @@ pub record IsInRange (at len : ℕ) (r : Record) : Type 0 where
 abbrev pub HasTarget : List ℕ → Record → Type 0
 HasTarget records r = field_at records (r.end + 1) ≡ slice_range records (r.end + 1) r.target_end
 
--- `count` is the number of uses of the entries of the records, and if there is room, the first slots
--- are these uses, in order
+-- `count` is the number of uses of the entries of the records, and if there is room, the first
+-- slots are these uses, in order
 pub record IsSplit (records : List ℕ) (count : ℕ) (slots : List Slot) : Type 0 where
   pub entries : List EntryValue
   pub read : entries_in records ≡ Some entries

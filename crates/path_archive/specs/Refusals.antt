@@ -8,7 +8,8 @@ use Rattle.path_archive.specs.Slots.{use_at}
 use Rattle.path_archive.specs.declared.level.Level.{Level}
 use Rattle.path_archive.specs.declared.refusal.Reason.{Reason}
 use Rattle.path_archive.specs.declared.refusal.Reason.TheVariants.{Name, Kind, BelowLeaf}
-use Rattle.path_archive.specs.declared.refusal.Reason.TheVariants.{LinkUsedTwice, TargetIsLink, LeadsOut}
+use Rattle.path_archive.specs.declared.refusal.Reason.TheVariants.{LinkUsedTwice, TargetIsLink}
+use Rattle.path_archive.specs.declared.refusal.Reason.TheVariants.{LeadsOut}
 use Rattle.path_archive.specs.declared.refusal.Refusal.{Refusal}
 use Rattle.path_archive.specs.declared.slot.Slot.{Slot}
 

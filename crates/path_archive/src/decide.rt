@@ -1,6 +1,6 @@
 //! Decides which entries are refused.
-ghost use Rattle.std.specs.Prelude.{◌≡◌, ◌<◌, ◌≤◌, ◌↔◌, ◌⊎◌, [], ◌++◌, AllPairs, IfOk, IfSome, None};
-ghost use Rattle.std.specs.Prelude.{IsSomeAnd, OnOk, ℕ, false, length, map, option_to_list};
+ghost use Rattle.std.specs.Prelude.{◌≡◌, ◌<◌, ◌≤◌, ◌↔◌, ◌⊎◌, [], ◌++◌, AllPairs, IfOk, IfSome};
+ghost use Rattle.std.specs.Prelude.{None, IsSomeAnd, OnOk, ℕ, false, length, map, option_to_list};
 ghost use Rattle.std.specs.Prelude.{slice_index_or, take};
 ghost use Rattle.path_archive.specs.Entries.{all_uses};
 ghost use Rattle.path_archive.specs.Marks.{Marked};

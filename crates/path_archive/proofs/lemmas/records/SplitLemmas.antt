@@ -60,10 +60,12 @@ pub slots_own : (r : List ℕ) (old now : List Slot) (k : ℕ) (x : Record) (n :
 unfolding use_at
 slots_own r old now k x n kind other target k_in is =
     ap (λ ss. map (numbered_at r) (take (k + 1) ss)) is
-    ∙ ap (map (numbered_at r)) (take_more_set old k _ k_in) ∙ map_push (numbered_at r) (take k old) _
+    ∙ ap (map (numbered_at r)) (take_more_set old k _ k_in)
+    ∙ map_push (numbered_at r) (take k old) _
     ∙ ap (λ us. map (numbered_at r) (take k old) ++ map (λ u. (n, u)) us)
     (own_use x.rank (slice_range r x.start x.end)
-    (slice_range r (x.end + 1) x.target_end) (field_at r (x.end + 1)) other kind.own kind.most target)
+    (slice_range r (x.end + 1) x.target_end) (field_at r (x.end + 1)) other kind.own kind.most
+    target)
 
 -- the slots of a hard link
 pub slots_link : (r : List ℕ) (old mid now : List Slot) (k : ℕ) (x : Record) (n : ℕ)

@@ -19,7 +19,8 @@ use Rattle.path_archive.proofs.lemmas.marks.StepLemmas.{uses_at, use_is}
 use Rattle.path_archive.proofs.lemmas.marks.UnmarkedLemmas.{causes_of}
 
 -- what holds of the refusals of the uses before index k
-pub record Collected (level : Level) (r : List ℕ) (ss : List Slot) (list : List Refusal) (k : ℕ) : Type 0 where
+pub record Collected (level : Level) (r : List ℕ) (ss : List Slot) (list : List Refusal) (k : ℕ)
+    : Type 0 where
   pub each : All (IsTrueOf level (map (numbered_at r) ss)) list
   pub done : (j : ℕ) (d : Slot) → j < k
       → IsRefused list (slice_index_or ss j d).entry ⊎ Stays level r j (slice_index_or ss j d)
@@ -45,7 +46,8 @@ refused_last list x =
     (Contains-push (map (λ (y : Refusal). y.entry) list) x.entry)
 
 -- the use is refused
-pub collect_push : (level : Level) (r : List ℕ) (ss : List Slot) (list : List Refusal) (k : ℕ) (x : Refusal)
+pub collect_push : (level : Level) (r : List ℕ) (ss : List Slot) (list : List Refusal) (k : ℕ)
+    (x : Refusal)
     → Collected level r ss list k → IsTrueOf level (map (numbered_at r) ss) x
     → ((d : Slot) → x.entry ≡ (slice_index_or ss k d).entry)
     → Collected level r ss (list ++ x ∷ []) (k + 1)
@@ -84,7 +86,8 @@ collect_step level r ss list now k None h is_true named stays is =
     subst (λ l. Collected level r ss l (k + 1)) (sym (is ∙ append-nil list))
     (collect_keep level r ss list k h (stays refl))
 collect_step level r ss list now k (Some x) h is_true named stays is =
-    subst (λ l. Collected level r ss l (k + 1)) (sym is) (collect_push level r ss list k x h is_true named)
+    subst (λ l. Collected level r ss l (k + 1)) (sym is)
+    (collect_push level r ss list k x h is_true named)
 
 -- the uses at two slots that stay are apart
 stay_apart : (r : List ℕ) (ss : List Slot) (i j : ℕ) (d : Slot)

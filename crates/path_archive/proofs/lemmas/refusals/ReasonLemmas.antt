@@ -1,6 +1,6 @@
 -- Why a use is refused.
-use Rattle.std.proofs.Common.{◌≡◌, ◌≢◌, ◌⊎◌, ◌↔◌, ◌<◌, ◌+◌, ◌==◌, ℕ, Bool, true, false, List, [], ◌∷◌}
-use Rattle.std.proofs.Common.{refl, sym, ap, ◌∙◌, subst, arith, length, map, slice_index_or}
+use Rattle.std.proofs.Common.{◌≡◌, ◌≢◌, ◌⊎◌, ◌↔◌, ◌<◌, ◌+◌, ◌==◌, ℕ, Bool, true, false, List, []}
+use Rattle.std.proofs.Common.{◌∷◌, refl, sym, ap, ◌∙◌, subst, arith, length, map, slice_index_or}
 use Rattle.std.proofs.Common.{slice_index, true≢false, if◌then◌else◌}
 use Rattle.std.specs.Prelude.{AllPairs, Contains}
 use Rattle.std.proofs.lemmas.List.{get_or-map, length-append, length-map}
@@ -17,7 +17,8 @@ use Rattle.path_archive.specs.Slots.{field_at, path_at, target_at, use_at, used_
 use Rattle.path_archive.specs.declared.level.Level.{Level}
 use Rattle.path_archive.specs.declared.refusal.Reason.{Reason}
 use Rattle.path_archive.specs.declared.refusal.Reason.TheVariants.{Name, Kind, BelowLeaf}
-use Rattle.path_archive.specs.declared.refusal.Reason.TheVariants.{LinkUsedTwice, TargetIsLink, LeadsOut}
+use Rattle.path_archive.specs.declared.refusal.Reason.TheVariants.{LinkUsedTwice, TargetIsLink}
+use Rattle.path_archive.specs.declared.refusal.Reason.TheVariants.{LeadsOut}
 use Rattle.path_archive.specs.declared.slot.Slot.{Slot}
 use Rattle.path_archive.proofs.lemmas.marks.OrderLemmas.{rank_of}
 use Rattle.path_archive.proofs.lemmas.marks.PassLemmas.{rank}
@@ -195,7 +196,8 @@ two_at r ss v k e d two before k_in =
 
 -- the refusal of a use that clashes with its cause
 pub clash_true : (level : Level) (r : List ℕ) (ss : List Slot) (k : ℕ) (d e : Slot)
-    (reason : Reason) → k < length ss → AllPairs AreTwo (map (numbered_at r) ss) → (slice_index_or ss k d).cause < k
+    (reason : Reason) → k < length ss → AllPairs AreTwo (map (numbered_at r) ss)
+    → (slice_index_or ss k d).cause < k
     → ClashesFor (use_at r (slice_index_or ss (slice_index_or ss k d).cause e))
     (use_at r (slice_index_or ss k d)) reason
     → IsTrueOf level (map (numbered_at r) ss) (record {
