@@ -152,13 +152,15 @@ class Compiled(CTest):
         return program
 
     def try_head(self, build, header):
-        """Builds and runs the examples at the head of a header. Each has to print what the text
-        after it says."""
+        """Builds and runs the examples of a header. Those at its head have to print what the text
+        after them says, and the others what the text before them says."""
         ending, *includes = HEADS[header]
-        text = read(f"include/{header}").decode().split("#ifndef")[0]
-        head = re.sub(r"(?m)^( \*|//) ?", "", text)
+        text = re.sub(r"(?m)^( \*|//) ?", "", read(f"include/{header}").decode())
+        head = text.split("#ifndef")[0]
         found = re.findall(r"((?:^ {4}.*\n)(?:^ {4}.*\n|^ *\n)*)It prints `(.*?)`", head, re.M)
         self.assertEqual(len(found), head.count("It prints"))
+        later = re.findall(r"This prints `(.*)`:\n\n((?: {4}.*\n)+)", text)
+        found += [(code, wanted) for wanted, code in later]
         source = f"{tempfile.mkdtemp(dir=self.folder)}/head.{ending}"
         write(source, *(f"#include <{it}>" for it in (*includes, header)), "int main(void) {",
               *(f"{{\n{code}}}" for code, _ in found), "    return 0;\n}")

@@ -11,6 +11,8 @@
 //! if empty; they have at most `isize::MAX` bytes; and a slice that is written shares no byte with
 //! another slice. The library also promises that a call wrote as many bytes as it returns. Each
 //! `Vec` that a call fills depends on this promise.
+//!
+//! No function of this crate makes `unix_path_entries_scratch` or `unix_path_check_entries` yet.
 #[macro_use]
 mod calls;
 mod code;
