@@ -256,8 +256,9 @@ impl Root {
     /// the rest has a root or a `..`. Otherwise it is `Nul` if and only if the rest has a NUL byte.
     /// Nothing is resolved: a path with a `..` after the root has to be resolved first.
     ///
-    /// The request's path is a slice of the path. For `/srv//www/a/` and the root `/srv/www` it is
-    /// the request `a`. `/srv/www2` and
+    /// The request's path is a slice of the path.
+    ///
+    /// For `/srv//www/a/` and the root `/srv/www` it is the request `a`. `/srv/www2` and
     /// `/srv/www/a/../b` are refused.
     #[tactic(auto, using(crate::proofs::lemmas::names_only::RequestLemmas::request_rootless))]
     pub fn strip<'a>(&self, path: Path<'a>) -> Result<Request<'a>, StripError>
