@@ -8,7 +8,7 @@ ghost use Rattle.path_archive.specs.Slots.{used_as_of};
 use crate::slot::is_directory;
 use path_within::has_nul;
 use path_within::within::has_root_or_parent_dir;
-use unix_bytes::search::after_last;
+use unix_bytes::internal::after_last;
 use unix_path::Path;
 
 // Returns true if the piece is neither empty nor `.`.

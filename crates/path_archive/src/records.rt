@@ -10,7 +10,7 @@ ghost use Rattle.path_archive.specs.Refusals.{numbered, numbered_at};
 ghost use Rattle.path_archive.specs.Slots.{field_at};
 
 use crate::slot::{DIRECTORY, FILE, HARD_LINK, OTHER, SYMLINK, Slot, TARGET};
-use unix_bytes::search::find_byte;
+use unix_bytes::internal::find_byte;
 
 // Returns the index of the NUL that ends the field at `at`, or `None` if there is none.
 fn field_end(records: &[u8], at: usize) -> Option<usize>

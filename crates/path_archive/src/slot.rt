@@ -5,7 +5,7 @@ ghost use Rattle.path_archive.specs.Entries.{components};
 ghost use Rattle.path_archive.specs.Rule.{is_directory};
 ghost use Rattle.path_archive.specs.Slots.{field_at, path_at, used_as_of};
 
-use unix_bytes::search::find_byte;
+use unix_bytes::internal::find_byte;
 use unix_path::Path;
 
 // What a path is used as. Among uses of one path, the lower rank comes first.

@@ -8,3 +8,4 @@ pub mod NameBytes
 pub mod PathRuns
 pub mod Runs
 pub mod Laws
+pub mod Read

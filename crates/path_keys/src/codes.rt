@@ -7,7 +7,7 @@ ghost use Rattle.path_keys.specs.Keys.{code, raised};
 ghost use Rattle.path_keys.specs.Codes.{code_value, lowered, Fits, HasNoCode, IsName};
 ghost use Rattle.path_keys.specs.Codes.{IsRaised, TakesCode};
 
-use unix_bytes::search::find_byte;
+use unix_bytes::internal::find_byte;
 
 // The byte after the 0 in the code of a root.
 pub(crate) const ROOT_MARK: u8 = 1;

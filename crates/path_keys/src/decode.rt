@@ -11,7 +11,7 @@ ghost use Rattle.path_keys.specs.Runs.{lead_text, run_text};
 
 use crate::recode::names_to_path;
 use crate::runs::{Lead, Run, next_run, past_lead, run_in};
-use unix_bytes::buffers::write_at;
+use unix_bytes::internal::write_at;
 
 // Returns the length of the path of a key; `None` if no path has the key.
 pub(crate) fn path_len(key: &[u8]) -> Option<usize>

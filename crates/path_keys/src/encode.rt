@@ -12,9 +12,7 @@ ghost use Rattle.path_keys.specs.PathRuns.{run_key, BeginsKey, IsRun};
 use crate::codes::{CUR_DIR_MARK, PARENT_DIR_MARK, ROOT_MARK};
 use crate::recode::names_to_key;
 use unix_path::Path;
-use unix_path::filler::{after_filler, is_filler};
-use unix_path::first_component::starts_with_parent_dir;
-use unix_path::name_run_ends::name_run_end;
+use unix_path::internal::{after_filler, is_filler, name_run_end, starts_with_parent_dir};
 
 /// Returns the length of a path's key, which is at most the length of the path plus 2.
 ///

@@ -20,7 +20,7 @@ use crate::read::{KeyError, is_key};
 pub use range::KeyRange;
 use std::alloc::{AllocError, Global};
 use std::cmp::Ordering;
-use unix_bytes::order::compare_bytes;
+use unix_bytes::internal::compare_bytes;
 use unix_path::Path;
 
 /// The key of a path: bytes that a store can compare instead of the path.
@@ -119,7 +119,8 @@ impl PathKey {
     #[must_use]
     #[inline]
     pub fn as_bytes(&self) -> &[u8]
-        ensures { result.now ≡ key_bytes self.now }
+        ensures bytes { result.now ≡ key_bytes self.now }
+        ensures is_key { IsKey (key_bytes self.now) }
     {
         self.bytes.as_slice()
     }

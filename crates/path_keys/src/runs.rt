@@ -8,7 +8,7 @@ ghost use Rattle.path_keys.specs.Runs.{lead_text, run_code, run_text, BeginsLead
 ghost use Rattle.path_keys.specs.Runs.{LeavesText, TakesRun};
 
 use crate::codes::{CUR_DIR_MARK, PARENT_DIR_MARK, ROOT_MARK};
-use unix_path::name_run_ends::{name_run_end, no_name_starts_at};
+use unix_path::internal::{name_run_end, no_name_starts_at};
 
 // The root or the `.` with which a path begins, if it begins with one.
 #[derive(Clone, Copy)]

@@ -1,10 +1,11 @@
 //! Edits of a path as values, and two functions: `apply` makes a list of edits, and `rejoin` joins
 //! a base with what follows it in a path.
-ghost use Rattle.std.specs.Prelude.{◌≡◌, ◌↔◌, ◌<◌, [], true, length, take, slice_get, MatchOption};
+ghost use Rattle.std.specs.Prelude.{◌≡◌, ◌↔◌, ◌<◌, ◌≤◌, [], true, length, take, slice_get};
 ghost use Rattle.std.specs.Prelude.{map, Some, IsSome, IsOk, IfOk, IfErr, IfSome, OnOk, OnErr};
+ghost use Rattle.std.specs.Prelude.{MatchOption};
 ghost use Rattle.std.specs.Fmt.{padded};
 ghost use Rattle.std.specs.Result.{result_ok};
-ghost use Rattle.unix_path.specs.Buffers.{path_bytes};
+ghost use Rattle.unix_path.specs.Buffers.{capacity, path_bytes};
 ghost use Rattle.unix_path.specs.Joins.{join_of};
 ghost use Rattle.unix_path.specs.Prefixes.{IsPrefixOf, stripped_of};
 ghost use Rattle.unix_path.specs.Parts.{values, SameValues};
@@ -115,6 +116,9 @@ fn apply_one(
         (λ answer. answer ≡ (edit_of (path_bytes path.old) (edit_value edit.now)).1) }
     ensures err { OnErr result (path_bytes path.new ≡ path_bytes path.old) }
     ensures refused { OnErr result (may_allocate (edit_value edit.now) ≡ true) }
+    ensures too_long { OnErr result (capacity path.old
+        < length (edit_of (path_bytes path.old) (edit_value edit.now)).0) }
+    ensures capacity { capacity path.old ≤ capacity path.new }
 {
     match edit {
         Edit::Push(other) => {
@@ -146,10 +150,11 @@ fn apply_one(
 /// `PathBuf` method of the same name, except that an edit of the extension may leave spare
 /// capacity. An empty list allocates nothing, and succeeds. If an allocation fails, the edits
 /// before the failing one have been made, and the error contains their number: 0 if the answers
-/// could not be allocated, or if the first edit failed. An edit whose extension contains a `/` does
-/// not fail: it leaves the bytes unchanged, its answer is `Separator`, and the next edit is made.
-/// The time is linear in the number of edits plus the lengths of their bytes, of the path and of
-/// the result.
+/// could not be allocated, or if the first edit failed. An edit after the first fails only if its
+/// result is longer than the capacity that the path had at the call, which never shrinks. An edit
+/// whose extension contains a `/` does not fail: it leaves the bytes unchanged, its answer is
+/// `Separator`, and the next edit is made. The time is linear in the number of edits plus the
+/// lengths of their bytes, of the path and of the result.
 ///
 /// On `foo/.`, setting the extension `bar` and then two pops leave the empty path. The answers are
 /// true, true and false.
@@ -170,6 +175,11 @@ pub fn apply(
     ensures refused { IfErr result
         (λ e. 0 < e.done → MatchOption (slice_get edits.now e.done) ⊥
         (λ edit. may_allocate (edit_value edit) ≡ true)) }
+    ensures too_long { IfErr result
+        (λ e. 0 < e.done → MatchOption (slice_get edits.now e.done) ⊥
+        (λ edit. capacity path.old
+        < length (edit_of (path_bytes path.new) (edit_value edit)).0)) }
+    ensures capacity { capacity path.old ≤ capacity path.new }
 {
     let mut answers = match Vec::with_capacity(alloc, edits.len()) {
         Ok(answers) => answers,

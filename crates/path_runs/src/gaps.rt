@@ -6,7 +6,7 @@ ghost use Rattle.unix_path.specs.Scan.{is_filler};
 ghost use Rattle.path_runs.specs.Gaps.{is_gap, slashed_parts, FirstGap, IsPartStart};
 
 use std::simd::prelude::*;
-use unix_path::filler::is_filler;
+use unix_path::internal::is_filler;
 
 // Returns true if the byte at `at` is a slash, and the piece after it is empty or `.`.
 #[inline]

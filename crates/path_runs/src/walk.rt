@@ -4,6 +4,7 @@ ghost use Rattle.std.specs.Prelude.{None};
 ghost use Rattle.std.specs.Option.{option_to_list};
 ghost use Rattle.unix_path.specs.Parts.{values};
 ghost use Rattle.unix_path.specs.Rest.{rest};
+ghost use Rattle.unix_path.specs.Slices.{LiesIn};
 ghost use Rattle.unix_path.specs.Views.{value_of};
 ghost use Rattle.path_runs.specs.Turns.{back_turns, front_turns};
 
@@ -75,6 +76,7 @@ pub fn walk<'a>(alloc: Global, path: Path<'a>, turns: &[Turn]) -> Result<Walked<
     ensures whole { IfOk result (λ w. map value_of w.front.items
         ++ values w.rest.bytes.now ++ reverse (map value_of w.behind.items)
         ≡ values path.entry.bytes.now) }
+    ensures place { IfOk result (λ w. LiesIn w.rest.bytes path.entry.bytes) }
     ensures succeeds { turns.now ≡ [] → IsOk result }
     ensures succeeds_empty { path.entry.bytes.now ≡ [] → IsOk result }
 {

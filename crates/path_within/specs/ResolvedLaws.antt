@@ -1,7 +1,7 @@
 -- Laws of resolved paths, and of joins that stay within their root.
-use Rattle.std.specs.Prelude.{◌≡◌, ◌≤◌, ◌+◌, ◌++◌, ℕ, List, length, false}
+use Rattle.std.specs.Prelude.{◌≡◌, ◌≤◌, ◌+◌, ◌++◌, ◌∷◌, ℕ, List, length, false}
 use Rattle.unix_path.specs.Joins.{join_of}
-use Rattle.unix_path.specs.Parts.{values, SameValues}
+use Rattle.unix_path.specs.Parts.{Value, RootDir, CurDir, ParentDir, Normal, values, SameValues}
 use Rattle.unix_path.specs.Prefixes.{IsPrefixOf, stripped_of}
 use Rattle.path_runs.specs.JoinLaws.{drop_dot, values_added}
 use Rattle.path_within.specs.Resolved.{resolved_of, resolved_bytes_of, AllNames, IsNormal}
@@ -34,6 +34,22 @@ ResolvedOfJoin =
 -- a resolved path is no longer than the path
 abbrev pub ResolvedIsShort : Type 0
 ResolvedIsShort = (s : List ℕ) → length (resolved_bytes_of s) ≤ length s
+
+-- f follows the rules of resolving: a name and the `..` after it cancel, each `.` drops out, a `..`
+-- after a leading root drops out, and what is normal stays
+pub record Resolves (f : List Value → List Value) : Type 0 where
+  pub name_cancels : (v w : List Value) (name : List ℕ)
+      → f (v ++ Normal name ∷ ParentDir ∷ w) ≡ f (v ++ w)
+  pub dot_drops : (v w : List Value) → f (v ++ CurDir ∷ w) ≡ f (v ++ w)
+  pub root_stays : (w : List Value) → f (RootDir ∷ ParentDir ∷ w) ≡ f (RootDir ∷ w)
+  pub normal_stays : (v : List Value) → IsNormal v → f v ≡ v
+
+-- a function that follows the rules of resolving resolves the components of each path as
+-- `resolved_of` does
+abbrev pub OnlyOneResolves : Type 0
+OnlyOneResolves =
+    (f : List Value → List Value) → Resolves f → (s : List ℕ)
+    → f (values s) ≡ resolved_of (values s)
 
 -- the resolved join of a and b is at most one byte longer than a and b together
 abbrev pub ResolvedJoinIsShort : Type 0

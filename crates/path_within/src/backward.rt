@@ -8,9 +8,8 @@ ghost use Rattle.path_within.specs.Backward.{Takes};
 ghost use Rattle.path_within.specs.Below.{names_below};
 ghost use Rattle.path_within.specs.WrittenBytes.{slashed_len};
 
-use unix_bytes::buffers::write_at;
 use unix_bytes::bytes::UnixStr;
-use unix_bytes::search::after_last;
+use unix_bytes::internal::{after_last, write_at};
 use unix_path::Path;
 
 // The bytes between two slashes, classified.

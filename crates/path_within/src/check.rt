@@ -8,7 +8,7 @@ ghost use Rattle.path_within.specs.NamePieces.{is_names_only};
 ghost use Rattle.path_within.specs.declared.check.Check.TheVariants.{NamesOnly, Refused};
 
 use crate::names_only::is_names_only;
-use unix_bytes::search::find_byte;
+use unix_bytes::internal::find_byte;
 use unix_path::{Component, Path};
 
 // The result of a test of a path from outside.

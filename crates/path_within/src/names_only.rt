@@ -4,9 +4,7 @@ ghost use Rattle.std.specs.Prelude.{◌≡◌, true, IsTrue};
 ghost use Rattle.path_within.specs.NamePieces.{name_starts_at, is_names_only};
 
 use unix_path::Path;
-use unix_path::filler::is_filler;
-use unix_path::first_component::starts_with_parent_dir;
-use unix_path::name_run_ends::has_no_name_run_end;
+use unix_path::internal::{has_no_name_run_end, is_filler, starts_with_parent_dir};
 
 // Returns true if the piece that begins at `at` is a name: neither empty, nor `.`, nor `..`.
 #[inline]

@@ -1,6 +1,6 @@
 //! The relative path from one path to another.
 ghost use Rattle.std.specs.Prelude.{◌≡◌, ◌≤◌, ◌<◌, ◌-◌, ◌^◌, ℕ, List, Some, None, min, length};
-ghost use Rattle.std.specs.Prelude.{drop, option_map, replicate, ◌++◌, true, IfOk, IfSome, IsOk};
+ghost use Rattle.std.specs.Prelude.{drop, option_map, replicate, ◌++◌, [], true, IfOk, IsOk};
 ghost use Rattle.std.specs.List.{common_prefix_len};
 ghost use Rattle.std.specs.Str.{bytes_eq};
 ghost use Rattle.unix_path.specs.Buffers.{path_bytes};
@@ -205,8 +205,8 @@ fn steps<'a>(from: Path<'_>, to: Path<'a>) -> Option<Layout<'a>>
 /// `walk_up` does the same without resolving.
 ///
 /// Purely lexical: if a component may be a symbolic link, only the system knows where a `..` leads.
-/// The result is allocated once; an empty one allocates nothing. Fails if the allocation fails, and
-/// never if both paths have the same bytes.
+/// The result is allocated once; `None` and the empty path allocate nothing, and succeed. Otherwise
+/// fails if the allocation fails.
 ///
 /// From `/a/b/c` to `/a/d` it is `../../d`. From `../x` to `y` there is none.
 pub fn relative_path(
@@ -216,7 +216,10 @@ pub fn relative_path(
 ) -> Result<Option<PathBuf>, AllocError>
     ensures bytes { IfOk result (λ found. option_map path_bytes found ≡ option_map spelling_of
         (relative_path_of (values from.entry.bytes.now) (values to.entry.bytes.now))) }
-    ensures succeeds { from.entry.bytes.now ≡ to.entry.bytes.now → IsOk result }
+    ensures succeeds { relative_path_of (values from.entry.bytes.now) (values to.entry.bytes.now)
+        ≡ Some [] → IsOk result }
+    ensures succeeds_none { relative_path_of (values from.entry.bytes.now)
+        (values to.entry.bytes.now) ≡ None → IsOk result }
 {
     if from.bytes == to.bytes {
         return Ok(Some(PathBuf::new(alloc)));

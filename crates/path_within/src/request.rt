@@ -6,6 +6,7 @@ ghost use Rattle.std.specs.Fmt.{padded};
 ghost use Rattle.unix_path.specs.Names.{file_name_of};
 ghost use Rattle.unix_path.specs.Parts.{is_rooted, is_slash, values};
 ghost use Rattle.unix_path.specs.Prefixes.{IsPrefixOf};
+ghost use Rattle.unix_path.specs.Slices.{LiesIn};
 ghost use Rattle.path_runs.specs.Buffer.{buffer_after};
 ghost use Rattle.path_within.specs.Escapes.{Escapes};
 ghost use Rattle.path_within.specs.NamePieces.{is_names_only};
@@ -94,7 +95,7 @@ pub struct Request<'a> {
 
 impl<'a> Request<'a> {
     ghost use Rattle.path_within.specs.Layouts.{names_in};
-    ghost use Rattle.path_within.specs.Requests.{request_bytes, request_names};
+    ghost use Rattle.path_within.specs.Requests.{request_bytes, request_names, request_slice};
 
     // Wraps a path that the caller has checked. The path has no root and no NUL. If `is_verbatim`
     // is true, the path is one of names only.
@@ -103,7 +104,8 @@ impl<'a> Request<'a> {
         requires rootless { is_rooted path.bytes.now ≡ false }
         requires no_nul { has_nul path.bytes.now ≡ false }
         requires names_verbatim { IsTrue is_verbatim → is_names_only path.bytes.now ≡ true }
-        ensures { request_bytes result ≡ path.entry.bytes.now }
+        ensures bytes { request_bytes result ≡ path.entry.bytes.now }
+        ensures place { request_slice result ≡ path.entry.bytes }
     {
         Request { path, is_verbatim }
     }
@@ -129,6 +131,7 @@ impl<'a> Request<'a> {
             ↔ ((Escapes (values path.entry.bytes.now) → ⊥)
             × (has_nul path.entry.bytes.now ≡ true)) }
         ensures bytes { IfOk result (λ r. request_bytes r ≡ path.entry.bytes.now) }
+        ensures place { IfOk result (λ r. LiesIn (request_slice r) path.entry.bytes) }
         ensures names { IfOk result (λ r.
             request_names r ≡ resolved_of (values path.entry.bytes.now)) }
     {
@@ -166,6 +169,7 @@ impl<'a> Request<'a> {
         ensures nul { IsErrOf result RequestError.Nul ↔ (has_nul path.entry.bytes.now ≡ true) }
         ensures bytes { IfOk result
             (λ r. request_bytes r ≡ after_leading_slashes path.entry.bytes.now) }
+        ensures place { IfOk result (λ r. LiesIn (request_slice r) path.entry.bytes) }
         ensures names { IfOk result (λ r.
             request_names r ≡ names_below (values path.entry.bytes.now)) }
     {
@@ -187,6 +191,7 @@ impl<'a> Request<'a> {
     #[inline]
     pub fn as_path(&self) -> Path<'a>
         ensures bytes { result.bytes.now ≡ request_bytes self.now }
+        ensures place { LiesIn result.bytes (request_slice self.now) }
         ensures rootless { is_rooted result.bytes.now ≡ false }
         ensures no_nul { has_nul result.bytes.now ≡ false }
     {

@@ -8,7 +8,7 @@ ghost use Rattle.path_within.specs.Resolved.{resolved_bytes_of};
 use crate::normal::is_known_resolved;
 use crate::write::Layout;
 use std::alloc::{AllocError, Global};
-use unix_bytes::buffers::write_at;
+use unix_bytes::internal::write_at;
 use unix_path::{Path, PathBuf};
 
 // Returns the path resolved lexically. Not inlined, so that its callers, whose paths are mostly
@@ -17,7 +17,7 @@ use unix_path::{Path, PathBuf};
 #[tactic(auto, using(crate::proofs::lemmas::names_only::NamesOnlyLemmas::resolved_empty))]
 fn resolve_to_path_buf(alloc: Global, path: Path<'_>) -> Result<PathBuf, AllocError>
     ensures bytes { IfOk result (λ p. path_bytes p ≡ resolved_bytes_of path.entry.bytes.now) }
-    ensures succeeds { path.entry.bytes.now ≡ [] → IsOk result }
+    ensures succeeds { resolved_bytes_of path.entry.bytes.now ≡ [] → IsOk result }
 {
     Layout::of(path).to_path_buf(alloc)
 }
@@ -29,14 +29,14 @@ fn resolve_to_path_buf(alloc: Global, path: Path<'_>) -> Result<PathBuf, AllocEr
 /// current directory. Go's `path.Clean` then returns `.`, and otherwise the same result.
 ///
 /// Purely lexical: if a component before a `..` may be a symbolic link, only the system knows where
-/// that `..` leads. The result is allocated once; an empty one allocates nothing. Fails if the
-/// allocation fails, and never for the empty path.
+/// that `..` leads. The result is allocated once, and fails if the allocation fails. An empty one
+/// allocates nothing, and succeeds.
 ///
 /// `a/../..//b/.` resolves to `../b`, `/../a` to `/a`, and `a/..` to the empty path.
 #[tactic(auto, using(crate::proofs::lemmas::names_only::NamesOnlyLemmas::resolved_empty))]
 pub fn resolved(alloc: Global, path: Path<'_>) -> Result<PathBuf, AllocError>
     ensures bytes { IfOk result (λ p. path_bytes p ≡ resolved_bytes_of path.entry.bytes.now) }
-    ensures succeeds { path.entry.bytes.now ≡ [] → IsOk result }
+    ensures succeeds { resolved_bytes_of path.entry.bytes.now ≡ [] → IsOk result }
 {
     if is_known_resolved(path) {
         return path.to_path_buf(alloc);

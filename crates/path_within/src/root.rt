@@ -1,15 +1,17 @@
 //! Roots: directories below which requests are joined.
-ghost use Rattle.std.specs.Prelude.{◌≡◌, ◌↔◌, ◌+◌, ◌≤◌, ◌++◌, true, false, length, vec_capacity};
+ghost use Rattle.std.specs.Prelude.{◌≡◌, ◌↔◌, ◌+◌, ◌≤◌, ◌++◌, [], true, false, length};
+ghost use Rattle.std.specs.Prelude.{vec_capacity};
 ghost use Rattle.std.specs.Prelude.{IfOk, IfSome, OnOk, OnErr, IsOk, IsErrOf, IsTrue, Some, None};
 ghost use Rattle.std.specs.Fmt.{padded};
 ghost use Rattle.unix_path.specs.Buffers.{path_bytes, capacity};
 ghost use Rattle.unix_path.specs.Joins.{needs_no_separator};
 ghost use Rattle.unix_path.specs.Parts.{is_rooted, values};
 ghost use Rattle.unix_path.specs.Prefixes.{IsPrefixOf, stripped_of};
+ghost use Rattle.unix_path.specs.Slices.{LiesIn};
 ghost use Rattle.path_within.specs.Below.{below_of, has_nul, GoesDown, IsBelow};
 ghost use Rattle.path_within.specs.Escapes.{has_root_or_parent_dir};
 ghost use Rattle.path_within.specs.NamePieces.{is_names_only};
-ghost use Rattle.path_within.specs.Requests.{request_bytes, request_names};
+ghost use Rattle.path_within.specs.Requests.{request_bytes, request_names, request_slice};
 ghost use Rattle.path_within.specs.Resolved.{resolved_bytes_of};
 ghost use Rattle.path_within.specs.WrittenBytes.{root_prefix};
 
@@ -21,7 +23,7 @@ use std::alloc::{AllocError, Global};
 use std::error::Error;
 use std::fmt;
 use unix_bytes::bytes::UnixString;
-use unix_path::path_end::needs_no_separator;
+use unix_path::internal::needs_no_separator;
 use unix_path::{Path, PathBuf};
 
 /// The reason why a path is not below a root.
@@ -89,7 +91,9 @@ fn append_root_prefix(bytes: &mut Vec<u8>, root: &[u8])
 #[inline]
 fn join_bytes_in(previous: PathBuf, both: (Path<'_>, Path<'_>)) -> (PathBuf, ())
     requires { length both.0.bytes.now + 1 + length both.1.bytes.now ≤ capacity previous }
-    ensures { path_bytes result.0 ≡ root_prefix both.entry.0.bytes.now ++ both.entry.1.bytes.now }
+    ensures bytes { path_bytes result.0
+        ≡ root_prefix both.entry.0.bytes.now ++ both.entry.1.bytes.now }
+    ensures capacity { capacity previous ≤ capacity result.0 }
 {
     let (root, path) = both;
     let mut bytes = previous.into_unix_string().into_bytes();
@@ -105,8 +109,9 @@ fn join_bytes_in(previous: PathBuf, both: (Path<'_>, Path<'_>)) -> (PathBuf, ())
 #[tactic(auto, using(crate::proofs::lemmas::backward::JoinedLemmas::join_request_in_cases))]
 fn join_request_in(previous: PathBuf, both: (Path<'_>, Request<'_>)) -> (PathBuf, ())
     requires { length both.0.bytes.now + 1 + length (request_bytes both.1) ≤ capacity previous }
-    ensures { path_bytes result.0
+    ensures bytes { path_bytes result.0
         ≡ below_of both.entry.0.bytes.now (request_names both.entry.1) }
+    ensures capacity { capacity previous ≤ capacity result.0 }
 {
     let (root, request) = both;
     let (joined, ()) = join_bytes_in(previous, (root, request.as_path()));
@@ -134,12 +139,13 @@ impl Root {
     /// Returns the root with this path, resolved lexically.
     ///
     /// If a component before a `..` may be a symbolic link, use `verbatim`. Allocates the resolved
-    /// path once, or nothing if it is empty, which means the current directory. Fails if the
-    /// allocation fails.
+    /// path once, and fails if the allocation fails. If it is empty, which means the current
+    /// directory, allocates nothing, and succeeds.
     ///
     /// For `/srv/a/../www/` it is the root `/srv/www`.
     pub fn new(alloc: Global, path: Path<'_>) -> Result<Root, AllocError>
-        ensures { IfOk result (λ r. root_bytes r ≡ resolved_bytes_of path.entry.bytes.now) }
+        ensures bytes { IfOk result (λ r. root_bytes r ≡ resolved_bytes_of path.entry.bytes.now) }
+        ensures succeeds { resolved_bytes_of path.entry.bytes.now ≡ [] → IsOk result }
     {
         let path = resolved(alloc, path)?;
         Ok(Root { path })
@@ -148,12 +154,13 @@ impl Root {
     /// Returns the root with this path, verbatim.
     ///
     /// It is for roots whose components may be symbolic links: each `..` stays, and the system
-    /// determines where it leads. Allocates once, as many bytes as the path has, and nothing for
-    /// the empty path. Fails if the allocation fails.
+    /// determines where it leads. Allocates once, as many bytes as the path has, and fails if the
+    /// allocation fails. For the empty path it allocates nothing, and succeeds.
     ///
     /// For `/srv/a/../www/` it is the root `/srv/a/../www/`.
     pub fn verbatim(alloc: Global, path: Path<'_>) -> Result<Root, AllocError>
-        ensures { IfOk result (λ r. root_bytes r ≡ path.entry.bytes.now) }
+        ensures bytes { IfOk result (λ r. root_bytes r ≡ path.entry.bytes.now) }
+        ensures succeeds { path.entry.bytes.now ≡ [] → IsOk result }
     {
         let path = path.to_path_buf(alloc)?;
         Ok(Root { path })
@@ -177,8 +184,9 @@ impl Root {
     fn fill(&self, buffer: &mut PathBuf, request: Request<'_>)
         requires { length (root_bytes self.now) + 1 + length (request_bytes request)
             ≤ capacity buffer.old }
-        ensures { path_bytes buffer.new
+        ensures bytes { path_bytes buffer.new
             ≡ below_of (root_bytes self.now) (request_names request.entry) }
+        ensures capacity { capacity buffer.old ≤ capacity buffer.new }
     {
         if request.is_verbatim() {
             // The request's bytes are its names, so they are copied without being parsed again.
@@ -221,7 +229,7 @@ impl Root {
     ///
     /// If the buffer's capacity is at least one byte more than the root and the request have
     /// together, it allocates nothing and succeeds. Otherwise it allocates once. If the allocation
-    /// fails, the buffer is unchanged.
+    /// fails, the buffer's bytes are unchanged. The capacity never shrinks.
     ///
     /// Below `/srv/www` the request `a` turns a buffer that holds `/tmp` into `/srv/www/a`.
     #[inline(always)]
@@ -233,6 +241,7 @@ impl Root {
         ensures err { OnErr result (path_bytes buffer.new ≡ path_bytes buffer.old) }
         ensures succeeds { length (root_bytes self.now) + 1 + length (request_bytes request.entry)
             ≤ capacity buffer.old → IsOk result }
+        ensures capacity { capacity buffer.old ≤ capacity buffer.new }
     {
         // Reserves all capacity first, so that a failed allocation leaves the buffer unchanged.
         let previous = buffer.as_path().as_unix_str().len();
@@ -247,6 +256,8 @@ impl Root {
     /// the rest has a root or a `..`. Otherwise it is `Nul` if and only if the rest has a NUL byte.
     /// Nothing is resolved: a path with a `..` after the root has to be resolved first.
     ///
+    /// The request's path is a slice of the path.
+    ///
     /// For `/srv//www/a/` and the root `/srv/www` it is the request `a`. `/srv/www2` and
     /// `/srv/www/a/../b` are refused.
     #[tactic(auto, using(crate::proofs::lemmas::names_only::RequestLemmas::request_rootless))]
@@ -257,6 +268,7 @@ impl Root {
             × (has_nul (stripped_of path.entry.bytes.now (root_bytes self.now)) ≡ true)) }
         ensures bytes { IfOk result (λ r.
             request_bytes r ≡ stripped_of path.entry.bytes.now (root_bytes self.now)) }
+        ensures place { IfOk result (λ r. LiesIn (request_slice r) path.entry.bytes) }
     {
         let Ok(rest) = path.strip_prefix(self.as_path()) else {
             return Err(StripError::Outside);

@@ -74,7 +74,7 @@ impl From<AllocError> for WithinError {
 /// The error is `Escapes` if and only if the request escapes; nothing has been allocated then. The
 /// error is `Memory` if the allocation fails. A trailing slash of the request is dropped, and the
 /// result may be the root itself. A request with a leading slash is refused; for paths of URLs use
-/// `Request::in_root`. The join is allocated once; an empty join allocates nothing.
+/// `Request::in_root`. The join is allocated once; an empty join allocates nothing, and succeeds.
 ///
 /// Purely lexical: if a component of the root or of the request may be a symbolic link, use
 /// `join_verbatim` and let the system refuse links.
@@ -91,6 +91,9 @@ pub fn join_within(alloc: Global, root: Path<'_>, request: Path<'_>) -> Result<P
     ensures nul { IsErrOf result WithinError.Nul → ⊥ }
     ensures bytes { IfOk result (λ p. path_bytes p
         ≡ resolved_bytes_of (join_of root.entry.bytes.now request.entry.bytes.now)) }
+    ensures succeeds { (Escapes (values request.entry.bytes.now) → ⊥)
+        → resolved_bytes_of (join_of root.entry.bytes.now request.entry.bytes.now) ≡ []
+        → IsOk result }
     ensures within { IfOk result (λ p. IsPrefixOf (values (resolved_bytes_of root.entry.bytes.now))
         (values (path_bytes p))) }
 {

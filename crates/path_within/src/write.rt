@@ -15,10 +15,9 @@ use crate::backward::{
 };
 use crate::names_only::is_names_only;
 use std::alloc::{AllocError, Global};
-use unix_bytes::buffers::write_at;
 use unix_bytes::bytes::UnixString;
-use unix_path::filler::after_filler;
-use unix_path::path_end::needs_no_separator;
+use unix_bytes::internal::write_at;
+use unix_path::internal::{after_filler, needs_no_separator};
 use unix_path::{Path, PathBuf};
 
 // The last names that remain of a path after it is resolved.

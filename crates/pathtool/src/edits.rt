@@ -15,7 +15,7 @@ use path_runs::edits::apply;
 use path_runs::{Answer, Edit};
 use std::alloc::{AllocError, Global};
 use unix_bytes::bytes::UnixStr;
-use unix_bytes::search::find_byte;
+use unix_bytes::internal::find_byte;
 use unix_path::Path;
 
 // Returns the edit with this name, such as `push:` or `pop`, and with the bytes `argument` if it

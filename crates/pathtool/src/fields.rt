@@ -7,7 +7,7 @@ ghost use Rattle.pathtool.specs.Answers.{lines_of};
 ghost use Rattle.pathtool.specs.Fields.{fields_of};
 ghost use Rattle.pathtool.specs.ExtraFields.{extra_fields, min_count};
 
-use unix_bytes::search::find_byte;
+use unix_bytes::internal::find_byte;
 use unix_path::Path;
 
 /// Splits bytes at the first byte that is `end`. Returns the bytes before that byte, and `Some` of

@@ -18,12 +18,13 @@
 //!   unchanged.
 #![tactic(auto)]
 
-pub mod buffers;
+mod buffers;
 pub mod bytes;
+pub mod internal;
 pub mod laws;
 pub mod lossy;
-pub mod order;
+mod order;
 mod printer;
-pub mod search;
+mod search;
 mod utf8;
 mod windows;

@@ -3,22 +3,13 @@ ghost use Rattle.std.specs.Prelude.{◌≡◌, ℕ, ◌+◌, ◌≤◌, ◌<◌,
 ghost use Rattle.unix_bytes.specs.Lossy.{replacement};
 ghost use Rattle.unix_bytes.specs.Printer.{Shows};
 
+use crate::buffers::write_at;
 use crate::utf8::ascii::{ascii_len_simd16, is_ascii_simd64};
 use crate::utf8::fronts::{may_begin, non_ascii_front};
 use std::simd::Simd;
 
 // The size of the buffers for lossy forms, in bytes.
 pub(crate) const BUFFER_LEN: usize = 256;
-
-// Copies `bytes` into `out` at index `at`. `out` must have at least as many bytes from `at` on.
-#[inline(always)]
-fn copy_at(out: &mut [u8], at: usize, bytes: &[u8])
-    requires { at + length bytes.now ≤ length out.old }
-    ensures len { length out.new ≡ length out.old }
-    ensures bytes { take (at + length bytes.now) out.new ≡ take at out.old ++ bytes.now }
-{
-    out[at..at + bytes.len()].copy_from_slice(bytes);
-}
 
 // Copies the first N bytes of `source` into `out` at index `at`, with one load and one store.
 // `source` must have at least N bytes, and so must `out` from `at` on.
@@ -37,13 +28,14 @@ fn copy_first<const N: usize>(out: &mut [u8], at: usize, source: &[u8])
 // Writes U+FFFD into `out` at index `at`. Returns the index just after the character, which has
 // three bytes.
 #[inline(always)]
+#[tactic(auto, using(crate::proofs::lemmas::prefixes::PrinterLemmas::take_written))]
 fn show_replacement(out: &mut [u8], at: usize) -> usize
     requires { at + 3 ≤ length out.old }
     ensures len { length out.new ≡ length out.old }
     ensures end { result ≡ at + 3 }
     ensures bytes { take result out.new ≡ take at out.old ++ replacement }
 {
-    copy_at(out, at, "\u{FFFD}".as_bytes());
+    write_at(out, at, "\u{FFFD}".as_bytes());
     at + 3
 }
 
@@ -125,7 +117,7 @@ fn show_last_front(source: &[u8], out: &mut [u8], at: usize) -> (usize, usize)
 {
     match non_ascii_front(source) {
         Ok(size) => {
-            copy_at(out, at, &source[..size]);
+            write_at(out, at, &source[..size]);
             (size, at + size)
         }
         Err(size) => (size, show_replacement(out, at)),

@@ -7,7 +7,7 @@ ghost use Rattle.unix_path.specs.Order.{values_cmp};
 use crate::pair::{Comparison, Difference, Pair, rest_len};
 use crate::suffixes::shared_last_len;
 use std::cmp::Ordering;
-use unix_bytes::search::common_len;
+use unix_bytes::internal::common_len;
 
 // Returns the order of two paths by their components.
 #[tactic(auto, using(crate::proofs::lemmas::order::AfterCutLemmas::comparisons))]

@@ -11,5 +11,5 @@ mod walk;
 pub use component::Component;
 pub use iter::Iter;
 pub use parents::Ancestors;
-pub(crate) use steps::{split_last_root_or_name, trimmed_len};
+pub(crate) use steps::split_last_root_or_name;
 pub use walk::Components;

@@ -2,9 +2,10 @@
 //!
 //! This module is for code that works on the single bytes of a path. Other code uses `Path` and
 //! `Components`.
-ghost use Rattle.std.specs.Prelude.{◌≡◌, ℕ, ◌+◌, ◌<◌, ◌≤◌, true, false, length, drop, IsTrue};
+ghost use Rattle.std.specs.Prelude.{◌≡◌, ℕ, ◌+◌, ◌-◌, ◌<◌, ◌≤◌, true, false, length, drop, take};
+ghost use Rattle.std.specs.Prelude.{IsTrue};
 ghost use Rattle.unix_path.specs.CommonDir.{inner_values};
-ghost use Rattle.unix_path.specs.Parts.{inner_parts};
+ghost use Rattle.unix_path.specs.Parts.{inner_parts, parts};
 ghost use Rattle.unix_path.specs.Slices.{IsTail};
 ghost use Rattle.unix_path.specs.Scan.{is_filler, is_trailing};
 ghost use Rattle.unix_path.specs.Steps.{AfterFiller};
@@ -165,4 +166,63 @@ pub fn after_filler(bytes: &[u8]) -> &[u8]
     ensures tail { IsTail result bytes.entry }
 {
     &bytes[long_filler_len(bytes)..]
+}
+
+// Returns true if each of the 16 bytes that start at `at` is a slash, or a `.` directly after a
+// slash. `at` must not be 0.
+#[inline]
+fn is_trailing_simd16(path: &[u8], at: usize) -> bool
+    requires after { 0 < at }
+    requires in_range { at + 16 ≤ length path.now }
+    ensures { IsTrue result → ((k : ℕ) → at ≤ k → k < at + 16 → is_trailing path.now k ≡ true) }
+{
+    let slash = u8x16::splat(b'/');
+    let here = u8x16::from_slice(&path[at..]);
+    let before = u8x16::from_slice(&path[at - 1..]);
+    let is_no_dot = here.simd_ne(u8x16::splat(b'.'));
+    let other = here.simd_ne(slash) & (is_no_dot | before.simd_ne(slash));
+    other.to_bitmask() == 0
+}
+
+// Drops blocks of 16 bytes from the end of the first `len` bytes, as long as the last block is all
+// filler and begins after index `min` and after the first byte. Returns how many bytes remain.
+#[inline(never)]
+#[tactic(auto, using(crate::proofs::lemmas::filler::TrailingBlockLemmas::parts_trailing_block))]
+fn trimmed_blocks_len(path: &[u8], min: usize, len: usize) -> usize
+    requires in_order { min ≤ len }
+    requires in_range { len ≤ length path.now }
+    ensures forward { min ≤ result }
+    ensures in_range { result ≤ len }
+    ensures same { parts (take result path.now) ≡ parts (take len path.now) }
+{
+    let mut end = len;
+    while end - min > 16 && is_trailing_simd16(path, end - 16) {
+        end -= 16;
+    }
+    end
+}
+
+/// Returns the index where the last component among the first `len` bytes ends, or 0 if there is
+/// none; `min` if that index is less than `min`, which is at most `len`.
+///
+/// Does not read the bytes before index `min - 1`. If at least eight bytes of filler follow the
+/// component, which is rare, reads blocks of 16 bytes. For `/a/./` it is 2 with 0 as `min`, and 3
+/// with 3.
+#[inline]
+pub fn trimmed_len(path: &[u8], min: usize, len: usize) -> usize
+    requires in_order { min ≤ len }
+    requires in_range { len ≤ length path.now }
+    ensures forward { min ≤ result }
+    ensures in_range { result ≤ len }
+    ensures same { parts (take result path.now) ≡ parts (take len path.now) }
+    ensures ends { min < result → is_trailing path.now (result - 1) ≡ false }
+{
+    let mut end = len;
+    while end > min && is_trailing(path, end - 1) {
+        end -= 1;
+        if len - end == 8 {
+            end = trimmed_blocks_len(path, min, end);
+        }
+    }
+    end
 }

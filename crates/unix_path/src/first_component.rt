@@ -7,7 +7,7 @@ ghost use Rattle.unix_path.specs.Parts.{inner_parts, parts, Normal, ParentDir};
 ghost use Rattle.unix_path.specs.Scan.{starts_with_parent_dir, is_filler};
 
 use crate::filler::filler_len;
-use unix_bytes::search::find_byte;
+use unix_bytes::internal::find_byte;
 
 /// Returns true if and only if the first piece is `..`.
 ///

@@ -2,7 +2,7 @@
 ghost use Rattle.std.specs.Prelude.{◌≡◌};
 ghost use Rattle.unix_path.specs.Names.{name_prefix};
 
-use unix_bytes::search::find_byte;
+use unix_bytes::internal::find_byte;
 
 // Returns a file name up to its first dot, ignoring a leading dot, or the whole name if it has no
 // other dot.

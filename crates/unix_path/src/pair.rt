@@ -16,7 +16,7 @@ ghost use Rattle.unix_path.specs.Steps.{SharesPrefix};
 use crate::filler::{after_filler, is_filler};
 use crate::first_component::starts_with_parent_dir;
 use std::cmp::Ordering;
-use unix_bytes::search::{common_len, common_len_expect_short};
+use unix_bytes::internal::{common_len, common_len_expect_short};
 
 // How the first of two paths relates to the second.
 #[derive(Clone, Copy)]

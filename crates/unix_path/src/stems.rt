@@ -4,7 +4,7 @@ ghost use Rattle.unix_path.specs.Edits.{dot_before, stem_end_of};
 ghost use Rattle.unix_path.specs.Extensions.{has_slash, name_end_of};
 ghost use Rattle.unix_path.specs.Scan.{separator_bytes};
 
-use unix_bytes::search::after_last_of_two;
+use unix_bytes::internal::after_last_of_two;
 
 /// Returns the index where the stem of the last name ends. The bytes must end in that name. Unless
 /// `known` is 0, the first `known` bytes must also end in a name, and this name must have no

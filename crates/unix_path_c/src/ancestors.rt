@@ -1,6 +1,6 @@
 //! The ancestors of a path, one at a time: the path, its parent, and so on. The caller keeps the
 //! length of the next ancestor.
-ghost use Rattle.std.specs.Prelude.{◌≡◌, ◌↔◌, ◌≤◌, [], ◌∷◌, length, IsFalse, IsTrue};
+ghost use Rattle.std.specs.Prelude.{◌≡◌, ◌↔◌, ◌≤◌, ◌-◌, ◌^◌, [], ◌∷◌, length, IsFalse, IsTrue};
 ghost use Rattle.unix_path_c.specs.Ancestors.{remaining_ancestors};
 ghost use Rattle.unix_path_c.specs.Spans.{span_bytes, span_end};
 
@@ -30,6 +30,8 @@ pub extern "C" fn unix_path_next_ancestor(
     ensures ancestor_unchanged { IsFalse result → ancestor.new ≡ ancestor.old }
     ensures ancestors { IsTrue result → remaining_ancestors path.now next.old
         ≡ span_bytes path.now ancestor.new ∷ remaining_ancestors path.now next.new }
+    ensures last { IsTrue result → remaining_ancestors path.now next.new ≡ []
+        → next.new ≡ 2 ^ 64 - 1 }
     ensures start { IsTrue result → ancestor.new.start ≡ 0 }
     ensures inside { IsTrue result → span_end ancestor.new ≤ length path.now }
 {

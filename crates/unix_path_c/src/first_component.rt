@@ -4,8 +4,9 @@
 ghost use Rattle.std.specs.Prelude.{◌<◌, length, IfSome};
 ghost use Rattle.unix_path_c.specs.Steps.{StartsWithPart};
 
-use unix_path::filler::{is_filler, is_trailing};
-use unix_path::first_component::{name_step, parent_dir_step, starts_with_parent_dir};
+use unix_path::internal::{
+    is_filler, is_trailing, name_step, parent_dir_step, starts_with_parent_dir,
+};
 
 // The `kind` of the component `..`.
 pub(crate) const PARENT_DIR: u32 = 2;

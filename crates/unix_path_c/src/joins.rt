@@ -5,17 +5,14 @@ ghost use Rattle.unix_path.specs.Extensions.{added_extension_of, has_slash};
 ghost use Rattle.unix_path.specs.Joins.{join_of};
 ghost use Rattle.unix_path.specs.Scan.{separator_bytes};
 ghost use Rattle.unix_path_c.specs.Layout.{layout_bytes};
-ghost use Rattle.unix_path_c.specs.ErrorCodes.{IsLength, separator, too_long};
+ghost use Rattle.unix_path_c.specs.ErrorCodes.{IsLength};
 ghost use Rattle.path_runs.specs.Buffer.{buffer_after};
 
+use crate::error_codes::{SEPARATOR, TOO_LONG};
 use crate::output::{len_or_too_long, separator_len, write_separator};
-use unix_bytes::buffers::write_at;
+use unix_bytes::internal::write_at;
 use unix_path::Path;
-use unix_path::path_end::needs_no_separator;
-use unix_path::stems::{dot_before, has_slash};
-
-// The error code if an extension has a slash.
-const SEPARATOR: usize = usize::MAX - 6;
+use unix_path::internal::{dot_before, has_slash, needs_no_separator};
 
 // The bytes of a result: a beginning, then the separator, one byte, if there is one, and then an
 // end.
@@ -178,10 +175,10 @@ pub extern "C" fn unix_path_with_file_name(path: &[u8], name: &[u8], out: &mut [
 #[tactic(auto, using(crate::proofs::lemmas::buffers::BoundLemmas::bounds))]
 #[unsafe(no_mangle)]
 pub extern "C" fn unix_path_with_extension(path: &[u8], extension: &[u8], out: &mut [u8]) -> usize
-    ensures answers { IsLength result ⊎ ((result ≡ separator) ⊎ (result ≡ too_long)) }
-    ensures separator { (result ≡ separator) ↔ (has_slash extension.now ≡ true) }
-    ensures too_long { result ≡ too_long
-        → too_long ≤ length (with_extension_of path.now extension.now) }
+    ensures answers { IsLength result ⊎ ((result ≡ SEPARATOR) ⊎ (result ≡ TOO_LONG)) }
+    ensures separator { (result ≡ SEPARATOR) ↔ (has_slash extension.now ≡ true) }
+    ensures too_long { result ≡ TOO_LONG
+        → TOO_LONG ≤ length (with_extension_of path.now extension.now) }
     ensures length { IsLength result → result ≡ length (with_extension_of path.now extension.now) }
     ensures len_bound { IsLength result → result ≤ length path.now + 1 + length extension.now }
     ensures out { has_slash extension.now ≡ false
@@ -212,10 +209,10 @@ pub extern "C" fn unix_path_with_added_extension(
     extension: &[u8],
     out: &mut [u8],
 ) -> usize
-    ensures answers { IsLength result ⊎ ((result ≡ separator) ⊎ (result ≡ too_long)) }
-    ensures separator { (result ≡ separator) ↔ (has_slash extension.now ≡ true) }
-    ensures too_long { result ≡ too_long
-        → too_long ≤ length (added_extension_of path.now extension.now) }
+    ensures answers { IsLength result ⊎ ((result ≡ SEPARATOR) ⊎ (result ≡ TOO_LONG)) }
+    ensures separator { (result ≡ SEPARATOR) ↔ (has_slash extension.now ≡ true) }
+    ensures too_long { result ≡ TOO_LONG
+        → TOO_LONG ≤ length (added_extension_of path.now extension.now) }
     ensures length { IsLength result → result ≡ length (added_extension_of path.now extension.now) }
     ensures len_bound { IsLength result → result ≤ length path.now + 1 + length extension.now }
     ensures out { has_slash extension.now ≡ false

@@ -5,18 +5,13 @@ ghost use Rattle.path_runs.specs.Buffer.{buffer_after};
 ghost use Rattle.path_runs.specs.Spelling.{spelling_of};
 ghost use Rattle.path_keys.specs.Keys.{key_of, IsKey};
 ghost use Rattle.path_keys.specs.Ranges.{IsRangeEnd};
-ghost use Rattle.unix_path_c.specs.ErrorCodes.{IsLength, no_end, not_a_key, too_long};
+ghost use Rattle.unix_path_c.specs.ErrorCodes.{IsLength};
 
+use crate::error_codes::{NO_END, NOT_A_KEY, TOO_LONG};
 use crate::output::len_or_too_long;
 use path_keys::{is_key, write_key, write_path_of};
-use unix_bytes::buffers::write_at;
+use unix_bytes::internal::write_at;
 use unix_path::Path;
-
-// The error code if the bytes are the key of no path.
-const NOT_A_KEY: usize = usize::MAX - 4;
-
-// The error code if the range of a key has no end.
-const NO_END: usize = usize::MAX - 5;
 
 /// Writes the key of a path to `out` if it fits, and returns the key's length.
 ///
@@ -47,16 +42,16 @@ pub extern "C" fn unix_path_key(path: &[u8], out: &mut [u8]) -> usize
 /// The path of 00 02 61 00 62 00 is `./a/b`, of 5 bytes. 61, 00 04 and 61 00 00 01 are not keys.
 #[unsafe(no_mangle)]
 pub extern "C" fn unix_path_from_key(key: &[u8], out: &mut [u8]) -> usize
-    ensures answers { IsLength result ⊎ ((result ≡ not_a_key) ⊎ (result ≡ too_long)) }
-    ensures not_a_key { (result ≡ not_a_key) ↔ (IsKey key.now → ⊥) }
+    ensures answers { IsLength result ⊎ ((result ≡ NOT_A_KEY) ⊎ (result ≡ TOO_LONG)) }
+    ensures not_a_key { (result ≡ NOT_A_KEY) ↔ (IsKey key.now → ⊥) }
     ensures too_long { (s : List ℕ) → key_of (values s) ≡ key.now
-        → result ≡ too_long → too_long ≤ length (spelling_of (values s)) }
+        → result ≡ TOO_LONG → TOO_LONG ≤ length (spelling_of (values s)) }
     ensures length { (s : List ℕ) → key_of (values s) ≡ key.now
         → IsLength result → result ≡ length (spelling_of (values s)) }
     ensures out { (s : List ℕ) → key_of (values s) ≡ key.now
         → out.new ≡ buffer_after (spelling_of (values s)) out.old }
     ensures len_bound { IsLength result → 2 * result ≤ 3 * length key.now }
-    ensures not_a_key_unchanged { result ≡ not_a_key → out.new ≡ out.old }
+    ensures not_a_key_unchanged { result ≡ NOT_A_KEY → out.new ≡ out.old }
 {
     match write_path_of(key, out) {
         Some(len) => len_or_too_long(len),
@@ -98,14 +93,14 @@ fn write_end(out: &mut [u8], key: &[u8]) -> usize
 /// For the key of `a`, 61 00, the end is 61 01, of 2 bytes.
 #[unsafe(no_mangle)]
 pub extern "C" fn unix_path_key_range_end(key: &[u8], out: &mut [u8]) -> usize
-    ensures answers { IsLength result ⊎ ((result ≡ no_end) ⊎ (result ≡ not_a_key)) }
-    ensures no_end { (result ≡ no_end) ↔ (key.now ≡ []) }
-    ensures not_a_key { (result ≡ not_a_key) ↔ (IsKey key.now → ⊥) }
+    ensures answers { IsLength result ⊎ ((result ≡ NO_END) ⊎ (result ≡ NOT_A_KEY)) }
+    ensures no_end { (result ≡ NO_END) ↔ (key.now ≡ []) }
+    ensures not_a_key { (result ≡ NOT_A_KEY) ↔ (IsKey key.now → ⊥) }
     ensures end { IsLength result → (end : List ℕ) × IsRangeEnd key.now (Some end)
         × (length end ≡ result) × (out.new ≡ buffer_after end out.old) }
     ensures length { IsLength result → result ≡ length key.now }
-    ensures no_end_unchanged { result ≡ no_end → out.new ≡ out.old }
-    ensures not_a_key_unchanged { result ≡ not_a_key → out.new ≡ out.old }
+    ensures no_end_unchanged { result ≡ NO_END → out.new ≡ out.old }
+    ensures not_a_key_unchanged { result ≡ NOT_A_KEY → out.new ≡ out.old }
 {
     if key.is_empty() {
         return NO_END;

@@ -4,7 +4,7 @@ ghost use Rattle.std.specs.Prelude.{◌≡◌, ◌<◌, ◌==◌, false, length,
 ghost use Rattle.unix_path.specs.Parts.{dot, slash};
 ghost use Rattle.unix_path_c.specs.Steps.{EndsInName};
 
-use unix_bytes::search::after_last;
+use unix_bytes::internal::after_last;
 
 // Returns true if the byte is neither a slash nor a dot.
 #[inline]

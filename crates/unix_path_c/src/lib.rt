@@ -19,6 +19,7 @@ mod callers;
 mod canonical;
 mod chunks;
 mod entries;
+mod error_codes;
 mod first_component;
 mod joins;
 mod keys;

@@ -2,10 +2,11 @@
 ghost use Rattle.std.specs.Prelude.{◌≡◌, ◌↔◌, ◌⊎◌, ◌≤◌, ◌*◌, length};
 ghost use Rattle.unix_bytes.specs.Chunks.{replacement_for};
 ghost use Rattle.unix_bytes.specs.Lossy.{lossy_of};
-ghost use Rattle.unix_path_c.specs.ErrorCodes.{IsLength, too_long};
+ghost use Rattle.unix_path_c.specs.ErrorCodes.{IsLength};
 ghost use Rattle.unix_path_c.specs.SaturatedSize.{saturated_size};
 ghost use Rattle.path_runs.specs.Buffer.{buffer_after};
 
+use crate::error_codes::TOO_LONG;
 use crate::output::{len_or_too_long, write_both};
 use unix_bytes::lossy::Utf8Lossy;
 
@@ -62,12 +63,12 @@ fn write_lossy(path: &[u8], out: &mut [u8])
 #[tactic(auto, using(crate::proofs::lemmas::buffers::BoundLemmas::bounds))]
 #[unsafe(no_mangle)]
 pub extern "C" fn unix_path_to_string_lossy(path: &[u8], out: &mut [u8]) -> usize
-    ensures answers { IsLength result ⊎ (result ≡ too_long) }
-    ensures too_long { (result ≡ too_long) ↔ (too_long ≤ length (lossy_of path.now)) }
+    ensures answers { IsLength result ⊎ (result ≡ TOO_LONG) }
+    ensures too_long { (result ≡ TOO_LONG) ↔ (TOO_LONG ≤ length (lossy_of path.now)) }
     ensures length { IsLength result → result ≡ length (lossy_of path.now) }
     ensures len_bound { IsLength result → result ≤ 3 * length path.now }
     ensures out { out.new ≡ buffer_after (lossy_of path.now) out.old }
-    ensures too_long_unchanged { result ≡ too_long → out.new ≡ out.old }
+    ensures too_long_unchanged { result ≡ TOO_LONG → out.new ≡ out.old }
 {
     let len = lossy_len(path);
     if len <= out.len() {

@@ -4,11 +4,8 @@ ghost use Rattle.unix_path.specs.Scan.{separator_bytes};
 ghost use Rattle.path_runs.specs.Overlay.{overlay};
 ghost use Rattle.unix_path_c.specs.SaturatedSize.{buffer_size};
 
-use unix_bytes::buffers::write_at;
-
-// The error code for a result that is longer than any buffer. It is one more than the greatest
-// length of a buffer.
-const TOO_LONG: usize = 1 << 63;
+use crate::error_codes::TOO_LONG;
+use unix_bytes::internal::write_at;
 
 // Returns the length, or `TOO_LONG` if the length is greater than that of any buffer.
 #[inline]

@@ -5,14 +5,12 @@ ghost use Rattle.unix_path.specs.Parts.{values};
 ghost use Rattle.path_runs.specs.Buffer.{buffer_after};
 ghost use Rattle.path_runs.specs.Spelling.{spelling_of};
 ghost use Rattle.path_within.specs.RelativePaths.{relative_path_of};
-ghost use Rattle.unix_path_c.specs.ErrorCodes.{IsLength, no_relative_path, too_long};
+ghost use Rattle.unix_path_c.specs.ErrorCodes.{IsLength};
 
+use crate::error_codes::{NO_RELATIVE_PATH, TOO_LONG};
 use crate::output::len_or_too_long;
 use path_within::relative::write_relative_path;
 use unix_path::Path;
-
-// The error code if there is no relative path.
-const NO_RELATIVE_PATH: usize = usize::MAX - 7;
 
 /// Writes the relative path from one path to another to `out` if it fits, and returns its length.
 ///
@@ -32,20 +30,20 @@ const NO_RELATIVE_PATH: usize = usize::MAX - 7;
 /// From `/a/b/c` to `/a/d` it is `../../d`; from `../x` to `y` there is none.
 #[unsafe(no_mangle)]
 pub extern "C" fn unix_path_relative_path(from: &[u8], to: &[u8], out: &mut [u8]) -> usize
-    ensures answers { IsLength result ⊎ ((result ≡ no_relative_path) ⊎ (result ≡ too_long)) }
-    ensures no_relative_path { (result ≡ no_relative_path)
+    ensures answers { IsLength result ⊎ ((result ≡ NO_RELATIVE_PATH) ⊎ (result ≡ TOO_LONG)) }
+    ensures no_relative_path { (result ≡ NO_RELATIVE_PATH)
         ↔ (relative_path_of (values from.now) (values to.now) ≡ None) }
-    ensures too_long { result ≡ too_long
+    ensures too_long { result ≡ TOO_LONG
         → IfSome (relative_path_of (values from.now) (values to.now))
-        (λ steps. too_long ≤ length (spelling_of steps)) }
+        (λ steps. TOO_LONG ≤ length (spelling_of steps)) }
     ensures length { IsLength result → Some result ≡ option_map
         (λ steps. length (spelling_of steps)) (relative_path_of (values from.now) (values to.now)) }
     ensures len_bound { IsLength result → 2 * result ≤ 3 * (length from.now + 1)
         + 2 * length to.now }
     ensures out { IsLength result → IfSome (relative_path_of (values from.now) (values to.now))
         (λ steps. out.new ≡ buffer_after (spelling_of steps) out.old) }
-    ensures no_relative_path_unchanged { result ≡ no_relative_path → out.new ≡ out.old }
-    ensures too_long_unchanged { result ≡ too_long → out.new ≡ out.old }
+    ensures no_relative_path_unchanged { result ≡ NO_RELATIVE_PATH → out.new ≡ out.old }
+    ensures too_long_unchanged { result ≡ TOO_LONG → out.new ≡ out.old }
 {
     match write_relative_path(Path { bytes: from }, Path { bytes: to }, out) {
         Some(len) => len_or_too_long(len),

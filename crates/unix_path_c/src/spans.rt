@@ -11,7 +11,7 @@ ghost use Rattle.unix_path.specs.Prefixes.{IsPrefixOf, stripped_of};
 ghost use Rattle.unix_path_c.specs.Spans.{span_end, span_bytes, name_start_of, last_end_of};
 
 use unix_path::Path;
-use unix_path::stems::stem_end;
+use unix_path::internal::stem_end;
 
 /// A run of bytes in a path: `length` bytes from index `start` on.
 ///

@@ -7,21 +7,16 @@ ghost use Rattle.path_within.specs.Resolved.{resolved_bytes_of};
 ghost use Rattle.path_within.specs.Below.{below_of, has_nul, names_below, IsBelow};
 ghost use Rattle.path_within.specs.Escapes.{Escapes, has_root_or_parent_dir};
 ghost use Rattle.path_within.specs.Requests.{request_names};
-ghost use Rattle.unix_path_c.specs.ErrorCodes.{IsLength, escapes, nul_in_request, too_long};
+ghost use Rattle.unix_path_c.specs.ErrorCodes.{IsLength};
 ghost use Rattle.path_runs.specs.Buffer.{buffer_after};
 
+use crate::error_codes::{ESCAPES, NUL_IN_REQUEST, TOO_LONG};
 use crate::joins::unix_path_join;
 use crate::output::len_or_too_long;
 use path_within::resolved::write_resolved;
 use path_within::within::has_root_or_parent_dir;
 use path_within::{Request, RequestError, has_nul};
 use unix_path::Path;
-
-// The error code if a request escapes.
-const ESCAPES: usize = usize::MAX - 1;
-
-// The error code if a request has a NUL byte.
-const NUL_IN_REQUEST: usize = usize::MAX - 3;
 
 /// Writes the resolved path to `out` if it fits, and returns its length. Each `..` is dropped
 /// together with the name before it.
@@ -67,20 +62,20 @@ pub extern "C" fn unix_path_resolved(path: &[u8], out: &mut [u8]) -> usize
 #[unsafe(no_mangle)]
 pub extern "C" fn unix_path_join_verbatim(root: &[u8], request: &[u8], out: &mut [u8]) -> usize
     ensures answers { IsLength result
-        ⊎ ((result ≡ escapes) ⊎ ((result ≡ nul_in_request) ⊎ (result ≡ too_long))) }
-    ensures escapes { (result ≡ escapes) ↔ (has_root_or_parent_dir (values request.now) ≡ true) }
-    ensures nul { (result ≡ nul_in_request)
+        ⊎ ((result ≡ ESCAPES) ⊎ ((result ≡ NUL_IN_REQUEST) ⊎ (result ≡ TOO_LONG))) }
+    ensures escapes { (result ≡ ESCAPES) ↔ (has_root_or_parent_dir (values request.now) ≡ true) }
+    ensures nul { (result ≡ NUL_IN_REQUEST)
         ↔ ((has_root_or_parent_dir (values request.now) ≡ false) × (has_nul request.now ≡ true)) }
-    ensures too_long { result ≡ too_long → too_long ≤ length (join_of root.now request.now) }
+    ensures too_long { result ≡ TOO_LONG → TOO_LONG ≤ length (join_of root.now request.now) }
     ensures length { IsLength result → result ≡ length (join_of root.now request.now) }
     ensures len_bound { IsLength result → result ≤ length root.now + 1 + length request.now }
     ensures out { IsLength result
         → out.new ≡ buffer_after (join_of root.now request.now) out.old }
     ensures within { IsLength result
         → IsPrefixOf (values root.now) (values (join_of root.now request.now)) }
-    ensures escapes_unchanged { result ≡ escapes → out.new ≡ out.old }
-    ensures nul_unchanged { result ≡ nul_in_request → out.new ≡ out.old }
-    ensures too_long_unchanged { result ≡ too_long → out.new ≡ out.old }
+    ensures escapes_unchanged { result ≡ ESCAPES → out.new ≡ out.old }
+    ensures nul_unchanged { result ≡ NUL_IN_REQUEST → out.new ≡ out.old }
+    ensures too_long_unchanged { result ≡ TOO_LONG → out.new ≡ out.old }
 {
     if has_root_or_parent_dir(Path::from_bytes(request)) {
         return ESCAPES;
@@ -95,16 +90,16 @@ pub extern "C" fn unix_path_join_verbatim(root: &[u8], request: &[u8], out: &mut
 // the length of the join, or `TOO_LONG` if the length is greater than that of any buffer.
 #[inline]
 fn write_below(root: &[u8], request: Request<'_>, out: &mut [u8]) -> usize
-    ensures answers { IsLength result ⊎ (result ≡ too_long) }
-    ensures too_long { result ≡ too_long
-        → too_long ≤ length (below_of root.now (request_names request.entry)) }
+    ensures answers { IsLength result ⊎ (result ≡ TOO_LONG) }
+    ensures too_long { result ≡ TOO_LONG
+        → TOO_LONG ≤ length (below_of root.now (request_names request.entry)) }
     ensures length { IsLength result
         → result ≡ length (below_of root.now (request_names request.entry)) }
     ensures out { IsLength result
         → out.new ≡ buffer_after (below_of root.now (request_names request.entry)) out.old }
     ensures below { IsLength result
         → IsBelow root.now (below_of root.now (request_names request.entry)) }
-    ensures too_long_unchanged { result ≡ too_long → out.new ≡ out.old }
+    ensures too_long_unchanged { result ≡ TOO_LONG → out.new ≡ out.old }
 {
     len_or_too_long(request.write_below(Path::from_bytes(root), out))
 }
@@ -129,12 +124,12 @@ fn write_below(root: &[u8], request: Request<'_>, out: &mut [u8]) -> usize
 #[unsafe(no_mangle)]
 pub extern "C" fn unix_path_join_beneath(root: &[u8], request: &[u8], out: &mut [u8]) -> usize
     ensures answers { IsLength result
-        ⊎ ((result ≡ escapes) ⊎ ((result ≡ nul_in_request) ⊎ (result ≡ too_long))) }
-    ensures escapes { (result ≡ escapes) ↔ Escapes (values request.now) }
-    ensures nul { (result ≡ nul_in_request)
+        ⊎ ((result ≡ ESCAPES) ⊎ ((result ≡ NUL_IN_REQUEST) ⊎ (result ≡ TOO_LONG))) }
+    ensures escapes { (result ≡ ESCAPES) ↔ Escapes (values request.now) }
+    ensures nul { (result ≡ NUL_IN_REQUEST)
         ↔ ((Escapes (values request.now) → ⊥) × (has_nul request.now ≡ true)) }
-    ensures too_long { result ≡ too_long
-        → too_long ≤ length (below_of root.now (names_below (values request.now))) }
+    ensures too_long { result ≡ TOO_LONG
+        → TOO_LONG ≤ length (below_of root.now (names_below (values request.now))) }
     ensures length { IsLength result
         → result ≡ length (below_of root.now (names_below (values request.now))) }
     ensures len_bound { IsLength result → result ≤ length root.now + 1 + length request.now }
@@ -142,9 +137,9 @@ pub extern "C" fn unix_path_join_beneath(root: &[u8], request: &[u8], out: &mut 
         → out.new ≡ buffer_after (below_of root.now (names_below (values request.now))) out.old }
     ensures below { IsLength result
         → IsBelow root.now (below_of root.now (names_below (values request.now))) }
-    ensures escapes_unchanged { result ≡ escapes → out.new ≡ out.old }
-    ensures nul_unchanged { result ≡ nul_in_request → out.new ≡ out.old }
-    ensures too_long_unchanged { result ≡ too_long → out.new ≡ out.old }
+    ensures escapes_unchanged { result ≡ ESCAPES → out.new ≡ out.old }
+    ensures nul_unchanged { result ≡ NUL_IN_REQUEST → out.new ≡ out.old }
+    ensures too_long_unchanged { result ≡ TOO_LONG → out.new ≡ out.old }
 {
     match Request::beneath(Path::from_bytes(request)) {
         Ok(request) => write_below(root, request, out),
@@ -167,10 +162,10 @@ pub extern "C" fn unix_path_join_beneath(root: &[u8], request: &[u8], out: &mut 
 #[tactic(auto, using(crate::proofs::lemmas::buffers::BoundLemmas::bounds))]
 #[unsafe(no_mangle)]
 pub extern "C" fn unix_path_join_in_root(root: &[u8], request: &[u8], out: &mut [u8]) -> usize
-    ensures answers { IsLength result ⊎ ((result ≡ nul_in_request) ⊎ (result ≡ too_long)) }
-    ensures nul { (result ≡ nul_in_request) ↔ (has_nul request.now ≡ true) }
-    ensures too_long { result ≡ too_long
-        → too_long ≤ length (below_of root.now (names_below (values request.now))) }
+    ensures answers { IsLength result ⊎ ((result ≡ NUL_IN_REQUEST) ⊎ (result ≡ TOO_LONG)) }
+    ensures nul { (result ≡ NUL_IN_REQUEST) ↔ (has_nul request.now ≡ true) }
+    ensures too_long { result ≡ TOO_LONG
+        → TOO_LONG ≤ length (below_of root.now (names_below (values request.now))) }
     ensures length { IsLength result
         → result ≡ length (below_of root.now (names_below (values request.now))) }
     ensures len_bound { IsLength result → result ≤ length root.now + 1 + length request.now }
@@ -178,8 +173,8 @@ pub extern "C" fn unix_path_join_in_root(root: &[u8], request: &[u8], out: &mut 
         → out.new ≡ buffer_after (below_of root.now (names_below (values request.now))) out.old }
     ensures below { IsLength result
         → IsBelow root.now (below_of root.now (names_below (values request.now))) }
-    ensures nul_unchanged { result ≡ nul_in_request → out.new ≡ out.old }
-    ensures too_long_unchanged { result ≡ too_long → out.new ≡ out.old }
+    ensures nul_unchanged { result ≡ NUL_IN_REQUEST → out.new ≡ out.old }
+    ensures too_long_unchanged { result ≡ TOO_LONG → out.new ≡ out.old }
 {
     match Request::in_root(Path::from_bytes(request)) {
         Ok(request) => write_below(root, request, out),

@@ -15,7 +15,7 @@ use crate::selection::Selection;
 use crate::task::Task;
 use std::alloc::Global;
 use std::io::{Read, Write};
-use unix_bytes::search::after_last;
+use unix_bytes::internal::after_last;
 use unix_path::Path;
 
 // The input is read in blocks of at most so many bytes.

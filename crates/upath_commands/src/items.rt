@@ -15,8 +15,8 @@ use crate::options::{
 use crate::usage::UsageErrorKind;
 use std::alloc::{AllocError, Global};
 use unix_bytes::bytes::UnixStr;
+use unix_bytes::internal::find_byte;
 use unix_bytes::laws::tests_are_right;
-use unix_bytes::search::find_byte;
 use unix_path::Path;
 
 /// The kind of an item.

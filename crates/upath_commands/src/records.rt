@@ -4,7 +4,7 @@ ghost use Rattle.std.specs.Io.BufRead.{first_piece};
 ghost use Rattle.upath_commands.specs.Records.{paths_of, records_of};
 
 use std::alloc::{AllocError, Global};
-use unix_bytes::search::find_byte;
+use unix_bytes::internal::find_byte;
 use unix_path::Path;
 
 // Returns the bytes before the first byte `end`, or all bytes if there is none.

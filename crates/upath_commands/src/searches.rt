@@ -14,7 +14,7 @@ use crate::items::{Item, ItemKind};
 use crate::options::{Flag, Request, Verb, has_option, verb_by_name};
 use crate::usage::{UsageError, UsageErrorKind};
 use std::alloc::{AllocError, Global};
-use unix_bytes::search::find_byte;
+use unix_bytes::internal::find_byte;
 use unix_path::Path;
 
 /// Returns true if and only if the option is among the items.

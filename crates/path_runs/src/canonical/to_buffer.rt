@@ -9,7 +9,7 @@ ghost use Rattle.path_runs.specs.Spelling.{spelling_of};
 
 use crate::canonical::trimmed;
 use crate::gaps::{after_gap, first_gap};
-use unix_bytes::buffers::write_at;
+use unix_bytes::internal::write_at;
 use unix_path::Path;
 
 // Returns the length of a prefix that the path shares with its canonical form: the bytes before the

@@ -1,36 +1,17 @@
 //! The cache of a list of edits: what earlier edits found out about the path's leading bytes, so
 //! that later edits don't read these bytes again. In this module, filler is trailing filler:
 //! slashes and each `.` after a slash, except the path's first byte.
-ghost use Rattle.std.specs.Prelude.{◌≡◌, ℕ, ◌-◌, ◌<◌, ◌≤◌, List, length, take, Some, None, IfSome};
-ghost use Rattle.std.specs.Prelude.{false, IsTrue};
+ghost use Rattle.std.specs.Prelude.{◌≡◌, ℕ, ◌<◌, ◌≤◌, List, length, take, Some, None, IfSome};
+ghost use Rattle.std.specs.Prelude.{IsTrue};
 ghost use Rattle.unix_path.specs.Edits.{stem_end_of};
 ghost use Rattle.unix_path.specs.Extensions.{name_end_of};
 ghost use Rattle.unix_path.specs.Parents.{parent_of};
 ghost use Rattle.unix_path.specs.Parts.{parts};
-ghost use Rattle.unix_path.specs.Scan.{is_trailing, EndsInPart};
+ghost use Rattle.unix_path.specs.Scan.{EndsInPart};
 ghost use Rattle.path_runs.specs.ScanCache.{IsCacheOf, IsStack, CachesStem, CachesStems};
 
 use crate::edits::stems::Stems;
-use unix_path::filler::is_trailing;
-use unix_path::path_end::ends_in_name;
-use unix_path::stems::{has_slash, stem_end};
-
-// Returns the length of the path without its trailing filler, or `min` if `min` is greater.
-#[inline]
-#[tactic(auto, using(unix_path::proofs::lemmas::filler::TrimLemmas::parts_shorter))]
-fn trimmed_len(path: &[u8], min: usize) -> usize
-    requires { min ≤ length path.now }
-    ensures forward { min ≤ result }
-    ensures in_range { result ≤ length path.now }
-    ensures same { parts (take result path.now) ≡ parts path.now }
-    ensures ends { min < result → is_trailing path.now (result - 1) ≡ false }
-{
-    let mut end = path.len();
-    while min < end && is_trailing(path, end - 1) {
-        end -= 1;
-    }
-    end
-}
+use unix_path::internal::{ends_in_name, has_slash, is_trailing, stem_end, trimmed_len};
 
 // Returns true if the last byte of the path is filler.
 #[inline]
@@ -101,7 +82,7 @@ impl ScanCache {
         ensures same { parts (take result path.now) ≡ parts path.now }
         ensures ends { EndsInPart (take result path.now) }
     {
-        let read_to = trimmed_len(path, self.len);
+        let read_to = trimmed_len(path, self.len, path.len());
         let end = if read_to == self.len {
             self.end
         } else {

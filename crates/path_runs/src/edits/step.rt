@@ -1,6 +1,7 @@
 //! The single edits of a list of edits. They use and update the list's cache.
-ghost use Rattle.std.specs.Prelude.{◌≡◌, ◌↔◌, [], true, IfOk, OnOk, OnErr, IsOk, IsErrOf, is_some};
-ghost use Rattle.unix_path.specs.Buffers.{path_bytes};
+ghost use Rattle.std.specs.Prelude.{◌≡◌, ◌↔◌, ◌≤◌, [], false, true, length, IfOk, OnOk, OnErr};
+ghost use Rattle.std.specs.Prelude.{IsOk, IsErrOf, is_some};
+ghost use Rattle.unix_path.specs.Buffers.{capacity, path_bytes};
 ghost use Rattle.unix_path.specs.Edits.{popped_of, with_name_of, with_extension_of};
 ghost use Rattle.unix_path.specs.Extensions.{added_extension_of, has_slash};
 ghost use Rattle.unix_path.specs.Joins.{join_of};
@@ -12,7 +13,7 @@ ghost use Rattle.path_runs.specs.ScanCache.{IsCacheOf};
 use crate::edits::cache::ScanCache;
 use std::alloc::AllocError;
 use unix_path::bytes::UnixStr;
-use unix_path::stems::{dot_before, has_slash};
+use unix_path::internal::{dot_before, has_slash};
 use unix_path::{ExtensionError, Path, PathBuf};
 
 // Returns the bytes of the path.
@@ -37,6 +38,9 @@ pub(super) fn push(
     ensures ok { OnOk result
         (path_bytes path.new ≡ join_of (path_bytes path.old) other.entry.bytes.now) }
     ensures err { OnErr result (path_bytes path.new ≡ path_bytes path.old) }
+    ensures succeeds { length (join_of (path_bytes path.old) other.entry.bytes.now)
+        ≤ capacity path.old → IsOk result }
+    ensures capacity { capacity path.old ≤ capacity path.new }
 {
     if other.has_root() {
         cache.clear();
@@ -54,6 +58,7 @@ pub(super) fn pop(path: &mut PathBuf, cache: &mut ScanCache) -> bool
     ensures cache { IsCacheOf (path_bytes path.new) cache.new }
     ensures value { result ≡ is_some (parent_of (path_bytes path.old)) }
     ensures bytes { path_bytes path.new ≡ popped_of (path_bytes path.old) }
+    ensures capacity { capacity path.new ≡ capacity path.old }
 {
     if !cache.is_empty() {
         return pop_with_cache(path, cache);
@@ -73,6 +78,7 @@ fn pop_with_cache(path: &mut PathBuf, cache: &mut ScanCache) -> bool
     ensures cache { IsCacheOf (path_bytes path.new) cache.new }
     ensures value { result ≡ is_some (parent_of (path_bytes path.old)) }
     ensures bytes { path_bytes path.new ≡ popped_of (path_bytes path.old) }
+    ensures capacity { capacity path.new ≡ capacity path.old }
 {
     if cache.is_root_with_filler(bytes_of(path)) {
         return false;
@@ -95,6 +101,9 @@ pub(super) fn set_file_name(
     ensures ok { OnOk result
         (path_bytes path.new ≡ with_name_of (path_bytes path.old) name.entry.bytes.now) }
     ensures err { OnErr result (path_bytes path.new ≡ path_bytes path.old) }
+    ensures succeeds { length (with_name_of (path_bytes path.old) name.entry.bytes.now)
+        ≤ capacity path.old → IsOk result }
+    ensures capacity { capacity path.old ≤ capacity path.new }
 {
     if cache.is_nameless_with_filler(bytes_of(path)) {
         return push(path, cache, Path::new(name));
@@ -127,6 +136,10 @@ pub(super) fn set_extension(
     ensures ok { OnOk result
         (path_bytes path.new ≡ with_extension_of (path_bytes path.old) extension.entry.bytes.now) }
     ensures err { OnErr result (path_bytes path.new ≡ path_bytes path.old) }
+    ensures succeeds { has_slash extension.entry.bytes.now ≡ false
+        → length (with_extension_of (path_bytes path.old) extension.entry.bytes.now)
+        ≤ capacity path.old → IsOk result }
+    ensures capacity { capacity path.old ≤ capacity path.new }
     ensures succeeds_empty { extension.entry.bytes.now ≡ [] → IsOk result }
 {
     let new = extension.as_bytes();
@@ -158,6 +171,10 @@ pub(super) fn add_extension(
     ensures ok { OnOk result
         (path_bytes path.new ≡ added_extension_of (path_bytes path.old) extension.entry.bytes.now) }
     ensures err { OnErr result (path_bytes path.new ≡ path_bytes path.old) }
+    ensures succeeds { has_slash extension.entry.bytes.now ≡ false
+        → length (added_extension_of (path_bytes path.old) extension.entry.bytes.now)
+        ≤ capacity path.old → IsOk result }
+    ensures capacity { capacity path.old ≤ capacity path.new }
     ensures succeeds_empty { extension.entry.bytes.now ≡ [] → IsOk result }
 {
     let more = extension.as_bytes();

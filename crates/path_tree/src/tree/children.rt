@@ -10,14 +10,14 @@ ghost use Rattle.unix_path.specs.Prefixes.{IsPrefixOf};
 ghost use Rattle.path_keys.specs.Held.{key_bytes};
 ghost use Rattle.path_keys.specs.Ranges.{bytes_cmp, end_of};
 ghost use Rattle.path_tree.specs.Children.{borrowed_child, child_of, children_of, first_code_len};
-ghost use Rattle.path_tree.specs.Read.{is_own};
+ghost use Rattle.path_keys.specs.Read.{is_own};
 
 use super::PathTree;
 use crate::lookup_key::vec_of;
 use path_keys::PathKey;
 use std::alloc::AllocError;
 use std::ops::Bound;
-use unix_bytes::search::find_byte;
+use unix_bytes::internal::find_byte;
 
 // Returns the length of the first of these codes, which are the last bytes of a key.
 #[inline]

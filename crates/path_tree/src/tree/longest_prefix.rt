@@ -9,12 +9,12 @@ ghost use Rattle.unix_path.specs.Views.{value_of};
 ghost use Rattle.path_runs.specs.Rows.{value_at};
 ghost use Rattle.path_keys.specs.Keys.{code, key_of};
 ghost use Rattle.path_tree.specs.Nearest.{IsNearest};
-ghost use Rattle.path_tree.specs.Read.{is_own, key_values};
+ghost use Rattle.path_keys.specs.Read.{is_own, key_values};
 
 use super::PathTree;
 use crate::lookup_key::{LookupKey, STACK_LEN};
 use std::alloc::AllocError;
-use unix_path::filler::after_filler;
+use unix_path::internal::after_filler;
 use unix_path::{Component, Path};
 
 // Returns the length of the component's code in a key.

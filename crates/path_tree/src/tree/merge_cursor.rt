@@ -10,7 +10,7 @@ ghost use Rattle.path_tree.specs.Rows.{entries_from, entry_at, key_entries};
 
 use super::PathTree;
 use std::collections::btree_map::Iter;
-use unix_bytes::order::compare_bytes;
+use unix_bytes::internal::compare_bytes;
 
 // Finds increasing keys in a tree, in one of two ways.
 #[derive(Drop)]

@@ -5,3 +5,4 @@ pub mod ResolveLemmas
 pub mod EscapeLemmas
 pub mod BetweenLemmas
 pub mod RelativePathLemmas
+pub mod CancelLemmas

@@ -1,5 +1,7 @@
 //! Laws of paths that are resolved lexically.
+ghost use Rattle.path_within.specs.Resolved.{resolved_of};
 ghost use Rattle.path_within.specs.ResolvedLaws.{ResolvedIsNormal, ResolvedReadsBack};
+ghost use Rattle.path_within.specs.ResolvedLaws.{OnlyOneResolves, Resolves};
 ghost use Rattle.path_within.specs.ResolvedLaws.{ResolvedAgain, ResolvedCongruent, ResolvedOfJoin};
 ghost use Rattle.path_within.specs.ResolvedLaws.{ResolvedIsShort, ResolvedJoinIsShort};
 
@@ -14,6 +16,17 @@ pub fn resolved_is_normal()
     ensures normal { ResolvedIsNormal }
     ensures values { ResolvedReadsBack }
     ensures again { ResolvedAgain }
+{}
+
+/// Resolving follows four rules: a name and the `..` after it cancel, each `.` drops out, a `..`
+/// after a leading root drops out, and what is normal stays. No other function follows them.
+///
+/// Components are normal if none is `.`, no `..` follows a name or the root, and only the first may
+/// be a root. By the rules `a/./../../b` is `a/../../b`, that is `../b`, which is normal.
+#[tactic(auto, using(crate::proofs::lemmas::stack::CancelLemmas::rules_of_resolving))]
+pub fn resolved_by_rules()
+    ensures rules { Resolves resolved_of }
+    ensures only { OnlyOneResolves }
 {}
 
 /// Equal paths resolve to the same bytes.

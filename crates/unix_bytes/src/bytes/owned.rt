@@ -1,6 +1,7 @@
 //! Byte strings that own their bytes.
 ghost use Rattle.std.specs.Prelude.{◌≡◌, ◌+◌, ◌<◌, ◌≤◌, [], ◌++◌, length, take, max, min};
 ghost use Rattle.std.specs.Prelude.{IfOk, OnOk, OnErr, IsOk, Some, string_bytes, vec_capacity};
+ghost use Rattle.std.specs.String.{string_capacity};
 ghost use Rattle.std.specs.Cmp.{on_po, on_total};
 ghost use Rattle.std.specs.Cmp.Lexicographic.{slice_cmp, texts_po, texts_ties, nat_list_cmp_total};
 ghost use Rattle.std.specs.Ordering.{nat_cmp};
@@ -231,12 +232,13 @@ impl<'a> UnixStr<'a> {
     }
 }
 
-/// Makes a byte string of the vector's bytes, in the same memory. Corresponds to Rust's
-/// `OsStringExt::from_vec`.
+/// Makes a byte string of the vector's bytes, in the same memory and with the same capacity.
+/// Corresponds to Rust's `OsStringExt::from_vec`.
 ///
 /// A vector of the 3 bytes of `tmp` becomes the byte string `tmp`.
 impl From<Vec<u8>> for UnixString {
-    ghost from_gives = { λ bytes s. owned_bytes s ≡ bytes.items };
+    ghost from_gives = { λ bytes s.
+        (owned_bytes s ≡ bytes.items) × (owned_capacity s ≡ vec_capacity bytes) };
 
     #[inline]
     fn from(bytes: Vec<u8>) -> UnixString {
@@ -244,11 +246,12 @@ impl From<Vec<u8>> for UnixString {
     }
 }
 
-/// Makes a byte string of the string's bytes, in the same memory.
+/// Makes a byte string of the string's bytes, in the same memory and with the same capacity.
 ///
 /// The string `tmp` becomes the byte string `tmp`.
 impl From<String> for UnixString {
-    ghost from_gives = { λ text s. owned_bytes s ≡ string_bytes text };
+    ghost from_gives = { λ text s.
+        (owned_bytes s ≡ string_bytes text) × (owned_capacity s ≡ string_capacity text) };
 
     #[inline]
     fn from(text: String) -> UnixString {

@@ -1,5 +1,5 @@
 //! Tests of which bytes of a path are filler.
-use unix_path::filler::{after_filler, filler_len, is_filler, is_trailing};
+use unix_path::internal::{after_filler, filler_len, is_filler, is_trailing, trimmed_len};
 
 // Bytes; an `x` for each byte for which `is_filler` is true; an `x` for each byte for which
 // `is_trailing` is true; and the length of the filler at the beginning of the bytes if a slash
@@ -69,4 +69,13 @@ fn long_filler_is_passed(rt: HostRuntime) {
     for &(bytes, rest) in &LONG_FILLER {
         assert!(rt; after_filler(bytes) == rest);
     }
+}
+
+#[test]
+fn trailing_filler_is_trimmed(rt: HostRuntime) {
+    assert!(rt; trimmed_len(b"/a/./", 0, 5) == 2);
+    assert!(rt; trimmed_len(b"/a/./", 0, 2) == 2);
+    assert!(rt; trimmed_len(b"/a/./", 3, 5) == 3);
+    assert!(rt; trimmed_len(b"a/././././././././././././././.", 0, 31) == 1);
+    assert!(rt; trimmed_len(b"a/././././././././././././././.", 20, 31) == 20);
 }

@@ -1,6 +1,5 @@
 //! Tests of where the first component of a path ends.
-use unix_path::filler::is_filler;
-use unix_path::first_component::{name_step, parent_dir_step, starts_with_parent_dir};
+use unix_path::internal::{is_filler, name_step, parent_dir_step, starts_with_parent_dir};
 
 // Bytes, and whether their first component is `..`.
 static PARENTS: [(&[u8], bool); 12] = [

@@ -1,6 +1,6 @@
 //! Tests of where runs of names end.
 use super::answers::assert_each;
-use unix_path::name_run_ends::{
+use unix_path::internal::{
     has_no_name_run_end, may_end_name_run_simd16, name_run_end, name_run_end_expect_short,
     no_name_starts_at,
 };

@@ -1,5 +1,5 @@
 //! Tests of whether bytes end in a name.
-use unix_path::path_end::ends_in_name;
+use unix_path::internal::ends_in_name;
 
 // Bytes, and whether they end in a name.
 static NAMES: [(&[u8], bool); 23] = [

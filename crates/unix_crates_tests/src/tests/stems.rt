@@ -1,6 +1,5 @@
 //! Tests of where the stem of a name ends.
-use unix_path::path_end::ends_in_name;
-use unix_path::stems::stem_end;
+use unix_path::internal::{ends_in_name, stem_end};
 
 // Bytes that end in a name, the length of a prefix known to end in a stem, and the index at which
 // the stem of the name ends.

@@ -1,5 +1,6 @@
 //! Conversions between owned paths, bytes and strings.
 ghost use Rattle.std.specs.Prelude.{◌≡◌, [], IfOk, IsOk, string_bytes};
+ghost use Rattle.std.specs.String.{string_capacity};
 ghost use Rattle.unix_bytes.specs.Owned.{owned_bytes, owned_capacity};
 ghost use Rattle.unix_path.specs.Buffers.{path_bytes, capacity};
 
@@ -66,11 +67,13 @@ impl<'a> Path<'a> {
     }
 }
 
-/// Converts the bytes into a path, in the same memory. Like Rust's `From<OsString>` of `PathBuf`.
+/// Converts the bytes into a path, in the same memory and with the same capacity. Like Rust's
+/// `From<OsString>` of `PathBuf`.
 ///
 /// For `foo/` it is the path `foo/`.
 impl From<UnixString> for PathBuf {
-    ghost from_gives = { λ text p. path_bytes p ≡ owned_bytes text };
+    ghost from_gives = { λ text p.
+        (path_bytes p ≡ owned_bytes text) × (capacity p ≡ owned_capacity text) };
 
     #[inline]
     fn from(text: UnixString) -> PathBuf {
@@ -78,11 +81,13 @@ impl From<UnixString> for PathBuf {
     }
 }
 
-/// Converts the string into the path with the same bytes, in the same memory.
+/// Converts the string into the path with the same bytes, in the same memory and with the same
+/// capacity.
 ///
 /// For the string `/tmp/` it is the path `/tmp/`.
 impl From<String> for PathBuf {
-    ghost from_gives = { λ text p. path_bytes p ≡ string_bytes text };
+    ghost from_gives = { λ text p.
+        (path_bytes p ≡ string_bytes text) × (capacity p ≡ string_capacity text) };
 
     #[inline]
     fn from(text: String) -> PathBuf {
@@ -97,7 +102,8 @@ impl From<String> for PathBuf {
 ///
 /// For the path `foo/` it is `foo/`.
 impl From<PathBuf> for UnixString {
-    ghost from_gives = { λ p text. owned_bytes text ≡ path_bytes p };
+    ghost from_gives = { λ p text.
+        (owned_bytes text ≡ path_bytes p) × (owned_capacity text ≡ capacity p) };
 
     #[inline]
     fn from(path: PathBuf) -> UnixString {

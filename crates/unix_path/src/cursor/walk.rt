@@ -7,7 +7,8 @@ ghost use Rattle.unix_path.specs.Views.{value_of};
 ghost use Rattle.unix_path.specs.Slices.{LiesIn, memory_offset};
 
 use crate::cursor::Component;
-use crate::cursor::steps::{has_lead, split_first_component, split_last_component, trimmed_len};
+use crate::cursor::steps::{has_lead, split_first_component, split_last_component};
+use crate::filler::trimmed_len;
 use crate::path::Path;
 use std::fmt;
 use std::iter::FusedIterator;
@@ -75,7 +76,7 @@ impl<'a> Components<'a> {
         Components {
             source: path,
             start: 0,
-            end: trimmed_len(path, path.len()),
+            end: trimmed_len(path, 0, path.len()),
             has_lead: lead,
             lead_pending: lead,
         }

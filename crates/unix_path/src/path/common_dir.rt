@@ -3,7 +3,7 @@ ghost use Rattle.std.specs.Prelude.{◌≡◌, ◌≤◌, length};
 ghost use Rattle.unix_path.specs.CommonDir.{common_dir_of};
 
 use crate::path::Path;
-use unix_bytes::search::{after_last, common_len};
+use unix_bytes::internal::{after_last, common_len};
 
 impl<'a> Path<'a> {
     /// Returns the index just after the last `/` of the longest common prefix of both paths, or 0

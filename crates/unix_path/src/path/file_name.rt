@@ -4,8 +4,10 @@ ghost use Rattle.unix_path.specs.Parts.{values};
 ghost use Rattle.unix_path.specs.Names.{file_name_of, stem_of, extension_of, file_prefix_of};
 ghost use Rattle.unix_path.specs.Edits.{before_name_of, stem_end_of};
 ghost use Rattle.unix_path.specs.Extensions.{name_end_of};
+ghost use Rattle.unix_path.specs.Slices.{BeginsAt, LiesIn};
 
-use crate::cursor::{Component, Components, split_last_root_or_name, trimmed_len};
+use crate::cursor::{Component, Components, split_last_root_or_name};
+use crate::filler::trimmed_len;
 use crate::names::name_prefix;
 use crate::path::Path;
 use crate::path_end::ends_in_name;
@@ -107,6 +109,8 @@ impl<'a> Path<'a> {
     pub fn before_name(&self) -> Path<'a>
         ensures value { result.bytes.now ≡ before_name_of self.now.bytes.now }
         ensures begins { take (length result.bytes.now) self.now.bytes.now ≡ result.bytes.now }
+        ensures place { LiesIn result.bytes self.now.bytes }
+        ensures start { BeginsAt result.bytes self.now.bytes 0 }
     {
         let Some(end) = self.name_end() else {
             return *self;
@@ -144,7 +148,7 @@ impl<'a> Path<'a> {
         ensures value { result ≡ name_end_of self.now.bytes.now }
         ensures in_range { IfSome result (λ end. end ≤ length self.now.bytes.now) }
     {
-        let end = trimmed_len(self.bytes, self.bytes.len());
+        let end = trimmed_len(self.bytes, 0, self.bytes.len());
         if !ends_in_name(&self.bytes[..end]) {
             return None;
         }

@@ -6,8 +6,7 @@ ghost use Rattle.unix_path.specs.Parts.{values};
 ghost use Rattle.unix_path.specs.Rest.{rest};
 ghost use Rattle.unix_path.specs.Slices.{EndsAt, LiesIn};
 
-use crate::cursor::trimmed_len;
-use crate::filler::after_filler;
+use crate::filler::{after_filler, trimmed_len};
 use crate::pair::Pair;
 use crate::path::Path;
 use crate::suffixes::{ends_with_parts, shared_last_len};
@@ -61,7 +60,7 @@ impl<'a> Path<'a> {
             EndsAt rest_bytes.bytes self.now.bytes (length (rest self.now.bytes.now 0 0))) }
     {
         // Drops trailing filler first, so that the result ends where the last component does.
-        let path = &self.bytes[..trimmed_len(self.bytes, self.bytes.len())];
+        let path = &self.bytes[..trimmed_len(self.bytes, 0, self.bytes.len())];
         if base.bytes.is_empty() {
             return Ok(Path { bytes: path });
         }

@@ -3,12 +3,11 @@ use super::super::exhaust;
 use super::{debug_has, display_has, hash_same};
 use std::alloc::Global;
 use std::test::Fail;
-use unix_bytes::buffers::write_at;
 use unix_bytes::bytes::{LossyText, UnixStr, UnixString};
-use unix_bytes::lossy::{Utf8Lossy, utf8_char_width};
-use unix_bytes::search::{
-    after_last, after_last_of_two, common_len, common_len_expect_short, find_byte,
+use unix_bytes::internal::{
+    after_last, after_last_of_two, common_len, common_len_expect_short, find_byte, write_at,
 };
+use unix_bytes::lossy::{Utf8Lossy, utf8_char_width};
 
 fn is_view() -> bool {
     let foo = UnixStr::new("foo");

@@ -4,14 +4,11 @@ use super::{debug_has, display_has, hash_same, is_view};
 use std::cmp::Ordering;
 use std::test::Fail;
 use unix_path::bytes::UnixStr;
-use unix_path::filler::{after_filler, filler_len, is_filler, is_trailing};
-use unix_path::first_component::{name_step, parent_dir_step, starts_with_parent_dir};
-use unix_path::name_run_ends::{
-    has_no_name_run_end, may_end_name_run_simd16, name_run_end, name_run_end_expect_short,
-    no_name_starts_at,
+use unix_path::internal::{
+    after_filler, dot_before, ends_in_name, filler_len, has_no_name_run_end, has_slash, is_filler,
+    is_trailing, may_end_name_run_simd16, name_run_end, name_run_end_expect_short, name_step,
+    needs_no_separator, no_name_starts_at, parent_dir_step, starts_with_parent_dir, trimmed_len,
 };
-use unix_path::path_end::{ends_in_name, needs_no_separator};
-use unix_path::stems::{dot_before, has_slash};
 use unix_path::{Component, Display, Path, StripPrefixError, is_separator};
 
 fn is_made() -> bool {
@@ -93,6 +90,7 @@ fn component_is_viewed() -> bool {
 fn is_read_by_bytes() -> bool {
     is_filler(b"/a", 0)
         && is_trailing(b"a/", 1)
+        && trimmed_len(b"a/", 0, 2) == 1
         && filler_len(b"/./a") == 3
         && after_filler(b"/./a") == b"a".as_slice()
         && parent_dir_step(b".././a") == 5

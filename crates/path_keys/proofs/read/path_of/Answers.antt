@@ -5,7 +5,7 @@ use Rattle.path_keys.proofs.read.path_of.Goals as goal
 
 pub returns-clause-read_back : goal.returns-clause-read_back
 returns-clause-read_back c = λ s e.
-    c.from-2.ensures ∙ c.from.ensures ∙ read_back c.args.key.now _ s c.in_ok-text.ensures.read e
+    c.from-2.ensures.0 ∙ c.from.ensures.0 ∙ read_back c.args.key.now _ s c.in_ok-text.ensures.read e
 
 pub returns-in_default-clause-succeeds : goal.returns-in_default-clause-succeeds
 returns-in_default-clause-succeeds c = λ e.

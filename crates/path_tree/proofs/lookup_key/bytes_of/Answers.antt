@@ -1,5 +1,5 @@
-use Rattle.path_tree.proofs.lemmas.keys.ReadLemmas.{own-IsKey}
+use Rattle.path_keys.proofs.lemmas.reading.ReadLemmas.{own-IsKey}
 use Rattle.path_tree.proofs.lookup_key.bytes_of.Goals as goal
 
 pub returns-clause-own : goal.returns-clause-own
-returns-clause-own c = own-IsKey _ _ c.as_bytes.ensures c.args.key.now.is_key
+returns-clause-own c = own-IsKey _ _ c.as_bytes.ensures.bytes c.args.key.now.is_key

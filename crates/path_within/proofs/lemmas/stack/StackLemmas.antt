@@ -88,7 +88,7 @@ parent_dirs_before (ParentDir ∷ us) vs h k = parent_dirs_before us (ParentDir 
 parent_dirs_before (u ∷ us) vs h k = absurd h
 
 -- a stack's components, the lowest one first, and then names are normal
-stack_normal : (ks vs : List Value) → IsStack ks → AllNames vs → IsNormal (reverse_aux ks vs)
+pub stack_normal : (ks vs : List Value) → IsStack ks → AllNames vs → IsNormal (reverse_aux ks vs)
 stack_normal [] vs h k = names_normal vs k
 stack_normal (RootDir ∷ ks) vs h k = rw h k
 stack_normal (CurDir ∷ ks) vs h k = absurd h

@@ -26,6 +26,13 @@ returns-then-is_names_only-clause-within c =
     (stays (goal.at.returns-then-is_names_only-clause-within c).Else-is_refused)
     (returns-then-is_names_only-clause-bytes c)
 
+pub returns-in_err-join-clause-succeeds : goal.returns-in_err-join-clause-succeeds
+returns-in_err-join-clause-succeeds c =
+    let a = c.args.root.bytes.now in
+    let b = c.args.request.bytes.now in
+    let stay = stays (goal.at.returns-in_err-join-clause-succeeds c).Else-is_refused in
+    grind (arith, resolved-names_only_join, rootless-stays)
+
 pub names_of-names-requires : goal.names_of-names-requires
 names_of-names-requires c h =
     let stay = stays (goal.at.names_of-names-requires c).Else-is_refused in
@@ -38,6 +45,13 @@ returns-clause-bytes c =
     let a = c.args.root.bytes.now in
     let b = c.args.request.bytes.now in
     let stay = stays (goal.at.returns-clause-bytes c).Else-is_refused in
+    grind (arith, names_below-resolved, resolved_of-within)
+
+pub returns-in_err-to_path_buf-clause-succeeds : goal.returns-in_err-to_path_buf-clause-succeeds
+returns-in_err-to_path_buf-clause-succeeds c =
+    let a = c.args.root.bytes.now in
+    let b = c.args.request.bytes.now in
+    let stay = stays (goal.at.returns-in_err-to_path_buf-clause-succeeds c).Else-is_refused in
     grind (arith, names_below-resolved, resolved_of-within)
 
 pub returns-clause-within : goal.returns-clause-within

@@ -1,12 +1,12 @@
 -- Lossy forms, written one buffer at a time.
 use Rattle.std.proofs.Common.{◌≡◌, ℕ, ◌+◌, ◌<◌, ◌≤◌, List, [], ◌∷◌, ◌++◌, length, take, drop, refl}
 use Rattle.std.proofs.Common.{sym, ap, ◌∙◌, subst, arith, append_assoc}
-use Rattle.std.proofs.Common.{take-append-drop}
+use Rattle.std.proofs.Common.{take-append-drop, length-append}
 use Rattle.std.proofs.Common.{length-take-le, ⊎_elim, slice_index, slice_set}
 use Rattle.std.proofs.lemmas.List.{drop-drop, take-take, take_more_set}
 use Rattle.std.proofs.lemmas.Str.Ascii.{IsAscii-more, IsAscii-nil}
 use Rattle.std.specs.Str.{IsUtf8}
-use Rattle.std.proofs.Math.Seq.{take-append-add}
+use Rattle.std.proofs.Math.Seq.{take-append-add, take-append_seam}
 use Rattle.std.proofs.lemmas.Grind.{common_steps}
 use Rattle.std.proofs.lemmas.Simd.{take_more_put_chunk}
 use Rattle.unix_bytes.specs.Utf8.{is_sequence, IsText}
@@ -23,6 +23,19 @@ use Rattle.unix_bytes.proofs.lemmas.lossy.BrokenLemmas.{broken_len-none}
 use Rattle.unix_bytes.proofs.lemmas.lossy.BrokenLemmas.{broken_len_within}
 use Rattle.unix_bytes.proofs.lemmas.prefixes.TextPrefixLemmas.{ascii_is_text, sequence_within}
 use Rattle.unix_bytes.proofs.lemmas.lossy.LawLemmas.{replacement_is_sequence}
+
+-- if `new` is `old` with `bytes` written over it from index `at` on, the first bytes of `new`, up to
+-- the end of `bytes`, are the first `at` bytes of `old` and then `bytes`
+pub take_written : (at : ℕ) (bytes old new : List ℕ) → at + length bytes ≤ length old
+    → new ≡ (take at old ++ bytes) ++ drop (at + length bytes) old
+    → take (at + length bytes) new ≡ take at old ++ bytes
+take_written at bytes old new fits e =
+    let front = take at old ++ bytes in
+    let n = at + length bytes in
+    let len : length front ≡ n = length-append (take at old) bytes
+    ∙ ap (λ k. k + length bytes) (length-take-le at old (omega arith)) in
+    ap (take n) e ∙ ap (λ k. take k (front ++ drop n old)) (sym len)
+    ∙ take-append_seam front (drop n old)
 
 -- if the first n bytes of s are valid UTF-8, and `after` is `before` and then these n bytes, then
 -- `Shows s before n after` holds

@@ -1,6 +1,6 @@
 //! Tests of the order of byte strings.
 use unix_bytes::bytes::UnixStr;
-use unix_bytes::order::compare_bytes;
+use unix_bytes::internal::compare_bytes;
 
 // Byte strings, each greater than the one before it: by a byte among the first 16, by a later byte,
 // or only because it is longer.

@@ -1,5 +1,5 @@
 //! Tests of the indices of bytes, and of the lengths of common prefixes.
-use unix_bytes::search::{
+use unix_bytes::internal::{
     after_last, after_last_of_two, common_len, common_len_expect_short, find_byte,
 };
 

@@ -1,5 +1,6 @@
 use Rattle.std.proofs.Common.{◌≡◌, ◌∷◌, length, take, arith, true≢false}
 use Rattle.unix_path_c.specs.Ancestors.{remaining_ancestors}
+use Rattle.unix_path_c.proofs.lemmas.walks.AncestorLemmas.{parent_remains}
 use Rattle.unix_path_c.proofs.lemmas.walks.AncestorLemmas.{remaining_ancestors-last}
 use Rattle.unix_path_c.proofs.lemmas.walks.AncestorLemmas.{remaining_ancestors-parent}
 use Rattle.unix_path_c.proofs.ancestors.unix_path_next_ancestor.Goals as goal
@@ -19,6 +20,10 @@ returns-in-Some-clause-ancestors c = λ _. with_parent c
 pub returns-in-Some-clause-ended : goal.returns-in-Some-clause-ended
 returns-in-Some-clause-ended c =
     let step = with_parent c in (λ no. absurd (true≢false no), λ none. absurd (cc))
+
+pub returns-in-Some-clause-last : goal.returns-in-Some-clause-last
+returns-in-Some-clause-last c = λ _ none. absurd (parent_remains c.args.path.now
+    c.in-Some.parent.bytes.now c.args.next.now c.if-length-path.false c.in-Some.ensures.value none)
 
 -- if the first `next` bytes have no parent, they are the only remaining ancestor
 without_parent : (c : In-None) → remaining_ancestors c.args.path.now c.args.next.now

@@ -46,3 +46,15 @@ remaining_ancestors-parent path parent n l some =
     remaining_ancestors-in_range path n l ∙ ancestors_of-above s parent (sym some)
     ∙ ap (λ xs. s ∷ xs) (ap ancestors_of (sym begins)
     ∙ sym (remaining_ancestors-in_range path (length parent) (omega (arith, shorter, l))))
+
+-- if n is at most the path's length, an ancestor remains
+some_remains : (path : List ℕ) (n : ℕ) → n ≤ length path → remaining_ancestors path n ≡ [] → ⊥
+unfolding ancestors_of
+some_remains path n l none = let no = sym (remaining_ancestors-in_range path n l) ∙ none in cc
+
+-- if the first n bytes have a parent, an ancestor remains for the length of the parent
+pub parent_remains : (path parent : List ℕ) (n : ℕ) → n ≤ length path
+    → Some parent ≡ parent_of (take n path) → remaining_ancestors path (length parent) ≡ [] → ⊥
+parent_remains path parent n l some =
+    let stands = parent_inside (take n path) parent some in
+    some_remains path (length parent) (omega (arith, stands.inside, length-take-le n path l))

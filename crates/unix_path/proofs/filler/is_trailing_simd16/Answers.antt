@@ -1,6 +1,6 @@
 use Rattle.std.proofs.Common.{eqb-true}
 use Rattle.unix_path.proofs.lemmas.filler.TrailingBlockLemmas.{trailing_block}
-use Rattle.unix_path.proofs.cursor.steps.is_trailing_simd16.Goals as goal
+use Rattle.unix_path.proofs.filler.is_trailing_simd16.Goals as goal
 
 pub returns : goal.returns
 returns c = λ e.

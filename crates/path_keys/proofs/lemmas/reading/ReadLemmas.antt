@@ -18,7 +18,7 @@ use Rattle.path_keys.proofs.lemmas.reading.FitLemmas.{values-fit}
 use Rattle.path_keys.proofs.lemmas.values.KeyLemmas.{key_of-nil, key_of-cons}
 use Rattle.path_keys.proofs.lemmas.values.LoweredLemmas.{raised-no_zero, lowered-raised}
 use Rattle.path_keys.proofs.lemmas.values.OrderLemmas.{bytes_cmp-keys}
-use Rattle.path_tree.specs.Read.{is_own, key_values, values_from}
+use Rattle.path_keys.specs.Read.{is_own, key_values, values_from}
 
 -- if a and `name` are the first bytes of a name, and n has no slash, reading the raised bytes of n
 -- and an end mark after them yields the name of a, `name` and n, and then the components of `key`
@@ -102,6 +102,12 @@ bytes_cmp-represents key v h l other =
 pub own-IsKey : (key held : List ℕ) → key ≡ held → ∥ IsKey held ∥₁ → is_own key ≡ true
 own-IsKey key held same is = ap is_own same
     ∙ ∥∥₁_elim is (hlevel props) (λ h. subst (λ k. is_own k ≡ true) h.1 (own-key_of h.0))
+
+-- if some path has the key `held`, the canonical form of the components that `held` represents is
+-- such a path
+pub held_is_key : (held : List ℕ) → ∥ IsKey held ∥₁ → IsKey held
+held_is_key held is =
+    (spelling_of (key_values held), own-is held (own-IsKey held held refl is))
 
 -- if `key` is the key of a path s, it passes the test `is_own`
 pub own-of : (key s : List ℕ) → key ≡ key_of (values s) → is_own key ≡ true
