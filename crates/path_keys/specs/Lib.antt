@@ -2,6 +2,7 @@ pub mod Keys
 pub mod Held
 pub mod Ranges
 pub mod Codes
+pub mod KeyValues
 pub mod Errors
 pub mod Lasts
 pub mod NameBytes

@@ -1,4 +1,3 @@
-pub mod Read
 pub mod Rows
 pub mod LookupKey
 pub mod Hashed

@@ -1,5 +1,4 @@
--- Keys: what they represent, and keys that begin with a base's key.
-pub mod ReadLemmas
+-- Keys that begin with the key of a base.
 pub mod RowLemmas
 pub mod PassLemmas
 pub mod FilterLemmas
