@@ -17,6 +17,7 @@ OPTIONS = {it.name or it.letter: it for it in [*COMMON, *(o for c in COMMANDS fo
 BY_LETTER = {it.letter: name for name, it in OPTIONS.items() if it.letter}
 OWN = {c.name: {it.name or it.letter for it in [*COMMON, *c.options]} for c in COMMANDS}
 NEEDED = {"join": "ROOT", "strip": "BASE", "under": "BASE"}
+REQUESTS = [[b"-h"], [b"--help"], [b"--version"]]
 
 
 # Paths.
@@ -218,12 +219,19 @@ class Arguments:
                 self.operands.append((at, word))
             elif word == b"--":
                 self.before = len(self.operands)
-            elif word in (b"-h", b"--help", b"--version"):
+            elif [word] in REQUESTS:
                 self.wrong(word, "must be the first argument or follow the command")
             elif word[:2] == b"--":
                 self.read_long(word, rest)
             else:
                 self.read_letters(word[1:])
+
+    def asked(self, words):
+        """Returns the first operand, and in a list the word after it, unless `--` came first."""
+        if not self.operands or self.before == 0:
+            return None, []
+        at, name = self.operands[0]
+        return name, words[at + 1:at + 2]
 
     def wrong(self, word, what):
         self.faults.append(f"{shown(word)}: {what}")
@@ -254,20 +262,16 @@ class Arguments:
 
 def requested(words):
     """Returns the text that `help`, `-h`, `--help` or `--version` asks for, or None."""
-    first, found = words[:1], Arguments(words)
+    first, (name, after) = words[:1], Arguments(words).asked(words)
     names = {it.name.encode(): it for it in COMMANDS}
     if first == [b"--version"]:
         return TEXTS["version"]()
     if first in ([b"help"], [b"-h"], [b"--help"]):
         name = words[1] if len(words) > 1 else b""
-    elif found.operands and found.operands[0][1] in names and found.before != 0:
-        at, name = found.operands[0]
-        if words[at + 1:at + 2] == [b"--version"]:
-            return TEXTS["version"]()
-        if words[at + 1:at + 2] not in ([b"-h"], [b"--help"]):
-            return None
-    else:
+    elif name not in names or after not in REQUESTS:
         return None
+    elif after == [b"--version"]:
+        return TEXTS["version"]()
     return (TEXTS["command_help"](names[name]) if name in names
             else TEXTS["general_help"](COMMON, COMMANDS, TASKS))
 
@@ -279,6 +283,8 @@ class Call:
         found = Arguments(words)
         self.name, self.options = "", {name: value for name, value, _ in found.given}
         operands = [it for _, it in found.operands]
+        if found.asked(words)[1] in REQUESTS:
+            self.check_name(operands)
         self.check(found, operands)
         self.end = b"\0" if "null" in self.options else b"\n"
         needed = 1 + (self.name in NEEDED)
@@ -301,9 +307,7 @@ class Call:
             raise Usage(found.faults[0])
         if not operands:
             raise Usage("COMMAND is missing")
-        self.name = operands[0].decode("latin-1")
-        if self.name not in OWN:
-            raise Usage(f"{shown(operands[0])}: unknown command")
+        self.check_name(operands)
         for name, _, word in found.given:
             if name not in OWN[self.name]:
                 raise Usage(f"{shown(word)}: unknown option")
@@ -312,6 +316,11 @@ class Call:
                 raise Usage(f"{shown(it)}: has a newline, which needs -z")
         if len({"beneath", "in-root", "verbatim"} & {*self.options}) > 1:
             raise Usage("join: --beneath, --in-root and --verbatim exclude one another")
+
+    def check_name(self, operands):
+        self.name = operands[0].decode("latin-1")
+        if self.name not in OWN:
+            raise Usage(f"{shown(operands[0])}: unknown command")
 
     def check_pair(self):
         if len(self.paths or []) < 2:
@@ -357,6 +366,12 @@ def or_dot(path):
     return b"." if path == b"" else path
 
 
+def no_relative(start, path):
+    return f"no relative path from {shown(start)}" + (
+        ", which has a .. that the path lacks" if start.startswith(b"/") == path.startswith(b"/")
+        else ", as only one of them has a leading slash")
+
+
 RESULTS = {
     "canon": lambda call, path: [spelled(*components(path))],
     "resolve": lambda call, path: [or_dot(spelled(*resolved_parts(path)))],
@@ -370,7 +385,7 @@ RESULTS = {
     "strip": lambda call, path: found_or(or_dot(stripped(path, call.base)),
                                          "doesn't start with the base"),
     "relative": lambda call, path: found_or(or_dot(relative(call.base, path)),
-                                            "no relative path"),
+                                            no_relative(call.base, path)),
     "key": lambda call, path: [key(path).hex().encode()],
     "unkey": path_of_key,
     "sort": lambda call, path: [path],

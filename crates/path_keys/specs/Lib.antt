@@ -2,10 +2,10 @@ pub mod Keys
 pub mod Held
 pub mod Ranges
 pub mod Codes
+pub mod KeyValues
 pub mod Errors
 pub mod Lasts
 pub mod NameBytes
 pub mod PathRuns
 pub mod Runs
 pub mod Laws
-pub mod Read

@@ -36,7 +36,7 @@ pub record BeginsLead (key rest : List ℕ) (lead : Lead) : Type 0 where
   pub text_is : text_of vs ≡ lead_text lead
   pub inner : (ws : List Value) → AllFit true (vs ++ ws) → key_of ws ≡ rest → AllFit false ws
 
--- these bytes begin with the run, whose components may follow others
+-- s begins with the code of the run, and the run's components can come after others in a path
 pub record TakesRun (s : List ℕ) (run : Run) : Type 0 where
   pub vs : List Value
   pub some : 0 < length vs
@@ -45,7 +45,7 @@ pub record TakesRun (s : List ℕ) (run : Run) : Type 0 where
   pub text_is : text_of vs ≡ run_text run
   pub is : s ≡ run_code run ++ drop (length (run_code run)) s
 
--- these bytes are not the key of one or more components that may follow others
+-- s is not the key of any non-empty list of components that can come after others
 abbrev pub HoldsNone : List ℕ → Type 0
 HoldsNone s = (v : Value) (vs : List Value) → AllFit false (v ∷ vs) → key_of (v ∷ vs) ≡ s → ⊥
 

@@ -19,8 +19,7 @@ pub(crate) enum Lead {
 }
 
 impl Lead {
-    // Returns the length of this lead in a path with components after it, including the slash after
-    // a `.`.
+    // Returns the number of bytes before the next component in a path: 0, 1 for `/`, 2 for `./`.
     #[inline(always)]
     pub(crate) fn len_in_path(self) -> usize
         ensures { result ≡ length (lead_text self) }

@@ -4,7 +4,7 @@ use Rattle.unix_path.specs.Parts.{values}
 use Rattle.path_keys.specs.Keys.{key_of}
 use Rattle.unix_path.specs.Prefixes.{IsPrefixOf}
 use Rattle.path_tree.specs.Children.{child_of}
-use Rattle.path_keys.specs.Read.{key_values}
+use Rattle.path_keys.specs.KeyValues.{key_values}
 
 -- the key of a path represents the path's components
 abbrev pub KeysRepresent : Type 0

@@ -8,7 +8,7 @@ use Rattle.std.specs.Map.{lookup}
 use Rattle.unix_path.specs.Parts.{Value}
 use Rattle.path_runs.specs.Rows.{is_under}
 use Rattle.path_keys.specs.Ranges.{bytes_cmp}
-use Rattle.path_keys.specs.Read.{key_values}
+use Rattle.path_keys.specs.KeyValues.{key_values}
 
 -- a vector of the bytes of a key
 abbrev pub Key : Type 0

@@ -7,7 +7,7 @@ ghost use Rattle.unix_path.specs.Order.{values_cmp};
 ghost use Rattle.path_keys.specs.Keys.{IsKey};
 ghost use Rattle.path_keys.specs.Ranges.{bytes_cmp};
 ghost use Rattle.path_tree.specs.Laws.{ChildHasOneMore, KeysRepresent};
-ghost use Rattle.path_keys.specs.Read.{key_values};
+ghost use Rattle.path_keys.specs.KeyValues.{key_values};
 ghost use Rattle.path_tree.specs.Tree.{entries_of, table_of};
 
 use crate::tree::PathTree;

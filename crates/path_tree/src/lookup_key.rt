@@ -3,7 +3,7 @@ ghost use Rattle.std.specs.Prelude.{◌≡◌, ◌≤◌, true, IfOk, IsOk, leng
 ghost use Rattle.unix_path.specs.Parts.{values};
 ghost use Rattle.path_keys.specs.Held.{key_bytes};
 ghost use Rattle.path_keys.specs.Keys.{key_of};
-ghost use Rattle.path_keys.specs.Read.{is_own, key_values};
+ghost use Rattle.path_keys.specs.KeyValues.{is_own, key_values};
 
 use path_keys::{PathKey, write_key};
 use std::alloc::{AllocError, Global};

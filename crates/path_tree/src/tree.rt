@@ -13,7 +13,7 @@ ghost use Rattle.path_runs.specs.Rows.{SameElsewhere, value_at};
 ghost use Rattle.path_keys.specs.Held.{key_bytes};
 ghost use Rattle.path_keys.specs.Keys.{key_of};
 ghost use Rattle.path_tree.specs.KeyFilter.{may_contain};
-ghost use Rattle.path_keys.specs.Read.{is_own, key_values};
+ghost use Rattle.path_keys.specs.KeyValues.{is_own, key_values};
 
 mod changed;
 mod children;

@@ -10,7 +10,7 @@ use std::alloc::AllocError;
 use std::env::{Env, FillError};
 use std::process::ExitCode;
 use texts::{COMMANDS, GENERAL, VERSION};
-use upath_commands::{Replies, RunError, Texts, argument_paths, run_arguments};
+use upath_commands::{Replies, RunError, Texts, Watched, argument_paths, run_arguments};
 
 // Returns the argument with this index, or `None` after the last one.
 fn argument_at(rt: &HostRuntime, index: usize) -> Result<Option<Vec<u8>>, AllocError> {
@@ -51,7 +51,7 @@ fn answer(rt: &HostRuntime, arguments: &[Vec<u8>]) -> Result<u8, RunError> {
         version: VERSION,
         commands: &COMMANDS,
     };
-    let mut reader = rt.reader();
+    let mut reader = Watched::new(rt.reader());
     let mut replies = Replies::new(rt.alloc(), std::io::writer(rt), rt.stderr());
     run_arguments(
         rt.alloc(),

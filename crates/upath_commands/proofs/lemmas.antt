@@ -2,7 +2,9 @@
 pub mod OutputLemmas
 pub mod RecordLemmas
 pub mod SelectionLemmas
+pub mod FirstLemmas
 pub mod SortingLemmas
+pub mod UniqueLemmas
 pub mod DashLemmas
 pub mod ReplyLemmas
 pub mod StepLemmas
@@ -20,3 +22,4 @@ pub mod MeaningLemmas
 pub mod RequestLemmas
 pub mod LetterLemmas
 pub mod KeyLawLemmas
+pub mod AnswerLawLemmas

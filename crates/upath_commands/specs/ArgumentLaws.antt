@@ -8,11 +8,12 @@ use Rattle.std.specs.Option.{is_none, is_some}
 use Rattle.std.specs.Str.{byte, bytes_eq}
 use Rattle.upath_commands.specs.declared.command.JoinRule.TheVariants.{Beneath}
 use Rattle.upath_commands.specs.declared.usage.UsageErrorKind.{UsageErrorKind}
+use Rattle.upath_commands.specs.declared.usage.UsageErrorKind.TheVariants.{UnknownLetter}
 use Rattle.upath_commands.specs.Arguments.{first_word, meaning_of}
 use Rattle.upath_commands.specs.Invocations.{Canon, Each, Help, InvocationValue, Join, Meaning}
 use Rattle.upath_commands.specs.Invocations.{SettingsValue}
 use Rattle.upath_commands.specs.Items.{value_awaited}
-use Rattle.upath_commands.specs.Options.{request_by_word, verb_by_name}
+use Rattle.upath_commands.specs.Options.{option_by_letter, request_by_word, verb_by_name}
 
 -- the argument doesn't begin with a dash
 abbrev pub is_plain : List ℕ → Bool
@@ -89,6 +90,15 @@ LettersJoinInKind = (a b : ℕ) (letters more : List ℕ) (before after : List (
     → a ≢ byte "-" → b ≢ byte "-" → a ∷ letters ≢ codes "h" → b ∷ more ≢ codes "h"
     → kind_of (meaning_of (before ++ short ((a ∷ letters) ++ b ∷ more) ∷ after))
     ≡ kind_of (meaning_of (before ++ short (a ∷ letters) ∷ short (b ∷ more) ∷ after))
+
+-- after words that don't begin with a dash, a letter that is no option is the wrong usage that is
+-- reported, whatever follows
+abbrev pub UnknownOptionFirst : Type 0
+UnknownOptionFirst = (letter : ℕ) (word : List ℕ) (before after : List (List ℕ))
+    → IsTrue (list_all is_plain (word ∷ before)) → word ≢ codes "help"
+    → option_by_letter letter ≡ None → letter ≢ byte "-" → letter ≢ byte "h"
+    → meaning_of (word ∷ before ++ short (letter ∷ []) ∷ after)
+    ≡ Err (UnknownLetter, letter ∷ [])
 
 -- a value means the same as the next argument and after a `=`
 abbrev pub ValueAfterEqualsSign : Type 0

@@ -1,7 +1,7 @@
 -- The meaning of a list of arguments.
 use Rattle.std.specs.Prelude.{ℕ, Bool, true, false, ◌==◌, List, [], ◌∷◌, ◌++◌, length, Option}
 use Rattle.std.specs.Prelude.{Some, None, Ok, Err, codes, nat_le, nat_lt, option_map}
-use Rattle.std.specs.Prelude.{if◌then◌else◌}
+use Rattle.std.specs.Prelude.{if◌then◌else◌, unwrap_or}
 use Rattle.std.specs.Option.{is_some, option_or, option_to_list}
 use Rattle.std.specs.List.{before_first, filter_map, filter, find, last_or, list_any, position}
 use Rattle.std.specs.Str.{byte, bytes_eq}
@@ -235,14 +235,19 @@ abbrev pub requested : Request → List ℕ → InvocationValue
 requested request.Help name = value.Help name
 requested request.Version name = value.Version
 
--- what is asked for just after the command with this name
-abbrev pub request_after : List ℕ → List ItemValue → Option InvocationValue
+-- what is asked for just after this name, which is wrong usage if no command has it
+abbrev pub asked_of : Request → List ℕ → Option Verb → Meaning
+asked_of asked name (Some verb) = Ok (requested asked name)
+asked_of asked name None = Err (wrong.UnknownCommand, name)
+
+-- what is asked for just after the operand with these bytes
+abbrev pub request_after : List ℕ → List ItemValue → Option Meaning
 request_after name ((kind.Request asked, bytes) ∷ items) =
-    option_map (λ verb. requested asked name) (verb_by_name name)
+    Some (asked_of asked name (verb_by_name name))
 request_after name items = None
 
--- what is asked for just after the command, which is the first operand
-abbrev pub asked_in : List ItemValue → Option InvocationValue
+-- what is asked for just after the first operand
+abbrev pub asked_in : List ItemValue → Option Meaning
 asked_in [] = None
 asked_in ((Operand, name) ∷ items) = request_after name items
 asked_in (item ∷ items) = asked_in items
@@ -270,7 +275,7 @@ request_or None meaning = meaning
 -- the meaning of these items
 abbrev pub meaning_of_items : List ItemValue → Meaning
 meaning_of_items items =
-    request_or (asked_in items)
+    unwrap_or (asked_in items)
     (refuse (first_of fault_of items) (command_meaning items (operands_of items)))
 
 -- the meaning of these arguments

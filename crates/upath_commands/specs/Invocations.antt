@@ -58,8 +58,8 @@ abbrev pub Meaning : Type 0
 Meaning = Result InvocationValue UsageValue
 
 -- the bytes of a path
-abbrev pub path_bytes : Path → List ℕ
-path_bytes path = path.bytes.now
+abbrev pub view_bytes : Path → List ℕ
+view_bytes path = path.bytes.now
 
 -- the command, with the bytes that its view points to
 abbrev pub command_value : Command → CommandValue
@@ -72,13 +72,13 @@ command_value command.Stem = Stem
 command_value command.Extension = Extension
 command_value command.Parts = Parts
 command_value command.PartsFromBack = PartsFromBack
-command_value (command.Join rule root) = Join rule (path_bytes root)
-command_value (command.Strip base) = Strip (path_bytes base)
-command_value (command.Relative dir) = Relative (path_bytes dir)
+command_value (command.Join rule root) = Join rule (view_bytes root)
+command_value (command.Strip base) = Strip (view_bytes base)
+command_value (command.Relative dir) = Relative (view_bytes dir)
 command_value command.Key = Key
 command_value command.Unkey = Unkey
 command_value (command.Escapes options) = Escapes options
-command_value (command.Under options base) = Under options (path_bytes base)
+command_value (command.Under options base) = Under options (view_bytes base)
 command_value (command.Sort options) = Sort options
 command_value (command.Check options) = Check options
 command_value command.Uniq = Uniq
@@ -89,22 +89,22 @@ settings_value settings = record {
   null = settings.null;
   pair = settings.pair;
   quiet = settings.quiet;
-  or = option_map path_bytes settings.or;
+  or = option_map view_bytes settings.or;
 }
 
 -- the invocation, with the bytes that its views point to
 abbrev pub invocation_value : Invocation → InvocationValue
-invocation_value (invocation.Help name) = Help (path_bytes name)
+invocation_value (invocation.Help name) = Help (view_bytes name)
 invocation_value invocation.Version = Version
 invocation_value (invocation.Equal settings a b) =
-    Equal (settings_value settings) (path_bytes a) (path_bytes b)
+    Equal (settings_value settings) (view_bytes a) (view_bytes b)
 invocation_value (invocation.Each command settings paths) =
     Each (command_value command) (settings_value settings)
-    (option_map (λ paths. map path_bytes paths.items) paths)
+    (option_map (λ paths. map view_bytes paths.items) paths)
 
 -- wrong usage, with the bytes that its view points to
 abbrev pub usage_value : UsageError → UsageValue
-usage_value error = (error.kind, path_bytes error.argument)
+usage_value error = (error.kind, view_bytes error.argument)
 
 -- the meaning, or wrong usage, with the bytes that its views point to
 abbrev pub meaning_value : Result Invocation UsageError → Meaning

@@ -17,7 +17,7 @@ use Rattle.upath_commands.specs.declared.usage.UsageErrorKind.TheVariants.{Unkno
 use Rattle.upath_commands.specs.declared.usage.UsageErrorKind.TheVariants.{UnknownLetter}
 use Rattle.upath_commands.specs.declared.usage.UsageErrorKind.TheVariants.{MissingValue}
 use Rattle.upath_commands.specs.declared.usage.UsageErrorKind.TheVariants.{UnexpectedValue}
-use Rattle.upath_commands.specs.Invocations.{path_bytes}
+use Rattle.upath_commands.specs.Invocations.{view_bytes}
 use Rattle.upath_commands.specs.Options.{option_by_letter, option_by_name, request_by_word}
 use Rattle.upath_commands.specs.Options.{takes_value, valued}
 
@@ -27,7 +27,7 @@ ItemValue = ItemKind × List ℕ
 
 -- an item of the program, with the bytes that its view points to
 abbrev pub item_value : Item → ItemValue
-item_value item = (item.kind, path_bytes item.bytes)
+item_value item = (item.kind, view_bytes item.bytes)
 
 -- an operand
 abbrev pub operand : List ℕ → ItemValue

@@ -11,12 +11,14 @@ pub mod Shown
 pub mod KeyTexts
 pub mod ArgumentLaws
 pub mod KeyLaws
+pub mod AnswerLaws
 pub mod Escaping
 pub mod Answers
 pub mod Commands
 pub mod Refusals
 pub mod Tasks
 pub mod Usage
+pub mod Watched
 pub mod Outputs
 pub mod Replies
 pub mod Runs

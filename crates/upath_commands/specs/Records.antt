@@ -1,6 +1,6 @@
 -- Paths as records of an input.
-use Rattle.std.specs.Prelude.{ℕ, Bool, ◌==◌, List, [], ◌∷◌, map, if◌then◌else◌}
-use Rattle.std.specs.List.{flat_map, slice_split}
+use Rattle.std.specs.Prelude.{ℕ, ◌==◌, List, [], ◌∷◌, map}
+use Rattle.std.specs.List.{slice_split}
 use Rattle.unix_path.specs.declared.path.Path.{Path}
 
 -- these pieces, without the last one if it is empty
@@ -14,14 +14,6 @@ without_empty_last (piece ∷ pieces) = piece ∷ without_empty_last pieces
 unfoldable pub records_of : ℕ → List ℕ → List (List ℕ)
 records_of end input = without_empty_last (slice_split (λ b. b == end) input)
 
--- the output for these records, one after the other
-abbrev pub outputs_of : (List ℕ → List ℕ) → List (List ℕ) → List ℕ
-outputs_of output records = flat_map output records
-
 -- the bytes of these paths
 abbrev pub paths_of : List Path → List (List ℕ)
 paths_of paths = map (λ path. path.bytes.now) paths
-
--- what is said of a path, if it isn't answered
-abbrev pub refusal_unless : (List ℕ → Bool) → (List ℕ → List ℕ) → List ℕ → List ℕ
-refusal_unless answered refusal path = if answered path then [] else refusal path

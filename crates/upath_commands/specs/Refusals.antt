@@ -1,6 +1,6 @@
 -- The message for a path without an answer.
-use Rattle.std.specs.Prelude.{ℕ, Bool, List, [], ◌∷◌, ◌++◌, Option, Some, None, is_some, codes}
-use Rattle.std.specs.Prelude.{if◌then◌else◌}
+use Rattle.std.specs.Prelude.{ℕ, Bool, true, false, List, [], ◌∷◌, ◌++◌, Option, Some, None}
+use Rattle.std.specs.Prelude.{codes, if◌then◌else◌, is_some}
 use Rattle.std.specs.Str.{byte}
 use Rattle.unix_path.specs.Parts.{is_rooted, values}
 use Rattle.path_within.specs.Escapes.{has_root_or_parent_dir}
@@ -10,6 +10,8 @@ use Rattle.upath_commands.specs.Invocations.{Extension, Join, Strip, Relative, U
 use Rattle.upath_commands.specs.KeyTexts.{unkeyed_path}
 use Rattle.upath_commands.specs.declared.command.JoinRule.{JoinRule}
 use Rattle.upath_commands.specs.declared.command.JoinRule.TheVariants.{Beneath, Verbatim}
+use Rattle.upath_commands.specs.declared.reasons.Reason.{Reason}
+use Rattle.upath_commands.specs.declared.reasons.Reason.TheVariants.{Plain, NoRelative}
 use Rattle.upath_commands.specs.Shown.{shown}
 
 -- why the rule refuses p
@@ -29,6 +31,23 @@ unkey_reason null text =
     then (if null then codes "has a NUL byte" else codes "has a newline, which needs -z")
     else codes "not a key"
 
+-- why there is no relative path from a directory with or without a root to such a path
+abbrev pub no_relative : Bool → Bool → List ℕ
+no_relative true false = codes ", as only one of them has a leading slash"
+no_relative false true = codes ", as only one of them has a leading slash"
+no_relative from to = codes ", which has a .. that the path lacks"
+
+-- why there is no relative path from a directory to p
+abbrev pub relative_reason : List ℕ → List ℕ → List ℕ
+relative_reason dir p =
+    codes "no relative path from " ++ (shown dir ++ no_relative (is_rooted dir) (is_rooted p))
+
+-- a reason, as the code has it
+abbrev pub reason_text : Reason → List ℕ
+reason_text (Plain text) = text.now
+reason_text (NoRelative dir text) =
+    codes "no relative path from " ++ (shown dir.bytes.now ++ text.now)
+
 -- why the command has no answer to p; `None` for commands that answer every path, and for `escapes`
 -- and `under`, which leave out paths without a reason
 abbrev pub reason_of : CommandValue → Bool → List ℕ → Option (List ℕ)
@@ -38,7 +57,7 @@ reason_of Stem null p = Some (codes "no file name")
 reason_of Extension null p = Some (codes "no extension")
 reason_of (Join rule root) null p = Some (join_reason rule p)
 reason_of (Strip base) null p = Some (codes "doesn't start with the base")
-reason_of (Relative from) null p = Some (codes "no relative path")
+reason_of (Relative dir) null p = Some (relative_reason dir p)
 reason_of Unkey null p = Some (unkey_reason null p)
 reason_of (Check options) null p = Some (codes "is out of order")
 reason_of command null p = None

@@ -119,9 +119,7 @@ pub record Broken (old new : State) (output messages : List ℕ) : Type 0 where
   pub wrote : AppendsPrefix old.written new.written (old.pending ++ output)
   pub said : TellsPrefix old.is_deaf new.is_deaf old.told new.told messages
 
--- a prefix of the output was written; a prefix of the messages, and then this line, or nothing if
--- memory was out for it
+-- a prefix of the output was written, and a prefix of the messages and then this line
 pub record Failed (old new : State) (output messages line : List ℕ) : Type 0 where
   pub wrote : AppendsPrefix old.written new.written (old.pending ++ output)
-  pub said : (n : ℕ) × ((is_said : Bool) × Tells old.is_deaf new.is_deaf old.told new.told
-      (take n messages ++ (if is_said then line else [])))
+  pub said : (n : ℕ) × Tells old.is_deaf new.is_deaf old.told new.told (take n messages ++ line)

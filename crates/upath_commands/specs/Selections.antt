@@ -1,4 +1,4 @@
--- Which of the paths that come are answered.
+-- Which paths are answered.
 use Rattle.std.specs.Prelude.{ℕ, Bool, true, not, List, [], ◌∷◌, is_some, if◌then◌else◌}
 use Rattle.std.specs.List.{filter}
 use Rattle.unix_path.specs.Parts.{Value, values}
@@ -17,7 +17,7 @@ abbrev pub is_taken : Selection → List ℕ → Bool
 is_taken All p = true
 is_taken (Firsts table) p = is_new (table_of table) p
 
--- the path that comes next, if it is answered
+-- the next path, if it is answered
 abbrev pub taken : Selection → List ℕ → List (List ℕ)
 taken selection p = if is_taken selection p then p ∷ [] else []
 

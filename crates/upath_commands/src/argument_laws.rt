@@ -2,7 +2,8 @@
 ghost use Rattle.upath_commands.specs.ArgumentLaws.{HelpAfterCommand, HelpFirst, LettersJoin};
 ghost use Rattle.upath_commands.specs.ArgumentLaws.{LettersJoinInKind};
 ghost use Rattle.upath_commands.specs.ArgumentLaws.{OptionsFollowOperands, PathsAfterDashes};
-ghost use Rattle.upath_commands.specs.ArgumentLaws.{PathsAfterRoot, ValueAfterEqualsSign};
+ghost use Rattle.upath_commands.specs.ArgumentLaws.{PathsAfterRoot, UnknownOptionFirst};
+ghost use Rattle.upath_commands.specs.ArgumentLaws.{ValueAfterEqualsSign};
 
 /// After `-z` and `--`, each argument is a path, whatever its bytes are, and nothing is read.
 ///
@@ -50,6 +51,14 @@ pub fn options_follow_operands()
 pub fn letters_join()
     ensures whole { LettersJoin }
     ensures kind { LettersJoinInKind }
+{}
+
+/// Of all wrong usage a short option that no command has is reported first, wherever it stands
+/// before `--`, unless a word that is no command comes just before a request.
+///
+/// `upath cannon -x` reports `-x`, and `upath join --beneath --verbatim -x` too.
+pub fn unknown_option_first()
+    ensures { UnknownOptionFirst }
 {}
 
 /// The value of `--from` means the same as an argument of its own and after a `=`.

@@ -7,7 +7,7 @@ ghost use Rattle.upath_commands.specs.Arguments.{meaning_of_items, meaning_of_ve
 ghost use Rattle.upath_commands.specs.Arguments.{request_of, settings_of, sort_command};
 ghost use Rattle.upath_commands.specs.Arguments.{sort_options, under_options};
 ghost use Rattle.upath_commands.specs.Invocations.{command_value, invocation_value, meaning_value};
-ghost use Rattle.upath_commands.specs.Invocations.{path_bytes, settings_value, usage_value};
+ghost use Rattle.upath_commands.specs.Invocations.{view_bytes, settings_value, usage_value};
 ghost use Rattle.upath_commands.specs.Items.{item_value};
 ghost use Rattle.upath_commands.specs.Words.{words_value};
 ghost use Rattle.std.specs.Prelude.{option_map};
@@ -103,10 +103,10 @@ fn take_operand<'a>(
     kind: UsageErrorKind,
     name: Path<'a>,
 ) -> Result<Path<'a>, UsageError<'a>>
-    ensures ok { IfOk result (λ operand. map path_bytes operands.old.items
-        ≡ path_bytes operand ∷ map path_bytes operands.new.items) }
+    ensures ok { IfOk result (λ operand. map view_bytes operands.old.items
+        ≡ view_bytes operand ∷ map view_bytes operands.new.items) }
     ensures err { IfErr result (λ error. (operands.old.items ≡ [])
-        × (usage_value error ≡ (kind, path_bytes name.entry))) }
+        × (usage_value error ≡ (kind, view_bytes name.entry))) }
 {
     if operands.is_empty() {
         return Err(UsageError {
@@ -126,7 +126,7 @@ fn each<'a>(
     operands: Vec<Path<'a>>,
 ) -> Result<Invocation<'a>, UsageError<'a>>
     ensures { meaning_value result ≡ each (command_value command.entry) (words_value words.entry)
-        own (map path_bytes operands.entry.items) }
+        own (map view_bytes operands.entry.items) }
 {
     let settings = settings_of(words.items);
     match operands.first() {
@@ -145,7 +145,7 @@ fn equal_of<'a>(
     operands: &[Path<'a>],
 ) -> Result<Invocation<'a>, UsageError<'a>>
     ensures { meaning_value result ≡ equal_meaning (words_value words.entry)
-        (map path_bytes operands.now) }
+        (map view_bytes operands.now) }
 {
     match operands {
         [a, b] => Ok(Invocation::Equal(settings_of(words.items), *a, *b)),
@@ -166,7 +166,7 @@ fn join_of<'a>(
     mut operands: Vec<Path<'a>>,
 ) -> Result<Invocation<'a>, UsageError<'a>>
     ensures { let value = words_value words.entry in meaning_value result
-        ≡ join_meaning (join_rule value.items) value (map path_bytes operands.entry.items) }
+        ≡ join_meaning (join_rule value.items) value (map view_bytes operands.entry.items) }
 {
     let Some(rule) = join_rule(words.items) else {
         return Err(UsageError {
@@ -184,7 +184,7 @@ fn strip_of<'a>(
     mut operands: Vec<Path<'a>>,
 ) -> Result<Invocation<'a>, UsageError<'a>>
     ensures { meaning_value result ≡ meaning_of_verb Verb.Strip (words_value words.entry)
-        (map path_bytes operands.entry.items) }
+        (map view_bytes operands.entry.items) }
 {
     let base = take_operand(&mut operands, UsageErrorKind::MissingBase, words.name)?;
     each(Command::Strip(base), words, 2, operands)
@@ -196,7 +196,7 @@ fn under_of<'a>(
     mut operands: Vec<Path<'a>>,
 ) -> Result<Invocation<'a>, UsageError<'a>>
     ensures { meaning_value result ≡ meaning_of_verb Verb.Under (words_value words.entry)
-        (map path_bytes operands.entry.items) }
+        (map view_bytes operands.entry.items) }
 {
     let base = take_operand(&mut operands, UsageErrorKind::MissingBase, words.name)?;
     each(
@@ -213,7 +213,7 @@ fn relative_of<'a>(
     operands: Vec<Path<'a>>,
 ) -> Result<Invocation<'a>, UsageError<'a>>
     ensures { meaning_value result ≡ meaning_of_verb Verb.Relative (words_value words.entry)
-        (map path_bytes operands.entry.items) }
+        (map view_bytes operands.entry.items) }
 {
     match last_value(words.items, Flag::From) {
         Some(dir) => each(Command::Relative(dir), words, 1, operands),
@@ -231,7 +231,7 @@ fn meaning_of_verb<'a>(
     operands: Vec<Path<'a>>,
 ) -> Result<Invocation<'a>, UsageError<'a>>
     ensures { meaning_value result ≡ meaning_of_verb verb (words_value words.entry)
-        (map path_bytes operands.entry.items) }
+        (map view_bytes operands.entry.items) }
 {
     let command = match verb {
         Verb::Canon => Command::Canon,
@@ -263,7 +263,7 @@ fn command_of<'a>(
     mut operands: Vec<Path<'a>>,
 ) -> Result<Invocation<'a>, UsageError<'a>>
     ensures { meaning_value result ≡ command_meaning (map item_value items.now)
-        (map path_bytes operands.entry.items) }
+        (map view_bytes operands.entry.items) }
 {
     let nothing = Path { bytes: b"" };
     let name = take_operand(&mut operands, UsageErrorKind::MissingCommand, nothing)?;
@@ -296,11 +296,11 @@ fn meaning_of_items<'a>(
     items: &[Item<'a>],
     operands: Vec<Path<'a>>,
 ) -> Result<Invocation<'a>, UsageError<'a>>
-    requires { map path_bytes operands.items ≡ operands_of (map item_value items.now) }
+    requires { map view_bytes operands.items ≡ operands_of (map item_value items.now) }
     ensures { meaning_value result ≡ meaning_of_items (map item_value items.now) }
 {
-    if let Some(invocation) = request_in(items) {
-        return Ok(invocation);
+    if let Some(meaning) = request_in(items) {
+        return meaning;
     }
     if let Some(error) = fault_in(items) {
         return Err(error);
@@ -310,7 +310,7 @@ fn meaning_of_items<'a>(
 
 // Returns the first of these arguments, or the empty path.
 fn first_word<'a>(arguments: &[Path<'a>]) -> Path<'a>
-    ensures { path_bytes result ≡ first_word (map path_bytes arguments.now) }
+    ensures { view_bytes result ≡ first_word (map view_bytes arguments.now) }
 {
     match arguments {
         [word, ..] => *word,
@@ -330,7 +330,7 @@ fn request_of(word: &[u8]) -> Option<Request>
 
 // Returns what the first argument asks for in the place of a command.
 fn asked_first<'a>(arguments: &[Path<'a>]) -> Option<Invocation<'a>>
-    ensures { option_map invocation_value result ≡ asked_first (map path_bytes arguments.now) }
+    ensures { option_map invocation_value result ≡ asked_first (map view_bytes arguments.now) }
 {
     match arguments {
         [word, words @ ..] => {
@@ -362,13 +362,14 @@ fn asked_first<'a>(arguments: &[Path<'a>]) -> Option<Invocation<'a>>
 /// paths, even if that is nothing.
 ///
 /// Of wrong usage, the first of these is reported:
-/// 1. an unknown option, an option without its value, a value for another option, or a request that
+/// 1. a request just after a word that is no command: that word;
+/// 2. an unknown option, an option without its value, a value for another option, or a request that
 ///    doesn't count;
-/// 2. no command, or an unknown one;
-/// 3. an option that this command doesn't have;
-/// 4. without `-z`, an operand or a value of `--or` with a newline;
-/// 5. two of `--beneath`, `--in-root` and `--verbatim`;
-/// 6. a missing or surplus operand, no `--from` for `relative`, or a path before `--`.
+/// 3. no command, or an unknown one;
+/// 4. an option that this command doesn't have;
+/// 5. without `-z`, an operand or a value of `--or` with a newline;
+/// 6. two of `--beneath`, `--in-root` and `--verbatim`;
+/// 7. a missing or surplus operand, no `--from` for `relative`, or a path before `--`.
 ///
 /// Allocates for what the arguments say, and for the operands. Fails only if an allocation fails.
 ///
@@ -380,7 +381,7 @@ pub fn invocation_of<'a>(
     arguments: &[Path<'a>],
 ) -> Result<Result<Invocation<'a>, UsageError<'a>>, AllocError>
     ensures { IfOk result (λ meaning. meaning_value meaning
-        ≡ meaning_of (map path_bytes arguments.now)) }
+        ≡ meaning_of (map view_bytes arguments.now)) }
 {
     if let Some(invocation) = asked_first(arguments) {
         return Ok(Ok(invocation));
@@ -396,7 +397,7 @@ pub fn invocation_of<'a>(
 ///
 /// For the bytes `canon` and `-z` it returns the paths `canon` and `-z`.
 pub fn argument_paths(alloc: Global, arguments: &[Vec<u8>]) -> Result<Vec<Path<'_>>, AllocError>
-    ensures { IfOk result (λ paths. map path_bytes paths.items
+    ensures { IfOk result (λ paths. map view_bytes paths.items
         ≡ map (λ argument. argument.items) arguments.now) }
 {
     let mut paths = Vec::new(alloc);

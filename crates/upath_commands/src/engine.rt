@@ -1,25 +1,26 @@
 //! Answers paths, one after the other: operands, and the records of an input as they are read.
 ghost use Rattle.std.specs.Prelude.{◌≡◌, ◌++◌, ◌∷◌, [], ℕ, List, IfErr, IfSome, OnOk, OnErr};
+ghost use Rattle.std.specs.Prelude.{false};
 ghost use Rattle.upath_commands.specs.Answers.{end_of};
 ghost use Rattle.upath_commands.specs.Records.{paths_of, records_of};
-ghost use Rattle.upath_commands.specs.Replies.{Answered, state_of, Stopped};
+ghost use Rattle.upath_commands.specs.Outputs.{is_read_error, is_write_error};
+ghost use Rattle.upath_commands.specs.Replies.{Answered, answers_failed, state_of, Stopped};
 ghost use Rattle.upath_commands.specs.Selections.{selected, taken};
 ghost use Rattle.upath_commands.specs.Tasks.{task_value};
+ghost use Rattle.upath_commands.specs.Watched.{has_failed, watched_inner};
 
-use crate::input::read_some;
+use crate::input::{BLOCK, read_some};
 use crate::output::RunError;
 use crate::push::end_of;
 use crate::records::records_in;
 use crate::replies::{Replies, Tally};
 use crate::selection::Selection;
 use crate::task::Task;
+use crate::watched::Watched;
 use std::alloc::Global;
 use std::io::{Read, Write};
 use unix_bytes::internal::after_last;
 use unix_path::Path;
-
-// The input is read in blocks of at most so many bytes.
-const BLOCK: usize = 65536;
 
 // Answers a path, or writes the message for it.
 fn answer_path<W: Write, E: Write>(
@@ -27,12 +28,14 @@ fn answer_path<W: Write, E: Write>(
     path: Path<'_>,
     replies: &mut Replies<W, E>,
 ) -> Result<(), RunError>
+    requires { answers_failed replies.old ≡ false }
     ensures ok { OnOk result (Answered (task_value task.now)
         (state_of W.contents E.contents replies.old) (state_of W.contents E.contents replies.new)
         (path.entry.bytes.now ∷ [])) }
     ensures err { OnErr result (Stopped (task_value task.now)
         (state_of W.contents E.contents replies.old) (state_of W.contents E.contents replies.new)
         (path.entry.bytes.now ∷ [])) }
+    ensures write { answers_failed replies.new ≡ is_write_error result }
     ensures no_read { IfErr result (λ error. (error ≡ RunError.Read) → ⊥) }
 {
     let is_answered = replies.answers.answer(task, path)?;
@@ -55,6 +58,7 @@ fn answer_next<W: Write, E: Write>(
     path: Path<'_>,
     replies: &mut Replies<W, E>,
 ) -> Result<(), RunError>
+    requires { answers_failed replies.old ≡ false }
     ensures ok { OnOk result (Answered (task_value task.now)
         (state_of W.contents E.contents replies.old) (state_of W.contents E.contents replies.new)
         (taken selection.old path.entry.bytes.now)) }
@@ -64,6 +68,7 @@ fn answer_next<W: Write, E: Write>(
     ensures rest { OnOk result ((paths : List (List ℕ))
         → selected selection.old (path.entry.bytes.now ∷ paths)
         ≡ taken selection.old path.entry.bytes.now ++ selected selection.new paths) }
+    ensures write { answers_failed replies.new ≡ is_write_error result }
     ensures no_read { IfErr result (λ error. (error ≡ RunError.Read) → ⊥) }
 {
     if selection.take(alloc, path)? {
@@ -80,6 +85,7 @@ pub(crate) fn answer_paths<W: Write, E: Write>(
     paths: &[Path<'_>],
     replies: &mut Replies<W, E>,
 ) -> Result<(), RunError>
+    requires { answers_failed replies.old ≡ false }
     ensures ok { OnOk result (Answered (task_value task.now)
         (state_of W.contents E.contents replies.old) (state_of W.contents E.contents replies.new)
         (selected selection.old (paths_of paths.now))) }
@@ -89,6 +95,7 @@ pub(crate) fn answer_paths<W: Write, E: Write>(
     ensures rest { OnOk result ((more : List (List ℕ))
         → selected selection.old (paths_of paths.now ++ more)
         ≡ selected selection.old (paths_of paths.now) ++ selected selection.new more) }
+    ensures write { answers_failed replies.new ≡ is_write_error result }
     ensures no_read { IfErr result (λ error. (error ≡ RunError.Read) → ⊥) }
 {
     let mut index = 0;
@@ -107,6 +114,7 @@ fn answer_records<W: Write, E: Write>(
     bytes: &[u8],
     replies: &mut Replies<W, E>,
 ) -> Result<(), RunError>
+    requires { answers_failed replies.old ≡ false }
     ensures ok { let value = task_value task.now in OnOk result (Answered value
         (state_of W.contents E.contents replies.old) (state_of W.contents E.contents replies.new)
         (selected selection.old (records_of (end_of value.settings) bytes.now))) }
@@ -116,6 +124,7 @@ fn answer_records<W: Write, E: Write>(
     ensures rest { let records = records_of (end_of (task_value task.now).settings) bytes.now in
         OnOk result ((more : List (List ℕ)) → selected selection.old (records ++ more)
         ≡ selected selection.old records ++ selected selection.new more) }
+    ensures write { answers_failed replies.new ≡ is_write_error result }
     ensures no_read { IfErr result (λ error. (error ≡ RunError.Read) → ⊥) }
 {
     let paths = records_in(alloc, bytes, end_of(task.settings))?;
@@ -128,17 +137,21 @@ pub(crate) fn answer_input<R: Read, W: Write, E: Write>(
     alloc: Global,
     task: &Task<'_>,
     selection: &mut Selection,
-    reader: &mut R,
+    reader: &mut Watched<R>,
     replies: &mut Replies<W, E>,
 ) -> Result<(), RunError>
+    requires write { answers_failed replies.old ≡ false }
+    requires read { has_failed reader.old ≡ false }
     ensures ok { let value = task_value task.now in
-        OnOk result (IfSome (R.remaining reader.old) (λ input. Answered value
+        OnOk result (IfSome (R.remaining (watched_inner reader.old)) (λ input. Answered value
         (state_of W.contents E.contents replies.old) (state_of W.contents E.contents replies.new)
         (selected selection.old (records_of (end_of value.settings) input)))) }
     ensures err { let value = task_value task.now in
-        OnErr result (IfSome (R.remaining reader.old) (λ input. Stopped value
+        OnErr result (IfSome (R.remaining (watched_inner reader.old)) (λ input. Stopped value
         (state_of W.contents E.contents replies.old) (state_of W.contents E.contents replies.new)
         (selected selection.old (records_of (end_of value.settings) input)))) }
+    ensures write { answers_failed replies.new ≡ is_write_error result }
+    ensures read { has_failed reader.new ≡ is_read_error result }
 {
     let end = end_of(task.settings);
     let mut chunk = [0u8; BLOCK];
@@ -160,5 +173,6 @@ pub(crate) fn answer_input<R: Read, W: Write, E: Write>(
         records.clear();
         records.extend_from_slice(&read[len..])?;
     }
+    reader.give_up();
     Err(RunError::Read)
 }

@@ -1,66 +1,52 @@
 //! Reads the input.
-ghost use Rattle.std.specs.Prelude.{◌≡◌, ◌≢◌, ◌↔◌, IfOk, IfErr, IfSome};
+ghost use Rattle.std.specs.Prelude.{◌≡◌, false, IfOk, IfErr, IfSome};
 ghost use Rattle.std.specs.Io.{ReadsAtMost};
-ghost use Rattle.std.specs.IoError.{error_kind};
 ghost use Rattle.std.specs.Io.KnownBytes.{ReadConsumes};
-ghost use Rattle.upath_commands.specs.Outputs.{IsOfWrite};
+ghost use Rattle.upath_commands.specs.Outputs.{is_read_error, IsOfWrite};
+ghost use Rattle.upath_commands.specs.Watched.{has_failed, watched_inner};
 
 use crate::output::RunError;
+use crate::watched::Watched;
 use std::alloc::Global;
-use std::io;
-use std::io::{ErrorKind, Read};
+use std::io::Read;
 
-// Makes one read, again if the system interrupted it.
-fn read_once<R: Read>(reader: &mut R, chunk: &mut [u8]) -> io::Result<usize>
-    ensures bound { ReadsAtMost result chunk.new }
-    ensures bytes { ReadConsumes (R.remaining reader.old) (R.remaining reader.new) result
-        chunk.new }
-{
-    for _ in 0..u64::MAX {
-        match reader.read(chunk) {
-            Err(error) if error.kind() == ErrorKind::Interrupted => {}
-            Err(error) => return Err(error),
-            Ok(count) => return Ok(count),
-        }
-    }
-    Err(io::Error::from(ErrorKind::Other))
-}
-
-// Returns the error of a run for that of a read.
-fn read_error(error: &io::Error) -> RunError
-    ensures memory { (result ≡ RunError.Memory) ↔ (error_kind error.now ≡ ErrorKind.OutOfMemory) }
-    ensures no_write { IsOfWrite result → ⊥ }
-{
-    if error.kind() == ErrorKind::OutOfMemory {
-        RunError::Memory
-    } else {
-        RunError::Read
-    }
-}
+// The input is read in blocks of at most so many bytes.
+pub(crate) const BLOCK: usize = 65536;
 
 // Reads what is there, up to the length of `chunk`. Returns the number of bytes, 0 only at the end
 // of the input.
-pub(crate) fn read_some<R: Read>(reader: &mut R, chunk: &mut [u8]) -> Result<usize, RunError>
+pub(crate) fn read_some<R: Read>(
+    reader: &mut Watched<R>,
+    chunk: &mut [u8],
+) -> Result<usize, RunError>
+    requires { has_failed reader.old ≡ false }
     ensures bound { ReadsAtMost result chunk.new }
-    ensures bytes { ReadConsumes (R.remaining reader.old) (R.remaining reader.new) result
-        chunk.new }
-    ensures no_write { IfErr result (λ error. IsOfWrite error → ⊥) }
+    ensures bytes { ReadConsumes (R.remaining (watched_inner reader.old))
+        (R.remaining (watched_inner reader.new)) result chunk.new }
+    ensures read { has_failed reader.new ≡ is_read_error result }
+    ensures only_read { IfErr result (λ error. error ≡ RunError.Read) }
 {
-    match read_once(reader, chunk) {
+    match reader.read_once(chunk) {
         Ok(count) => Ok(count),
-        Err(error) => Err(read_error(&error)),
+        Err(_) => Err(RunError::Read),
     }
 }
 
 // Reads an input to its end.
-pub(crate) fn read_all<R: Read>(alloc: Global, reader: &mut R) -> Result<Vec<u8>, RunError>
-    ensures bytes { IfOk result (λ bytes. IfSome (R.remaining reader.old) (λ input.
-        bytes.items ≡ input)) }
+pub(crate) fn read_all<R: Read>(alloc: Global, reader: &mut Watched<R>) -> Result<Vec<u8>, RunError>
+    requires { has_failed reader.old ≡ false }
+    ensures bytes { IfOk result (λ bytes.
+        IfSome (R.remaining (watched_inner reader.old)) (λ input. bytes.items ≡ input)) }
+    ensures read { has_failed reader.new ≡ is_read_error result }
     ensures no_write { IfErr result (λ error. IsOfWrite error → ⊥) }
 {
     let mut bytes = Vec::new(alloc);
-    match reader.read_to_end(&mut bytes) {
-        Ok(_) => Ok(bytes),
-        Err(error) => Err(read_error(&error)),
+    let mut chunk = [0u8; BLOCK];
+    loop {
+        let count = read_some(reader, &mut chunk)?;
+        if count == 0 {
+            return Ok(bytes);
+        }
+        bytes.extend_from_slice(&chunk[..count])?;
     }
 }

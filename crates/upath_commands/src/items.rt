@@ -3,7 +3,7 @@ ghost use Rattle.std.specs.Prelude.{◌≡◌, ◌++◌, ◌≤◌, ◌<◌, ◌
 ghost use Rattle.upath_commands.specs.Items.{argument_items, character, item_value, items_after};
 ghost use Rattle.upath_commands.specs.Items.{known, letter_item, letter_items, long_items};
 ghost use Rattle.upath_commands.specs.Items.{operand, option_items, valued_name, with_value};
-ghost use Rattle.upath_commands.specs.Invocations.{path_bytes};
+ghost use Rattle.upath_commands.specs.Invocations.{view_bytes};
 ghost use Rattle.upath_commands.specs.Options.{option_by_letter};
 ghost use Rattle.std.specs.Prelude.{slice_index, take};
 ghost use Rattle.unix_bytes.specs.Lossy.{is_text};
@@ -193,7 +193,7 @@ fn push_argument<'a>(argument: &'a [u8], items: &mut Vec<Item<'a>>) -> Result<()
 // Appends an operand for each argument.
 fn push_operands<'a>(arguments: &[Path<'a>], items: &mut Vec<Item<'a>>) -> Result<(), AllocError>
     ensures { OnOk result (map item_value items.new.items
-        ≡ map item_value items.old.items ++ map operand (map path_bytes arguments.now)) }
+        ≡ map item_value items.old.items ++ map operand (map view_bytes arguments.now)) }
 {
     for argument in arguments {
         push_item(ItemKind::Operand, argument.bytes, items)?;
@@ -230,7 +230,7 @@ fn push_missing(awaits: Option<Flag>, items: &mut Vec<Item<'_>>) -> Result<(), A
 /// The items of `canon` and `--null` are an operand and `Flag::Null`.
 pub fn items_of<'a>(alloc: Global, arguments: &[Path<'a>]) -> Result<Vec<Item<'a>>, AllocError>
     ensures { IfOk result (λ items. map item_value items.items
-        ≡ items_after None (map path_bytes arguments.now)) }
+        ≡ items_after None (map view_bytes arguments.now)) }
 {
     let mut items = Vec::new(alloc);
     let mut awaits = None;

@@ -3,7 +3,7 @@ ghost use Rattle.upath_commands.specs.KeyLaws.{KeyUndoesUnkey, UnkeyIsCanonical,
 
 /// The path of the key of a path, in hexadecimal, is the path in canonical form.
 ///
-/// `unkey` answers with it, unless it has the byte that ends records.
+/// `unkey` prints it, unless it has the byte that ends records.
 ///
 /// The key of `a//b` is `61006200` in hexadecimal, and `upath unkey 61006200` prints `a/b`.
 pub fn unkey_undoes_key()

@@ -6,14 +6,20 @@
 //! buffer are unspecified. Everything here is lexical: symbolic links are not followed. Indices and
 //! lengths count bytes.
 //!
-//! Three modules have laws, each of which a proof can use if it calls a function. [`argument_laws`]
-//! has those of arguments: `paths_after_dashes`, `paths_after_root`, `help_first`,
-//! `help_after_command`, `options_follow_operands`, `letters_join` and `value_after_equals_sign`.
-//! [`key_laws`] has those of keys, and [`sort_laws`] those of the order.
+//! Four modules have laws, each of which a proof can use if it calls a function:
+//! - [`argument_laws`], of the meaning of arguments: `paths_after_dashes`, `paths_after_root`,
+//!   `help_first`, `help_after_command`, `options_follow_operands`, `letters_join`,
+//!   `value_after_equals_sign`, and of which wrong usage is reported: `unknown_option_first`;
+//! - [`answer_laws`], of what is printed: `escapes_tested`, `answers_are_never_empty`,
+//!   `output_reads_back` and `quiet_prints_nothing`;
+//! - [`sort_laws`], of what `sort` and `uniq` print: `sort_orders`, `uniq_keeps_firsts` and
+//!   `sort_unique_keeps_firsts`;
+//! - [`key_laws`], of keys: `unkey_undoes_key` and `key_undoes_unkey`.
 #![tactic(auto)]
 
 mod ancestors;
 mod answer;
+pub mod answer_laws;
 pub mod argument_laws;
 mod arguments;
 mod bases;
@@ -41,6 +47,7 @@ pub mod sort_laws;
 mod sorting;
 mod task;
 mod usage;
+mod watched;
 mod words;
 
 pub use arguments::{argument_paths, invocation_of};
@@ -54,3 +61,4 @@ pub use runs::{HelpText, Texts, run_arguments};
 pub use selection::Selection;
 pub use sorting::sort_paths;
 pub use usage::{UsageError, UsageErrorKind};
+pub use watched::Watched;

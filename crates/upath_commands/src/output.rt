@@ -1,21 +1,23 @@
 //! Answers, with a buffer before their writer, and messages.
-ghost use Rattle.std.specs.Prelude.{◌≡◌, ◌≢◌, ◌↔◌, ◌<◌, ◌++◌, [], length, false};
-ghost use Rattle.std.specs.Prelude.{OnOk, OnErr, IfOk, IfErr, Bool, if◌then◌else◌};
-ghost use Rattle.std.specs.Io.{WritesAtMost};
+ghost use Rattle.std.specs.Prelude.{◌≡◌, ◌↔◌, ◌<◌, ◌++◌, [], length, false, IsTrue};
+ghost use Rattle.std.specs.Prelude.{OnOk, OnErr, IfOk, IfErr};
 ghost use Rattle.std.specs.IoError.{error_kind};
-ghost use Rattle.std.specs.Io.KnownBytes.{Appends, WriteAppends};
+ghost use Rattle.std.specs.Io.KnownBytes.{Appends};
 ghost use Rattle.upath_commands.specs.Outputs.{AppendsPrefix, Emits, EmitsPrefix, unwritten};
-ghost use Rattle.upath_commands.specs.Outputs.{error_line, error_text, has_failed, IsOfWrite};
-ghost use Rattle.upath_commands.specs.Outputs.{line_of, Tells, told_to, written_to};
+ghost use Rattle.upath_commands.specs.Outputs.{error_line, is_write_error, IsOfWrite, Tells};
+ghost use Rattle.upath_commands.specs.Outputs.{has_flushed, write_failed, told_to, written_to};
+ghost use Rattle.upath_commands.specs.Outputs.{is_deaf};
 ghost use Rattle.upath_commands.specs.Commands.{text_for};
 ghost use Rattle.upath_commands.specs.Invocations.{usage_value};
 ghost use Rattle.upath_commands.specs.Refusals.{message_for};
 ghost use Rattle.upath_commands.specs.Tasks.{answers, task_value};
 ghost use Rattle.upath_commands.specs.Usage.{usage_line};
+ghost use Rattle.upath_commands.specs.Watched.{has_failed, watched_inner};
 ghost use Rattle.upath_commands.specs.declared.output.RunError.TheVariants.{Memory};
 
 use crate::task::{Task, push_answers, push_message};
 use crate::usage::{UsageError, push_usage};
+use crate::watched::Watched;
 use std::alloc::{AllocError, Global};
 use std::io;
 use std::io::{ErrorKind, Write};
@@ -51,22 +53,6 @@ impl From<AllocError> for RunError {
     }
 }
 
-// Makes one write, again if the system interrupted it.
-fn write_once<W: Write>(writer: &mut W, bytes: &[u8]) -> io::Result<usize>
-    ensures bound { WritesAtMost result bytes.now }
-    ensures bytes { WriteAppends (W.contents writer.old) (W.contents writer.new) result bytes.now }
-    ensures retried { IfErr result (λ error. error_kind error ≢ ErrorKind.Interrupted) }
-{
-    for _ in 0..u64::MAX {
-        match writer.write(bytes) {
-            Err(error) if error.kind() == ErrorKind::Interrupted => {}
-            Err(error) => return Err(error),
-            Ok(count) => return Ok(count),
-        }
-    }
-    Err(io::Error::from(ErrorKind::Other))
-}
-
 // Returns the error of a run for that of a write.
 fn write_error(error: &io::Error) -> RunError
     ensures closed { (result ≡ RunError.Closed) ↔ (error_kind error.now ≡ ErrorKind.BrokenPipe) }
@@ -80,15 +66,18 @@ fn write_error(error: &io::Error) -> RunError
 }
 
 // Writes all bytes.
-fn write_all<W: Write>(writer: &mut W, bytes: &[u8]) -> Result<(), RunError>
-    ensures ok { OnOk result (Appends (W.contents writer.old) (W.contents writer.new) bytes.now) }
-    ensures err { OnErr result (AppendsPrefix (W.contents writer.old) (W.contents writer.new)
-        bytes.now) }
+fn write_all<W: Write>(writer: &mut Watched<W>, bytes: &[u8]) -> Result<(), RunError>
+    requires { has_failed writer.old ≡ false }
+    ensures ok { OnOk result (Appends (W.contents (watched_inner writer.old))
+        (W.contents (watched_inner writer.new)) bytes.now) }
+    ensures err { OnErr result (AppendsPrefix (W.contents (watched_inner writer.old))
+        (W.contents (watched_inner writer.new)) bytes.now) }
+    ensures write { has_failed writer.new ≡ is_write_error result }
     ensures only_write { IfErr result IsOfWrite }
 {
     let mut at = 0;
     while at < bytes.len() {
-        match write_once(writer, &bytes[at..]) {
+        match writer.write_once(&bytes[at..]) {
             Ok(0) => return Err(RunError::Write),
             Ok(count) => at += count,
             Err(error) => return Err(write_error(&error)),
@@ -97,12 +86,23 @@ fn write_all<W: Write>(writer: &mut W, bytes: &[u8]) -> Result<(), RunError>
     Ok(())
 }
 
+// Writes a message, unless a write has failed before. A failure is ignored.
+fn send<E: Write>(writer: &mut Watched<E>, message: &[u8])
+    ensures { Tells (has_failed writer.old) (has_failed writer.new)
+        (E.contents (watched_inner writer.old)) (E.contents (watched_inner writer.new))
+        message.now }
+{
+    if !writer.failed() {
+        let _ = write_all(writer, message);
+    }
+}
+
 // A writer, and the answers that are not yet written.
 //
 // They are written once there are 64 KiB or more, before each read of the input, and at the end.
 #[derive(Drop)]
 pub(crate) struct Output<W> {
-    writer: W,
+    writer: Watched<W>,
     buffer: Vec<u8>,
 }
 
@@ -110,21 +110,24 @@ impl<W: Write> Output<W> {
     // Creates an output without bytes before the writer.
     pub(crate) fn new(alloc: Global, writer: W) -> Output<W>
         ensures writer { written_to result ≡ writer }
+        ensures write { write_failed result ≡ false }
         ensures empty { unwritten result ≡ [] }
     {
         Output {
-            writer,
+            writer: Watched::new(writer),
             buffer: Vec::new(alloc),
         }
     }
 
     // Writes the pending bytes.
     pub(crate) fn write_out(&mut self) -> Result<(), RunError>
+        requires { write_failed self.old ≡ false }
         ensures ok { OnOk result (Emits (W.contents (written_to self.old))
             (W.contents (written_to self.new)) (unwritten self.old) (unwritten self.new) []) }
         ensures none { OnOk result (unwritten self.new ≡ []) }
         ensures err { OnErr result (EmitsPrefix (W.contents (written_to self.old))
             (W.contents (written_to self.new)) (unwritten self.old) []) }
+        ensures write { write_failed self.new ≡ is_write_error result }
         ensures only_write { IfErr result IsOfWrite }
     {
         write_all(&mut self.writer, self.buffer.as_slice())?;
@@ -134,6 +137,7 @@ impl<W: Write> Output<W> {
 
     // Adds what the task prints for a path. Returns true if the path is answered.
     pub(crate) fn answer(&mut self, task: &Task<'_>, path: Path<'_>) -> Result<bool, RunError>
+        requires { write_failed self.old ≡ false }
         ensures ok { let value = task_value task.now in
             OnOk result (Emits (W.contents (written_to self.old))
             (W.contents (written_to self.new)) (unwritten self.old) (unwritten self.new)
@@ -145,6 +149,7 @@ impl<W: Write> Output<W> {
             OnErr result (EmitsPrefix (W.contents (written_to self.old))
             (W.contents (written_to self.new)) (unwritten self.old)
             (text_for value.command value.settings path.entry.bytes.now)) }
+        ensures write { write_failed self.new ≡ is_write_error result }
         ensures no_read { IfErr result (λ error. (error ≡ RunError.Read) → ⊥) }
     {
         let is_answered = push_answers(task, path, &mut self.buffer)?;
@@ -156,10 +161,13 @@ impl<W: Write> Output<W> {
 
     // Writes the pending bytes and a text, and flushes.
     pub(crate) fn write_text(&mut self, text: &[u8]) -> Result<(), RunError>
+        requires { write_failed self.old ≡ false }
         ensures ok { OnOk result (Appends (W.contents (written_to self.old))
             (W.contents (written_to self.new)) (unwritten self.old ++ text.now)) }
         ensures err { OnErr result (AppendsPrefix (W.contents (written_to self.old))
             (W.contents (written_to self.new)) (unwritten self.old ++ text.now)) }
+        ensures write { write_failed self.new ≡ is_write_error result }
+        ensures flushed { OnOk result (IsTrue (has_flushed self.new)) }
         ensures no_read { IfErr result (λ error. (error ≡ RunError.Read) → ⊥) }
     {
         self.buffer.extend_from_slice(text)?;
@@ -168,14 +176,17 @@ impl<W: Write> Output<W> {
 
     // Writes the pending bytes, and flushes.
     pub(crate) fn finish(&mut self) -> Result<(), RunError>
+        requires { write_failed self.old ≡ false }
         ensures ok { OnOk result (Appends (W.contents (written_to self.old))
             (W.contents (written_to self.new)) (unwritten self.old)) }
         ensures err { OnErr result (AppendsPrefix (W.contents (written_to self.old))
             (W.contents (written_to self.new)) (unwritten self.old)) }
+        ensures write { write_failed self.new ≡ is_write_error result }
+        ensures flushed { OnOk result (IsTrue (has_flushed self.new)) }
         ensures only_write { IfErr result IsOfWrite }
     {
         self.write_out()?;
-        match self.writer.flush() {
+        match self.writer.flush_once() {
             Ok(()) => Ok(()),
             Err(error) => Err(write_error(&error)),
         }
@@ -186,99 +197,74 @@ impl<W: Write> Output<W> {
 // it.
 #[derive(Drop)]
 pub(crate) struct Messages<E> {
-    writer: E,
+    writer: Watched<E>,
     line: Vec<u8>,
-    has_failed: bool,
 }
 
 impl<E: Write> Messages<E> {
     // Creates messages to a writer that has not failed.
     pub(crate) fn new(alloc: Global, writer: E) -> Messages<E>
         ensures writer { told_to result ≡ writer }
-        ensures failed { has_failed result ≡ false }
+        ensures failed { is_deaf result ≡ false }
     {
         Messages {
-            writer,
+            writer: Watched::new(writer),
             line: Vec::new(alloc),
-            has_failed: false,
-        }
-    }
-
-    // Writes the line, unless a write has failed before.
-    fn send(&mut self)
-        ensures told { Tells (has_failed self.old) (has_failed self.new)
-            (E.contents (told_to self.old)) (E.contents (told_to self.new)) (line_of self.old) }
-    {
-        if !self.has_failed {
-            self.has_failed = write_all(&mut self.writer, self.line.as_slice()).is_err();
         }
     }
 
     // Writes the message for a path that is not answered.
     pub(crate) fn report(&mut self, task: &Task<'_>, path: Path<'_>) -> Result<(), RunError>
         ensures told { let value = task_value task.now in
-            OnOk result (Tells (has_failed self.old) (has_failed self.new)
+            OnOk result (Tells (is_deaf self.old) (is_deaf self.new)
             (E.contents (told_to self.old)) (E.contents (told_to self.new))
             (message_for value.command value.settings path.entry.bytes.now)) }
-        ensures err { OnErr result (Tells (has_failed self.old) (has_failed self.new)
+        ensures err { OnErr result (Tells (is_deaf self.old) (is_deaf self.new)
             (E.contents (told_to self.old)) (E.contents (told_to self.new)) []) }
         ensures only_memory { IfErr result (λ error. error ≡ RunError.Memory) }
     {
         self.line.clear();
         push_message(task, path, &mut self.line)?;
-        self.send();
+        send(&mut self.writer, self.line.as_slice());
         Ok(())
     }
 
     // Writes the message for wrong usage.
     pub(crate) fn report_usage(&mut self, error: UsageError<'_>) -> Result<(), RunError>
-        ensures told { OnOk result (Tells (has_failed self.old) (has_failed self.new)
+        ensures told { OnOk result (Tells (is_deaf self.old) (is_deaf self.new)
             (E.contents (told_to self.old)) (E.contents (told_to self.new))
             (usage_line (usage_value error.entry))) }
-        ensures err { OnErr result (Tells (has_failed self.old) (has_failed self.new)
+        ensures err { OnErr result (Tells (is_deaf self.old) (is_deaf self.new)
             (E.contents (told_to self.old)) (E.contents (told_to self.new)) []) }
         ensures only_memory { IfErr result (λ error. error ≡ RunError.Memory) }
     {
         self.line.clear();
         push_usage(error, &mut self.line)?;
-        self.send();
+        send(&mut self.writer, self.line.as_slice());
         Ok(())
     }
 
-    // Writes the message for an error of the run, unless `is_quiet` or memory is out for it.
+    // Writes the message for an error of the run, unless `is_quiet`.
     pub(crate) fn report_error(&mut self, is_quiet: bool, error: RunError)
-        ensures told { (said : Bool) × Tells (has_failed self.old) (has_failed self.new)
+        ensures { Tells (is_deaf self.old) (is_deaf self.new)
             (E.contents (told_to self.old)) (E.contents (told_to self.new))
-            (if said then error_line is_quiet error else []) }
+            (error_line is_quiet error) }
     {
-        self.line.clear();
-        if push_error(is_quiet, error, &mut self.line).is_ok() {
-            self.send();
+        if !is_quiet {
+            send(&mut self.writer, line_of(error));
         }
     }
 }
 
-// Returns the message for an error.
-fn message_of(error: RunError) -> &'static [u8]
-    ensures { result.now ≡ error_text error }
+// Returns the line for an error, which needs no memory. It is empty if nobody reads the output any
+// more, and for an error that the caller reports.
+fn line_of(error: RunError) -> &'static [u8]
+    ensures { result.now ≡ error_line false error }
 {
     match error {
-        RunError::Read => b"read error",
-        RunError::Write => b"write error",
-        RunError::Closed => b"output is closed",
-        RunError::Memory | RunError::Arguments => b"out of memory",
+        RunError::Read => b"upath: read error\n",
+        RunError::Write => b"upath: write error\n",
+        RunError::Memory => b"upath: out of memory\n",
+        RunError::Closed | RunError::Arguments => b"",
     }
-}
-
-// Appends the line for an error, unless `is_quiet` or nobody reads the output any more.
-fn push_error(is_quiet: bool, error: RunError, out: &mut Vec<u8>) -> Result<(), AllocError>
-    ensures { OnOk result (out.new.items ≡ out.old.items ++ error_line is_quiet error) }
-{
-    if is_quiet || error == RunError::Closed {
-        return Ok(());
-    }
-    out.extend_from_slice(b"upath: ")?;
-    out.extend_from_slice(message_of(error))?;
-    out.push(b'\n')?;
-    Ok(())
 }

@@ -1,8 +1,9 @@
 //! Why a path has no answer.
 ghost use Rattle.std.specs.Prelude.{◌≡◌, ◌++◌, IfOk, OnOk, option_map};
 ghost use Rattle.upath_commands.specs.Invocations.{command_value};
-ghost use Rattle.upath_commands.specs.Refusals.{join_reason, reason_line, reason_of};
-ghost use Rattle.upath_commands.specs.Refusals.{unkey_reason};
+ghost use Rattle.unix_path.specs.Parts.{is_rooted};
+ghost use Rattle.upath_commands.specs.Refusals.{join_reason, no_relative, reason_line, reason_of};
+ghost use Rattle.upath_commands.specs.Refusals.{reason_text, unkey_reason};
 
 use crate::command::{Command, JoinRule};
 use crate::escapes::escapes;
@@ -11,6 +12,28 @@ use crate::shown::push_shown;
 use path_within::within::has_root_or_parent_dir;
 use std::alloc::{AllocError, Global};
 use unix_path::Path;
+
+/// Why a path has no answer.
+///
+/// `upath name a/..` has the reason `Plain` of `no file name`.
+#[derive(Clone, Copy)]
+pub enum Reason<'a> {
+    /// This text.
+    Plain(&'static [u8]),
+    /// There is no relative path from this directory, and this text says why.
+    NoRelative(Path<'a>, &'static [u8]),
+}
+
+// Returns why there is no relative path.
+fn no_relative(dir: Path<'_>, path: Path<'_>) -> &'static [u8]
+    ensures { result.now ≡ no_relative (is_rooted dir.entry.bytes.now)
+        (is_rooted path.entry.bytes.now) }
+{
+    match (dir.has_root(), path.has_root()) {
+        (true, false) | (false, true) => b", as only one of them has a leading slash",
+        _ => b", which has a .. that the path lacks",
+    }
+}
 
 // Returns why a path is refused that the rule refuses.
 fn join_reason(rule: JoinRule, path: Path<'_>) -> &'static [u8]
@@ -37,36 +60,51 @@ fn unkey_reason(alloc: Global, null: bool, text: &[u8]) -> Result<&'static [u8],
 }
 
 // Returns why a path has no answer that has none. Allocates for `unkey`.
-pub(crate) fn reason_of(
+pub(crate) fn reason_of<'a>(
     alloc: Global,
-    command: Command<'_>,
+    command: Command<'a>,
     null: bool,
     path: Path<'_>,
-) -> Result<Option<&'static [u8]>, AllocError>
-    ensures { IfOk result (λ found. option_map (λ reason. reason.now) found
+) -> Result<Option<Reason<'a>>, AllocError>
+    ensures { IfOk result (λ found. option_map reason_text found
         ≡ reason_of (command_value command.entry) null path.entry.bytes.now) }
 {
-    Ok(match command {
-        Command::Parent => Some(b"no parent"),
-        Command::Name | Command::Stem => Some(b"no file name"),
-        Command::Extension => Some(b"no extension"),
-        Command::Join(rule, _) => Some(join_reason(rule, path)),
-        Command::Strip(_) => Some(b"doesn't start with the base"),
-        Command::Relative(_) => Some(b"no relative path"),
-        Command::Unkey => Some(unkey_reason(alloc, null, path.bytes)?),
-        Command::Check(_) => Some(b"is out of order"),
-        _ => None,
-    })
+    Ok(Some(match command {
+        Command::Parent => Reason::Plain(b"no parent"),
+        Command::Name | Command::Stem => Reason::Plain(b"no file name"),
+        Command::Extension => Reason::Plain(b"no extension"),
+        Command::Join(rule, _) => Reason::Plain(join_reason(rule, path)),
+        Command::Strip(_) => Reason::Plain(b"doesn't start with the base"),
+        Command::Relative(dir) => Reason::NoRelative(dir, no_relative(dir, path)),
+        Command::Unkey => Reason::Plain(unkey_reason(alloc, null, path.bytes)?),
+        Command::Check(_) => Reason::Plain(b"is out of order"),
+        _ => return Ok(None),
+    }))
+}
+
+// Appends a reason.
+fn push_text(reason: Reason<'_>, out: &mut Vec<u8>) -> Result<(), AllocError>
+    ensures { OnOk result (out.new.items ≡ out.old.items ++ reason_text reason.entry) }
+{
+    match reason {
+        Reason::Plain(text) => out.extend_from_slice(text)?,
+        Reason::NoRelative(dir, text) => {
+            out.extend_from_slice(b"no relative path from ")?;
+            push_shown(dir.bytes, out)?;
+            out.extend_from_slice(text)?;
+        }
+    }
+    Ok(())
 }
 
 // Appends the line for a path and a reason.
 pub(crate) fn push_reason(
     path: Path<'_>,
-    reason: Option<&[u8]>,
+    reason: Option<Reason<'_>>,
     out: &mut Vec<u8>,
 ) -> Result<(), AllocError>
     ensures { OnOk result (out.new.items ≡ out.old.items
-        ++ reason_line path.entry.bytes.now (option_map (λ reason. reason.now) reason.entry)) }
+        ++ reason_line path.entry.bytes.now (option_map reason_text reason.entry)) }
 {
     let Some(reason) = reason else {
         return Ok(());
@@ -74,7 +112,7 @@ pub(crate) fn push_reason(
     out.extend_from_slice(b"upath: ")?;
     push_shown(path.bytes, out)?;
     out.extend_from_slice(b": ")?;
-    out.extend_from_slice(reason)?;
+    push_text(reason, out)?;
     out.push(b'\n')?;
     Ok(())
 }

@@ -1,14 +1,16 @@
 //! What is done for a list of arguments.
 ghost use Rattle.std.specs.Prelude.{◌≡◌, ◌<◌, [], IfOk, IfErr, IfSome, OnOk, OnErr, None, true};
-ghost use Rattle.std.specs.Prelude.{false, if◌then◌else◌};
+ghost use Rattle.std.specs.Prelude.{◌↔◌, false, if◌then◌else◌, IsErrAnd, IsErrOf, IsTrue};
 ghost use Rattle.std.specs.Ordering.{is_eq};
 ghost use Rattle.unix_path.specs.Order.{values_cmp};
 ghost use Rattle.unix_path.specs.Parts.{values};
 ghost use Rattle.upath_commands.specs.Arguments.{meaning_of};
 ghost use Rattle.upath_commands.specs.Invocations.{command_value, invocation_value, usage_value};
-ghost use Rattle.upath_commands.specs.Outputs.{error_line};
+ghost use Rattle.upath_commands.specs.Outputs.{error_line, is_read_error, is_write_error};
+ghost use Rattle.upath_commands.specs.Outputs.{IsOfWrite};
 ghost use Rattle.upath_commands.specs.Records.{paths_of};
-ghost use Rattle.upath_commands.specs.Replies.{Answered, IsNew, state_of, Stopped};
+ghost use Rattle.upath_commands.specs.Replies.{Answered, answers_failed, answers_flushed, IsNew};
+ghost use Rattle.upath_commands.specs.Replies.{state_of, Stopped};
 ghost use Rattle.upath_commands.specs.Runs.{asked, Broken, command_yes, Done, Failed, help_text};
 ghost use Rattle.upath_commands.specs.Runs.{hides_errors, input_if, is_quiet, messages_for};
 ghost use Rattle.upath_commands.specs.Runs.{output_for, reads, reads_input, run_messages};
@@ -16,6 +18,7 @@ ghost use Rattle.upath_commands.specs.Runs.{run_output, run_yes, status_for, yes
 ghost use Rattle.upath_commands.specs.Sorting.{chosen, is_gathered};
 ghost use Rattle.upath_commands.specs.Tasks.{messages_of, output_of, task_value};
 ghost use Rattle.upath_commands.specs.Usage.{usage_line};
+ghost use Rattle.upath_commands.specs.Watched.{has_failed, watched_inner};
 
 use crate::arguments::invocation_of;
 use crate::command::{Command, Invocation};
@@ -29,6 +32,7 @@ use crate::selection::Selection;
 use crate::sorting::{choose, is_gathered, is_uniq};
 use crate::task::Task;
 use crate::usage::UsageError;
+use crate::watched::Watched;
 use std::alloc::Global;
 use std::io::{Read, Write};
 use unix_path::Path;
@@ -76,13 +80,16 @@ fn answer_gathered<W: Write, E: Write>(
     mut paths: Vec<Path<'_>>,
     replies: &mut Replies<W, E>,
 ) -> Result<(), RunError>
-    requires { is_gathered (command_value task.now.command) ≡ true }
+    requires write { answers_failed replies.old ≡ false }
+    requires gathered { is_gathered (command_value task.now.command) ≡ true }
     ensures ok { let value = task_value task.now in OnOk result (Answered value
         (state_of W.contents E.contents replies.old) (state_of W.contents E.contents replies.new)
         (chosen value.command (paths_of paths.entry.items))) }
     ensures err { let value = task_value task.now in OnErr result (Stopped value
         (state_of W.contents E.contents replies.old) (state_of W.contents E.contents replies.new)
         (chosen value.command (paths_of paths.entry.items))) }
+    ensures write { answers_failed replies.new ≡ is_write_error result }
+    ensures no_read { IfErr result (λ error. (error ≡ RunError.Read) → ⊥) }
 {
     choose(task.command, &mut paths)?;
     let all = &mut Selection::All;
@@ -93,18 +100,22 @@ fn answer_gathered<W: Write, E: Write>(
 fn gather_input<R: Read, W: Write, E: Write>(
     alloc: Global,
     task: &Task<'_>,
-    reader: &mut R,
+    reader: &mut Watched<R>,
     replies: &mut Replies<W, E>,
 ) -> Result<(), RunError>
-    requires { is_gathered (command_value task.now.command) ≡ true }
+    requires write { answers_failed replies.old ≡ false }
+    requires read { has_failed reader.old ≡ false }
+    requires gathered { is_gathered (command_value task.now.command) ≡ true }
     ensures ok { let value = task_value task.now in
-        OnOk result (IfSome (R.remaining reader.old) (λ input. Answered value
+        OnOk result (IfSome (R.remaining (watched_inner reader.old)) (λ input. Answered value
         (state_of W.contents E.contents replies.old) (state_of W.contents E.contents replies.new)
         (asked value.command value.settings None input))) }
     ensures err { let value = task_value task.now in
-        OnErr result (IfSome (R.remaining reader.old) (λ input. Stopped value
+        OnErr result (IfSome (R.remaining (watched_inner reader.old)) (λ input. Stopped value
         (state_of W.contents E.contents replies.old) (state_of W.contents E.contents replies.new)
         (asked value.command value.settings None input))) }
+    ensures write { answers_failed replies.new ≡ is_write_error result }
+    ensures read { has_failed reader.new ≡ is_read_error result }
 {
     let input = read_all(alloc, reader)?;
     let paths = records_in(alloc, input.as_slice(), end_of(task.settings))?;
@@ -118,12 +129,15 @@ fn answer_operands<W: Write, E: Write>(
     paths: &[Path<'_>],
     replies: &mut Replies<W, E>,
 ) -> Result<(), RunError>
+    requires { answers_failed replies.old ≡ false }
     ensures ok { let value = task_value task.now in OnOk result (Answered value
         (state_of W.contents E.contents replies.old) (state_of W.contents E.contents replies.new)
         (chosen value.command (paths_of paths.now))) }
     ensures err { let value = task_value task.now in OnErr result (Stopped value
         (state_of W.contents E.contents replies.old) (state_of W.contents E.contents replies.new)
         (chosen value.command (paths_of paths.now))) }
+    ensures write { answers_failed replies.new ≡ is_write_error result }
+    ensures no_read { IfErr result (λ error. (error ≡ RunError.Read) → ⊥) }
 {
     if is_gathered(task.command) {
         let paths = Vec::from_slice(alloc, paths)?;
@@ -137,17 +151,21 @@ fn answer_operands<W: Write, E: Write>(
 fn answer_records_read<R: Read, W: Write, E: Write>(
     alloc: Global,
     task: &Task<'_>,
-    reader: &mut R,
+    reader: &mut Watched<R>,
     replies: &mut Replies<W, E>,
 ) -> Result<(), RunError>
+    requires write { answers_failed replies.old ≡ false }
+    requires read { has_failed reader.old ≡ false }
     ensures ok { let value = task_value task.now in
-        OnOk result (IfSome (R.remaining reader.old) (λ input. Answered value
+        OnOk result (IfSome (R.remaining (watched_inner reader.old)) (λ input. Answered value
         (state_of W.contents E.contents replies.old) (state_of W.contents E.contents replies.new)
         (asked value.command value.settings None input))) }
     ensures err { let value = task_value task.now in
-        OnErr result (IfSome (R.remaining reader.old) (λ input. Stopped value
+        OnErr result (IfSome (R.remaining (watched_inner reader.old)) (λ input. Stopped value
         (state_of W.contents E.contents replies.old) (state_of W.contents E.contents replies.new)
         (asked value.command value.settings None input))) }
+    ensures write { answers_failed replies.new ≡ is_write_error result }
+    ensures read { has_failed reader.new ≡ is_read_error result }
 {
     if is_gathered(task.command) {
         return gather_input(alloc, task, reader, replies);
@@ -171,6 +189,7 @@ fn finish<W: Write, E: Write>(
     command: Command<'_>,
     replies: &mut Replies<W, E>,
 ) -> Result<bool, RunError>
+    requires { answers_failed replies.old ≡ false }
     ensures ok { OnOk result (Done
         (state_of W.contents E.contents replies.old)
         (state_of W.contents E.contents replies.new) [] []) }
@@ -179,6 +198,9 @@ fn finish<W: Write, E: Write>(
     ensures err { OnErr result (Broken
         (state_of W.contents E.contents replies.old)
         (state_of W.contents E.contents replies.new) [] []) }
+    ensures write { answers_failed replies.new ≡ is_write_error result }
+    ensures flushed { OnOk result (IsTrue (answers_flushed replies.new)) }
+    ensures no_read { IfErr result (λ error. (error ≡ RunError.Read) → ⊥) }
 {
     replies.answers.finish()?;
     Ok(yes_of(command, replies.tally))
@@ -204,6 +226,9 @@ fn run_operands<W: Write, E: Write>(
         OnErr result (Broken
         (state_of W.contents E.contents replies.old) (state_of W.contents E.contents replies.new)
         (output_of value paths) (messages_of value paths)) }
+    ensures write { answers_failed replies.new ≡ is_write_error result }
+    ensures flushed { OnOk result (IsTrue (answers_flushed replies.new)) }
+    ensures no_read { IfErr result (λ error. (error ≡ RunError.Read) → ⊥) }
 {
     answer_operands(alloc, task, paths, replies)?;
     finish(task.command, replies)
@@ -213,25 +238,29 @@ fn run_operands<W: Write, E: Write>(
 fn run_input<R: Read, W: Write, E: Write>(
     alloc: Global,
     task: &Task<'_>,
-    reader: &mut R,
+    reader: &mut Watched<R>,
     replies: &mut Replies<W, E>,
 ) -> Result<bool, RunError>
-    requires { IsNew (state_of W.contents E.contents replies.old) }
+    requires read { has_failed reader.old ≡ false }
+    requires new { IsNew (state_of W.contents E.contents replies.old) }
     ensures ok { let value = task_value task.now in
-        OnOk result (IfSome (R.remaining reader.old) (λ input.
+        OnOk result (IfSome (R.remaining (watched_inner reader.old)) (λ input.
         let paths = asked value.command value.settings None input in
         Done
         (state_of W.contents E.contents replies.old) (state_of W.contents E.contents replies.new)
         (output_of value paths) (messages_of value paths))) }
     ensures yes { let value = task_value task.now in IfOk result (λ yes.
-        IfSome (R.remaining reader.old) (λ input.
+        IfSome (R.remaining (watched_inner reader.old)) (λ input.
         yes ≡ command_yes value (asked value.command value.settings None input))) }
     ensures err { let value = task_value task.now in
-        OnErr result (IfSome (R.remaining reader.old) (λ input.
+        OnErr result (IfSome (R.remaining (watched_inner reader.old)) (λ input.
         let paths = asked value.command value.settings None input in
         Broken
         (state_of W.contents E.contents replies.old) (state_of W.contents E.contents replies.new)
         (output_of value paths) (messages_of value paths))) }
+    ensures write { answers_failed replies.new ≡ is_write_error result }
+    ensures read { has_failed reader.new ≡ is_read_error result }
+    ensures flushed { OnOk result (IsTrue (answers_flushed replies.new)) }
 {
     answer_records_read(alloc, task, reader, replies)?;
     finish(task.command, replies)
@@ -239,6 +268,7 @@ fn run_input<R: Read, W: Write, E: Write>(
 
 // Writes a text, and flushes. Returns true.
 fn run_text<W: Write, E: Write>(text: &[u8], replies: &mut Replies<W, E>) -> Result<bool, RunError>
+    requires { answers_failed replies.old ≡ false }
     ensures ok { OnOk result (Done
         (state_of W.contents E.contents replies.old)
         (state_of W.contents E.contents replies.new) text.now []) }
@@ -246,6 +276,9 @@ fn run_text<W: Write, E: Write>(text: &[u8], replies: &mut Replies<W, E>) -> Res
     ensures err { OnErr result (Broken
         (state_of W.contents E.contents replies.old)
         (state_of W.contents E.contents replies.new) text.now []) }
+    ensures write { answers_failed replies.new ≡ is_write_error result }
+    ensures flushed { OnOk result (IsTrue (answers_flushed replies.new)) }
+    ensures no_read { IfErr result (λ error. (error ≡ RunError.Read) → ⊥) }
 {
     replies.answers.write_text(text)?;
     Ok(true)
@@ -257,6 +290,7 @@ fn run_equal<W: Write, E: Write>(
     other: Path<'_>,
     replies: &mut Replies<W, E>,
 ) -> Result<bool, RunError>
+    requires { answers_failed replies.old ≡ false }
     ensures ok { OnOk result (Done
         (state_of W.contents E.contents replies.old)
         (state_of W.contents E.contents replies.new) [] []) }
@@ -265,6 +299,9 @@ fn run_equal<W: Write, E: Write>(
     ensures err { OnErr result (Broken
         (state_of W.contents E.contents replies.old)
         (state_of W.contents E.contents replies.new) [] []) }
+    ensures write { answers_failed replies.new ≡ is_write_error result }
+    ensures flushed { OnOk result (IsTrue (answers_flushed replies.new)) }
+    ensures no_read { IfErr result (λ error. (error ≡ RunError.Read) → ⊥) }
 {
     replies.answers.finish()?;
     Ok(path == other)
@@ -275,25 +312,32 @@ fn run<R: Read, W: Write, E: Write>(
     alloc: Global,
     invocation: &Invocation<'_>,
     texts: Texts<'_>,
-    reader: &mut R,
+    reader: &mut Watched<R>,
     replies: &mut Replies<W, E>,
 ) -> Result<bool, RunError>
-    requires { IsNew (state_of W.contents E.contents replies.old) }
+    requires read { has_failed reader.old ≡ false }
+    requires new { IsNew (state_of W.contents E.contents replies.old) }
     ensures ok { let value = invocation_value invocation.now in
-        OnOk result (IfSome (input_if (reads_input value) (R.remaining reader.old)) (λ input.
+        OnOk result (IfSome (input_if (reads_input value)
+        (R.remaining (watched_inner reader.old))) (λ input.
         Done
         (state_of W.contents E.contents replies.old) (state_of W.contents E.contents replies.new)
         (run_output texts.entry value input) (run_messages value input))) }
     ensures yes { let value = invocation_value invocation.now in IfOk result (λ yes.
-        IfSome (input_if (reads_input value) (R.remaining reader.old)) (λ input.
+        IfSome (input_if (reads_input value)
+        (R.remaining (watched_inner reader.old))) (λ input.
         yes ≡ run_yes value input)) }
     ensures err { let value = invocation_value invocation.now in
-        OnErr result (IfSome (input_if (reads_input value) (R.remaining reader.old)) (λ input.
+        OnErr result (IfSome (input_if (reads_input value)
+        (R.remaining (watched_inner reader.old))) (λ input.
         Broken
         (state_of W.contents E.contents replies.old) (state_of W.contents E.contents replies.new)
         (run_output texts.entry value input) (run_messages value input))) }
     ensures unread { reads_input (invocation_value invocation.now) ≡ false
         → reader.new ≡ reader.old }
+    ensures write { answers_failed replies.new ≡ is_write_error result }
+    ensures read { has_failed reader.new ≡ is_read_error result }
+    ensures flushed { OnOk result (IsTrue (answers_flushed replies.new)) }
 {
     match invocation {
         Invocation::Help(name) => run_text(help_text(texts, name.bytes), replies),
@@ -327,27 +371,34 @@ fn run_invocation<R: Read, W: Write, E: Write>(
     alloc: Global,
     invocation: &Invocation<'_>,
     texts: Texts<'_>,
-    reader: &mut R,
+    reader: &mut Watched<R>,
     replies: &mut Replies<W, E>,
 ) -> Result<u8, RunError>
-    requires { IsNew (state_of W.contents E.contents replies.old) }
+    requires read { has_failed reader.old ≡ false }
+    requires new { IsNew (state_of W.contents E.contents replies.old) }
     ensures ok { let value = invocation_value invocation.now in
-        OnOk result (IfSome (input_if (reads_input value) (R.remaining reader.old)) (λ input.
+        OnOk result (IfSome (input_if (reads_input value)
+        (R.remaining (watched_inner reader.old))) (λ input.
         Done
         (state_of W.contents E.contents replies.old) (state_of W.contents E.contents replies.new)
         (run_output texts.entry value input) (run_messages value input))) }
     ensures status { let value = invocation_value invocation.now in IfOk result (λ status.
-        IfSome (input_if (reads_input value) (R.remaining reader.old)) (λ input.
+        IfSome (input_if (reads_input value)
+        (R.remaining (watched_inner reader.old))) (λ input.
         status ≡ (if run_yes value input then 0 else 1))) }
     ensures range { IfOk result (λ status. status < 3) }
     ensures err { let value = invocation_value invocation.now in IfErr result (λ error.
-        IfSome (input_if (reads_input value) (R.remaining reader.old)) (λ input.
+        IfSome (input_if (reads_input value)
+        (R.remaining (watched_inner reader.old))) (λ input.
         Failed
         (state_of W.contents E.contents replies.old) (state_of W.contents E.contents replies.new)
         (run_output texts.entry value input) (run_messages value input)
         (error_line (is_quiet value) error))) }
     ensures unread { reads_input (invocation_value invocation.now) ≡ false
         → reader.new ≡ reader.old }
+    ensures write { answers_failed replies.new ≡ is_write_error result }
+    ensures read { has_failed reader.new ≡ is_read_error result }
+    ensures flushed { OnOk result (IsTrue (answers_flushed replies.new)) }
 {
     match run(alloc, invocation, texts, reader, replies) {
         Ok(true) => Ok(0),
@@ -372,6 +423,8 @@ fn refuse<W: Write, E: Write>(
     ensures err { IfErr result (λ error. Failed
         (state_of W.contents E.contents replies.old) (state_of W.contents E.contents replies.new)
         [] (usage_line (usage_value usage.entry)) (error_line false error)) }
+    ensures write { answers_failed replies.new ≡ is_write_error result }
+    ensures no_read { IfErr result (λ error. (error ≡ RunError.Read) → ⊥) }
 {
     match replies.messages.report_usage(usage) {
         Ok(()) => Ok(2),
@@ -394,29 +447,40 @@ pub fn run_arguments<R: Read, W: Write, E: Write>(
     alloc: Global,
     arguments: &[Path<'_>],
     texts: Texts<'_>,
-    reader: &mut R,
+    reader: &mut Watched<R>,
     replies: &mut Replies<W, E>,
 ) -> Result<u8, RunError>
-    requires { IsNew (state_of W.contents E.contents replies.old) }
+    requires reader { has_failed reader.old ≡ false }
+    requires new { IsNew (state_of W.contents E.contents replies.old) }
 
     // What is written and the status, for a known input.
     ensures ok { let meaning = meaning_of (paths_of arguments.now) in
-        OnOk result (IfSome (input_if (reads meaning) (R.remaining reader.old)) (λ input.
+        OnOk result (IfSome (input_if (reads meaning)
+        (R.remaining (watched_inner reader.old))) (λ input.
         Done
         (state_of W.contents E.contents replies.old) (state_of W.contents E.contents replies.new)
         (output_for texts.entry meaning input) (messages_for meaning input))) }
     ensures status { let meaning = meaning_of (paths_of arguments.now) in IfOk result (λ status.
-        IfSome (input_if (reads meaning) (R.remaining reader.old)) (λ input.
+        IfSome (input_if (reads meaning)
+        (R.remaining (watched_inner reader.old))) (λ input.
         status ≡ status_for meaning input)) }
     ensures range { IfOk result (λ status. status < 3) }
 
     // What is left of both after an error, and the message for it.
     ensures err { let meaning = meaning_of (paths_of arguments.now) in IfErr result (λ error.
-        IfSome (input_if (reads meaning) (R.remaining reader.old)) (λ input.
+        IfSome (input_if (reads meaning)
+        (R.remaining (watched_inner reader.old))) (λ input.
         Failed
         (state_of W.contents E.contents replies.old) (state_of W.contents E.contents replies.new)
         (output_for texts.entry meaning input) (messages_for meaning input)
         (error_line (hides_errors meaning) error))) }
+
+    // The error is `Read` if and only if a read has failed, and `Write` or `Closed` if and only if
+    // a write or a flush of answers has failed.
+    ensures read { IsErrOf result RunError.Read ↔ IsTrue (has_failed reader.new) }
+    ensures write { IsErrAnd result IsOfWrite ↔ IsTrue (answers_failed replies.new) }
+    ensures flushed { IfOk result (λ status. status < 2
+        → IsTrue (answers_flushed replies.new)) }
 
     // Nothing is read but for a command without paths.
     ensures unread { reads (meaning_of (paths_of arguments.now)) ≡ false

@@ -2,11 +2,13 @@
 ghost use Rattle.std.specs.Prelude.{◌≡◌, IfOk, map, option_map};
 ghost use Rattle.std.specs.Prelude.{◌++◌, ◌∷◌, ◌≤◌, [], find, length};
 ghost use Rattle.std.specs.Option.{option_to_list};
-ghost use Rattle.upath_commands.specs.Arguments.{asked_in, dashes_at, fault_of, first_of};
+ghost use Rattle.upath_commands.specs.Arguments.{asked_in, asked_of, dashes_at, fault_of, first_of};
 ghost use Rattle.upath_commands.specs.Arguments.{foreign_option, has, has_newline};
 ghost use Rattle.upath_commands.specs.Arguments.{is_dashes, last_value, newline_fault, operands_of};
 ghost use Rattle.upath_commands.specs.Arguments.{request_after, requested, unknown_option};
-ghost use Rattle.upath_commands.specs.Invocations.{invocation_value, path_bytes, usage_value};
+ghost use Rattle.upath_commands.specs.Invocations.{invocation_value, meaning_value, view_bytes};
+ghost use Rattle.upath_commands.specs.Invocations.{usage_value};
+ghost use Rattle.upath_commands.specs.Options.{verb_by_name};
 ghost use Rattle.upath_commands.specs.Items.{item_value};
 
 use crate::command::Invocation;
@@ -37,7 +39,7 @@ pub fn has(items: &[Item<'_>], option: Flag) -> bool
 ///
 /// For `Request::Version` it is `Invocation::Version`.
 pub fn requested(request: Request, name: Path<'_>) -> Invocation<'_>
-    ensures { invocation_value result ≡ requested request (path_bytes name.entry) }
+    ensures { invocation_value result ≡ requested request (view_bytes name.entry) }
 {
     match request {
         Request::Help => Invocation::Help(name),
@@ -45,27 +47,43 @@ pub fn requested(request: Request, name: Path<'_>) -> Invocation<'_>
     }
 }
 
-// Returns what the first of these items asks for, just after the command with this name.
-fn request_after<'a>(name: Path<'a>, items: &[Item<'_>]) -> Option<Invocation<'a>>
-    ensures { option_map invocation_value result
-        ≡ request_after (path_bytes name.entry) (map item_value items.now) }
+// Returns what is asked for just after this name, or wrong usage if no command has it.
+fn asked_of<'a>(request: Request, name: Path<'a>) -> Result<Invocation<'a>, UsageError<'a>>
+    ensures { meaning_value result ≡ asked_of request (view_bytes name.entry)
+        (verb_by_name (view_bytes name.entry)) }
+{
+    match verb_by_name(name.bytes) {
+        Some(_) => Ok(requested(request, name)),
+        None => Err(UsageError {
+            kind: UsageErrorKind::UnknownCommand,
+            argument: name,
+        }),
+    }
+}
+
+// Returns what the first of these items asks for, just after this operand.
+fn request_after<'a>(
+    name: Path<'a>,
+    items: &[Item<'_>],
+) -> Option<Result<Invocation<'a>, UsageError<'a>>>
+    ensures { option_map meaning_value result
+        ≡ request_after (view_bytes name.entry) (map item_value items.now) }
 {
     let [first, ..] = items else {
         return None;
     };
     match first.kind {
-        ItemKind::Request(request) if verb_by_name(name.bytes).is_some() => {
-            Some(requested(request, name))
-        }
+        ItemKind::Request(request) => Some(asked_of(request, name)),
         _ => None,
     }
 }
 
-/// Returns what is asked for just after the command, or `None` if nothing is.
+/// Returns what is asked for just after the command, or `None` if nothing is. After another word it
+/// is wrong usage.
 ///
 /// For the items of `canon` and `--help` it is `Invocation::Help` of `canon`.
-pub fn request_in<'a>(items: &[Item<'a>]) -> Option<Invocation<'a>>
-    ensures { option_map invocation_value result ≡ asked_in (map item_value items.now) }
+pub fn request_in<'a>(items: &[Item<'a>]) -> Option<Result<Invocation<'a>, UsageError<'a>>>
+    ensures { option_map meaning_value result ≡ asked_in (map item_value items.now) }
 {
     for (index, item) in items.iter().enumerate() {
         if let ItemKind::Operand = item.kind {
@@ -106,7 +124,7 @@ pub fn fault_in<'a>(items: &[Item<'a>]) -> Option<UsageError<'a>>
 
 // Returns the wrong usage that an unknown option is.
 fn unknown_option(bytes: Path<'_>) -> UsageError<'_>
-    ensures { usage_value result ≡ unknown_option (path_bytes bytes.entry) }
+    ensures { usage_value result ≡ unknown_option (view_bytes bytes.entry) }
 {
     UsageError {
         kind: if bytes.bytes.len() == 1 {
@@ -140,7 +158,7 @@ pub fn foreign_option<'a>(verb: Verb, items: &[Item<'a>]) -> Option<UsageError<'
 ///
 /// For the items of `--from=a` and `Flag::From` it is `a`.
 pub fn last_value<'a>(items: &[Item<'a>], option: Flag) -> Option<Path<'a>>
-    ensures { option_map path_bytes result ≡ last_value (map item_value items.now) option }
+    ensures { option_map view_bytes result ≡ last_value (map item_value items.now) option }
 {
     let mut value = None;
     for item in items {
@@ -157,7 +175,7 @@ pub fn last_value<'a>(items: &[Item<'a>], option: Flag) -> Option<Path<'a>>
 ///
 /// For the items of `canon`, `-z` and `a` they are `canon` and `a`.
 pub fn operands_in<'a>(alloc: Global, items: &[Item<'a>]) -> Result<Vec<Path<'a>>, AllocError>
-    ensures { IfOk result (λ operands. map path_bytes operands.items
+    ensures { IfOk result (λ operands. map view_bytes operands.items
         ≡ operands_of (map item_value items.now)) }
 {
     let mut operands = Vec::new(alloc);
@@ -212,7 +230,7 @@ pub(crate) fn has_newline(bytes: &[u8]) -> bool
 
 // Returns the first operand with a newline, or the value of `--or` if only that has one.
 fn newline_in<'a>(items: &[Item<'a>], operands: &[Path<'a>]) -> Option<Path<'a>>
-    ensures { option_map path_bytes result ≡ find has_newline (map path_bytes operands.now
+    ensures { option_map view_bytes result ≡ find has_newline (map view_bytes operands.now
         ++ option_to_list (last_value (map item_value items.now) Flag.Or)) }
 {
     for operand in operands {
@@ -232,7 +250,7 @@ fn newline_in<'a>(items: &[Item<'a>], operands: &[Path<'a>]) -> Option<Path<'a>>
 /// For the items of `-z` there is none.
 pub fn newline_fault<'a>(items: &[Item<'a>], operands: &[Path<'a>]) -> Option<UsageError<'a>>
     ensures { option_map usage_value result
-        ≡ newline_fault (map item_value items.now) (map path_bytes operands.now) }
+        ≡ newline_fault (map item_value items.now) (map view_bytes operands.now) }
 {
     if has(items, Flag::Null) {
         return None;

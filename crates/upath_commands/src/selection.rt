@@ -1,4 +1,4 @@
-//! Which of the paths that come are answered.
+//! Which paths are answered.
 ghost use Rattle.std.specs.Prelude.{◌≡◌, ◌++◌, ◌∷◌, ℕ, List, IfOk, OnOk};
 ghost use Rattle.upath_commands.specs.Selections.{is_taken, selected, taken};
 ghost use Rattle.upath_commands.specs.Sorting.{firsts_if};
@@ -7,7 +7,7 @@ use path_table::PathTable;
 use std::alloc::{AllocError, Global};
 use unix_path::Path;
 
-/// Which of the paths that come are answered.
+/// Which paths are answered.
 ///
 /// `Selection::new(alloc, true)` takes `a/b`, and then neither `a//b` nor `a/b`.
 #[derive(Drop)]

@@ -3,7 +3,7 @@ ghost use Rattle.std.specs.Prelude.{◌≡◌, ◌++◌, IfOk, OnOk, is_some, op
 ghost use Rattle.unix_path.specs.Pointers.{cow_bytes};
 ghost use Rattle.upath_commands.specs.Answers.{Finds, record_output};
 ghost use Rattle.upath_commands.specs.Commands.{answer_of, fallback, is_answered_if};
-ghost use Rattle.upath_commands.specs.Invocations.{command_value, path_bytes, settings_value};
+ghost use Rattle.upath_commands.specs.Invocations.{command_value, view_bytes, settings_value};
 ghost use Rattle.upath_commands.specs.Refusals.{message_for};
 ghost use Rattle.upath_commands.specs.Tasks.{Prints, PrintsOnly, task_value};
 ghost use Rattle.std.specs.Option.{option_to_list};
@@ -72,8 +72,8 @@ fn is_answered_if(command: Command<'_>, has_answer: bool) -> bool
 
 // Returns what is printed for a path that is not answered.
 fn fallback<'a>(command: Command<'_>, text: Option<Path<'a>>) -> Option<Path<'a>>
-    ensures { option_map path_bytes result
-        ≡ fallback (command_value command.entry) (option_map path_bytes text.entry) }
+    ensures { option_map view_bytes result
+        ≡ fallback (command_value command.entry) (option_map view_bytes text.entry) }
 {
     match command {
         Command::Escapes(_) | Command::Under(_, _) | Command::Check(_) => None,

@@ -3,7 +3,7 @@
 use std::alloc::{AllocError, Global};
 use std::io;
 use std::io::{ErrorKind, Read};
-use upath_commands::{HelpText, Replies, RunError, Texts, argument_paths, run_arguments};
+use upath_commands::{HelpText, Replies, RunError, Texts, Watched, argument_paths, run_arguments};
 
 const COMMANDS: [HelpText<'static>; 1] = [HelpText {
     name: b"canon",
@@ -34,8 +34,9 @@ fn printed<R: Read>(alloc: Global, line: &str, reader: &mut R) -> Result<Vec<u8>
     };
     let mut answers = Vec::new(alloc);
     let mut messages = Vec::new(alloc);
+    let mut reader = Watched::new(reader);
     let mut replies = Replies::new(alloc, &mut answers, &mut messages);
-    let result = run_arguments(alloc, paths.as_slice(), texts, reader, &mut replies);
+    let result = run_arguments(alloc, paths.as_slice(), texts, &mut reader, &mut replies);
     drop(replies);
     let mut out = Vec::new(alloc);
     out.push(match result {
@@ -147,6 +148,8 @@ fn wrong_usage(rt: HostRuntime) {
     for (line, want) in [
         ("", "COMMAND is missing"),
         ("cannon", "cannon: unknown command"),
+        ("cannon --help", "cannon: unknown command"),
+        ("-x cannon -h", "cannon: unknown command"),
         ("canon -x", "-x: unknown option"),
         ("canon -\u{e9}a", "-\u{e9}: unknown option"),
         ("canon --nul", "--nul: unknown option"),
@@ -184,6 +187,14 @@ fn messages(rt: HostRuntime) {
             "name \\\u{7f}/..",
             "1||upath: \\x5c\\x7f/..: no file name\n",
         ),
+        (
+            "relative --from=/\u{7f} a",
+            "1||upath: a: no relative path from /\\x7f, as only one of them has a leading slash\n",
+        ),
+        (
+            "relative --from=../a b",
+            "1||upath: b: no relative path from ../a, which has a .. that the path lacks\n",
+        ),
     ] {
         assert!(rt; prints(rt.alloc(), line, &mut Broken, want), "at {line}");
     }
@@ -204,6 +215,24 @@ impl Read for Pairs<'_> {
     }
 }
 
+// A reader of a text, after which each read fails.
+#[derive(Drop)]
+struct Once<'a> {
+    text: &'a [u8],
+}
+
+impl Read for Once<'_> {
+    fn read(&mut self, buf: &mut [u8]) -> io::Result<usize> {
+        let count = self.text.len().min(buf.len());
+        if count == 0 {
+            return Err(io::Error::from(ErrorKind::Other));
+        }
+        buf[..count].copy_from_slice(&self.text[..count]);
+        self.text = &self.text[count..];
+        Ok(count)
+    }
+}
+
 #[test]
 fn inputs(rt: HostRuntime) {
     for (line, input, want) in [
@@ -217,6 +246,15 @@ fn inputs(rt: HostRuntime) {
         ("under a", "b\nc\n", "1||"),
     ] {
         let mut reader = Pairs {
+            text: input.as_bytes(),
+        };
+        assert!(rt; prints(rt.alloc(), line, &mut reader, want), "at {line}");
+    }
+    for (line, input, want) in [
+        ("escapes -q", "a\nb\n", "r||"),
+        ("under a", "b\na\n", "r|a\n|upath: read error\n"),
+    ] {
+        let mut reader = Once {
             text: input.as_bytes(),
         };
         assert!(rt; prints(rt.alloc(), line, &mut reader, want), "at {line}");

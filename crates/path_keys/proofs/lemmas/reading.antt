@@ -1,6 +1,6 @@
 -- Keys that are read code by code.
 pub mod FitLemmas
-pub mod ReadLemmas
+pub mod KeyValueLemmas
 -- Used only in this crate.
 pub mod NameLemmas
 pub mod TextLemmas

@@ -1,4 +1,4 @@
--- Keys: what they represent, and keys that begin with a base's key.
+-- Keys that begin with the key of a base.
 pub mod RowLemmas
 pub mod PassLemmas
 pub mod FilterLemmas

@@ -10,7 +10,7 @@ ghost use Rattle.unix_path.specs.Prefixes.{IsPrefixOf};
 ghost use Rattle.path_keys.specs.Held.{key_bytes};
 ghost use Rattle.path_keys.specs.Ranges.{bytes_cmp, end_of};
 ghost use Rattle.path_tree.specs.Children.{borrowed_child, child_of, children_of, first_code_len};
-ghost use Rattle.path_keys.specs.Read.{is_own};
+ghost use Rattle.path_keys.specs.KeyValues.{is_own};
 
 use super::PathTree;
 use crate::lookup_key::vec_of;

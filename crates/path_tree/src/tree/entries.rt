@@ -6,7 +6,7 @@ ghost use Rattle.std.specs.Map.{remove_entry};
 ghost use Rattle.std.specs.Option.{option_copied, option_copied_mut};
 ghost use Rattle.unix_path.specs.Order.{values_cmp};
 ghost use Rattle.path_runs.specs.Rows.{SameElsewhere, value_at};
-ghost use Rattle.path_keys.specs.Read.{is_own, key_values};
+ghost use Rattle.path_keys.specs.KeyValues.{is_own, key_values};
 
 use super::PathTree;
 use crate::key_filter::KeyFilter;

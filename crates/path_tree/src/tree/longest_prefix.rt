@@ -9,7 +9,7 @@ ghost use Rattle.unix_path.specs.Views.{value_of};
 ghost use Rattle.path_runs.specs.Rows.{value_at};
 ghost use Rattle.path_keys.specs.Keys.{code, key_of};
 ghost use Rattle.path_tree.specs.Nearest.{IsNearest};
-ghost use Rattle.path_keys.specs.Read.{is_own, key_values};
+ghost use Rattle.path_keys.specs.KeyValues.{is_own, key_values};
 
 use super::PathTree;
 use crate::lookup_key::{LookupKey, STACK_LEN};

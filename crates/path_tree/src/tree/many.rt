@@ -4,7 +4,7 @@ ghost use Rattle.std.specs.Iterator.{IsFinite};
 ghost use Rattle.unix_path.specs.Parts.{Value};
 ghost use Rattle.path_keys.specs.Held.{key_bytes};
 ghost use Rattle.path_tree.specs.Many.{InsertsAll, InsertsBeginning};
-ghost use Rattle.path_keys.specs.Read.{key_values};
+ghost use Rattle.path_keys.specs.KeyValues.{key_values};
 ghost use Rattle.path_tree.specs.Rows.{rows_outside, rows_under};
 
 use super::PathTree;

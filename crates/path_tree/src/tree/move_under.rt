@@ -8,7 +8,7 @@ ghost use Rattle.unix_path.specs.Parts.{Value};
 ghost use Rattle.unix_path.specs.Prefixes.{IsPrefixOf};
 ghost use Rattle.path_keys.specs.Held.{key_bytes};
 ghost use Rattle.path_tree.specs.Moved.{moved_rows, rows_with};
-ghost use Rattle.path_keys.specs.Read.{is_own, key_values};
+ghost use Rattle.path_keys.specs.KeyValues.{is_own, key_values};
 ghost use Rattle.path_tree.specs.Rows.{key_rows, rows_outside, rows_under};
 
 use super::PathTree;

@@ -11,7 +11,7 @@ ghost use Rattle.path_keys.specs.Held.{key_bytes};
 ghost use Rattle.path_keys.specs.Keys.{IsKey};
 ghost use Rattle.path_keys.specs.Ranges.{bytes_cmp, end_of};
 ghost use Rattle.path_tree.specs.Difference.{borrowed_entry};
-ghost use Rattle.path_keys.specs.Read.{key_values};
+ghost use Rattle.path_keys.specs.KeyValues.{key_values};
 ghost use Rattle.path_tree.specs.Rows.{Key, entries_under, key_entries, rows_under};
 
 use super::PathTree;

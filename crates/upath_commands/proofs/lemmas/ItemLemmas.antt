@@ -1,7 +1,7 @@
 -- The items of arguments, and what is asked for by the first argument.
 use Rattle.std.proofs.Common.{◌≡◌, ◌≢◌, ◌<◌, ℕ, true, false, List, [], ◌∷◌, ◌++◌, map, codes}
 use Rattle.std.proofs.Common.{Option, Some, None, refl, sym, ap, ap₂, ◌∙◌, eqb, ne_eqb, arith}
-use Rattle.std.proofs.Common.{option_map, is_some}
+use Rattle.std.proofs.Common.{option_map, is_some, Ok}
 use Rattle.std.specs.List.{All, list_all}
 use Rattle.std.specs.Str.{bytes_eq}
 use Rattle.std.proofs.lemmas.Bool.{eqb-false, eqb-true, false≢true}
@@ -12,9 +12,11 @@ use Rattle.unix_bytes.proofs.lemmas.lossy.LossyLemmas.{is_text-from_IsText}
 use Rattle.unix_bytes.proofs.lemmas.prefixes.PrinterLemmas.{first_is_text}
 use Rattle.upath_commands.specs.declared.items.ItemKind.TheVariants as kind
 use Rattle.upath_commands.specs.declared.options.Flag.{Flag}
+use Rattle.upath_commands.specs.declared.options.Request.{Request}
+use Rattle.upath_commands.specs.declared.options.Verb.{Verb}
 use Rattle.upath_commands.specs.declared.usage.UsageErrorKind.TheVariants.{UnknownLetter}
 use Rattle.upath_commands.specs.Arguments.{asked_first, first_word, meaning_of, meaning_of_items}
-use Rattle.upath_commands.specs.Arguments.{request_of, request_or, requested}
+use Rattle.upath_commands.specs.Arguments.{asked_of, request_of, request_or, requested}
 use Rattle.upath_commands.specs.ArgumentLaws.{is_plain, short}
 use Rattle.upath_commands.specs.Items.{character, items_after, letter_item}
 use Rattle.upath_commands.specs.Items.{letter_items, operand}
@@ -123,7 +125,7 @@ verb-not_help name h same =
     false≢true (ap (λ name. is_some (verb_by_name name)) (sym same) ∙ h)
 
 -- what is asked for on a command
-pub option_map-some : {A B : Type 0} (found : Option A) (x : B) → is_some found ≡ true
-    → option_map (λ it. x) found ≡ Some x
-option_map-some None x h = absurd (false≢true h)
-option_map-some (Some it) x h = refl
+pub asked_of-known : (asked : Request) (name : List ℕ) (found : Option Verb)
+    → is_some found ≡ true → asked_of asked name found ≡ Ok (requested asked name)
+asked_of-known asked name None h = absurd (false≢true h)
+asked_of-known asked name (Some verb) h = refl

@@ -1,13 +1,13 @@
 -- What letters after a dash mean joined and apart, whatever their bytes are.
 use Rattle.std.proofs.Common.{◌≡◌, ◌⊎◌, inl, inr, ℕ, List, [], ◌∷◌, ◌++◌, map, Option, Some, None}
-use Rattle.std.proofs.Common.{Err, refl, sym, ap, ◌∙◌, append_assoc}
+use Rattle.std.proofs.Common.{Err, refl, unwrap_or, sym, ap, ◌∙◌, append_assoc}
 use Rattle.upath_commands.specs.declared.items.ItemKind.TheVariants as kind
 use Rattle.upath_commands.specs.declared.options.Flag.{Flag}
 use Rattle.upath_commands.specs.declared.usage.UsageErrorKind.TheVariants.{UnknownLetter}
 use Rattle.upath_commands.specs.Arguments.{asked_in, command_meaning, fault_of, first_of}
-use Rattle.upath_commands.specs.Arguments.{meaning_of_items, operands_of, refuse, request_or}
+use Rattle.upath_commands.specs.Arguments.{meaning_of_items, operands_of, refuse}
 use Rattle.upath_commands.specs.ArgumentLaws.{kind_of}
-use Rattle.upath_commands.specs.Invocations.{InvocationValue, Meaning, UsageValue}
+use Rattle.upath_commands.specs.Invocations.{Meaning, UsageValue}
 use Rattle.upath_commands.specs.Items.{ItemValue, character, letter_item, letter_items, operand}
 use Rattle.upath_commands.specs.Options.{option_by_letter}
 use Rattle.upath_commands.proofs.lemmas.OperandLemmas.{first_of-skip}
@@ -40,7 +40,7 @@ letters-joins (x ∷ xs) ys =
     letter-joins (option_by_letter x) x xs ys (letters-joins xs ys)
 
 -- what is asked for after these operands and letters
-abbrev asked_past : List (List ℕ) → List ItemValue → Option InvocationValue
+abbrev asked_past : List (List ℕ) → List ItemValue → Option Meaning
 asked_past [] rest = asked_in rest
 asked_past (word ∷ before) rest = None
 
@@ -56,16 +56,16 @@ asked_in-past (name ∷ []) x xs rest =
     after_letter (option_by_letter x) (x ∷ xs) (letter_items xs ++ rest) name
 asked_in-past (name ∷ other ∷ before) x xs rest = refl
 
-refused : (asked : Option InvocationValue) (fault : Option UsageValue) (bytes : List ℕ)
+refused : (asked : Option Meaning) (fault : Option UsageValue) (bytes : List ℕ)
     (meaning : Meaning) → fault ≡ Some (UnknownLetter, bytes)
-    → kind_of (request_or asked (refuse fault meaning))
-    ≡ kind_of (request_or asked (Err (UnknownLetter, [])))
+    → kind_of (unwrap_or asked (refuse fault meaning))
+    ≡ kind_of (unwrap_or asked (Err (UnknownLetter, [])))
 refused None fault bytes meaning same = rw same refl
-refused (Some invocation) fault bytes meaning same = refl
+refused (Some found) fault bytes meaning same = refl
 
 unknown_refused : (before : List (List ℕ)) (items : List ItemValue) → Unknown items
     → kind_of (meaning_of_items (map operand before ++ items))
-    ≡ kind_of (request_or (asked_in (map operand before ++ items)) (Err (UnknownLetter, [])))
+    ≡ kind_of (unwrap_or (asked_in (map operand before ++ items)) (Err (UnknownLetter, [])))
 unknown_refused before items (bytes, unknown) =
     let all = map operand before ++ items in
     refused (asked_in all) (first_of fault_of all) bytes (command_meaning all (operands_of all))
@@ -84,7 +84,7 @@ joined_kinds before x y xs ys rest (inl same) =
 joined_kinds before x y xs ys rest (inr unknown) =
     let more = letter_items (y ∷ ys) ++ rest in
     unknown_refused before (letter_items ((x ∷ xs) ++ y ∷ ys) ++ rest) ((unknown rest).0)
-    ∙ ap (λ asked. kind_of (request_or asked (Err (UnknownLetter, []))))
+    ∙ ap (λ asked. kind_of (unwrap_or asked (Err (UnknownLetter, []))))
     (asked_in-past before x (xs ++ y ∷ ys) rest
     ∙ sym (asked_past-letters before (y ∷ ys) rest)
     ∙ sym (asked_in-past before x xs more))

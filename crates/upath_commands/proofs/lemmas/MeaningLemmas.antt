@@ -2,7 +2,7 @@
 use Rattle.std.proofs.Common.{◌≡◌, ℕ, ◌||◌, false, List, [], ◌∷◌, ◌++◌, map, Option}
 use Rattle.std.proofs.Common.{Some, None, Ok, Err, refl, sym, ap, ap₂, ◌∙◌, if◌then◌else◌}
 use Rattle.std.specs.List.{cons_option, last_or}
-use Rattle.std.specs.Prelude.{nat_le, nat_lt}
+use Rattle.std.specs.Prelude.{nat_le, nat_lt, unwrap_or}
 use Rattle.std.specs.Option.{option_or}
 use Rattle.upath_commands.specs.declared.command.JoinRule.{JoinRule}
 use Rattle.upath_commands.specs.declared.options.Flag.{Flag}
@@ -12,7 +12,7 @@ use Rattle.upath_commands.specs.declared.options.Verb.TheVariants as verb
 use Rattle.upath_commands.specs.declared.usage.UsageErrorKind.TheVariants as wrong
 use Rattle.upath_commands.specs.Arguments.{Words, command_meaning, each, each_after, equal_meaning}
 use Rattle.upath_commands.specs.Arguments.{asked_in, fault_of, is_dashes, meaning_of_items}
-use Rattle.upath_commands.specs.Arguments.{operand_of, operands_of, request_or}
+use Rattle.upath_commands.specs.Arguments.{operand_of, operands_of}
 use Rattle.upath_commands.specs.Arguments.{dashes_at, escapes_options, first_of, foreign_option}
 use Rattle.upath_commands.specs.Arguments.{found_meaning, has, is_given, join_meaning, join_rule}
 use Rattle.upath_commands.specs.Arguments.{last_value, meaning_of_verb, newline_fault, refuse}
@@ -202,7 +202,7 @@ moved item before items dashes none asked =
     ∙ ap (λ found. before ++ cons_option found (operands_of items)) none
     ∙ sym (operands_of-skip before items)
     ∙ sym (ap (λ found. cons_option found (operands_of rest)) none) in
-    ap₂ request_or asked (ap₂ refuse (first_of-moved fault_of (λ b. refl) item before items)
+    ap₂ unwrap_or asked (ap₂ refuse (first_of-moved fault_of (λ b. refl) item before items)
     (ap (command_meaning xs) operands
     ∙ command_meaning-same xs ys same (λ verb.
     first_of-moved (foreign_option verb) (λ b. refl) item before items)

@@ -283,7 +283,8 @@ last_pieces (p ∷ []) (q ∷ qs) l = without_empty_last-cons p q qs
 last_pieces (p ∷ r ∷ ps) qs l =
     without_empty_last-cons p r (ps ++ qs) ∙ ap (λ l. p ∷ l) (last_pieces (r ∷ ps) qs l)
 
-records_before : (end : ℕ) (zs ys : List ℕ) → records_of end (zs ++ end ∷ ys)
+-- the pieces of the first of two strings with `end` between them, and the records of the second
+pub records_before : (end : ℕ) (zs ys : List ℕ) → records_of end (zs ++ end ∷ ys)
     ≡ slice_split (is_end end) zs ++ records_of end ys
 unfolding records_of
 records_before end zs ys =

@@ -2,13 +2,17 @@
 use Rattle.std.proofs.Common.{◌≡◌, ℕ, Bool, true, false, ◌&&◌, ◌||◌, List, [], ◌++◌, length}
 use Rattle.std.proofs.Common.{take, drop, Option, Some, None, IfSome, Result, Ok, Err, OnOk, OnErr}
 use Rattle.std.proofs.Common.{IfOk, IfErr, refl, sym, ap, subst, ◌∙◌, append_assoc, append-nil}
-use Rattle.std.proofs.Common.{take-append-drop}
+use Rattle.std.proofs.Common.{take-append-drop, true≢false, IsTrue, is_ok, ◌↔◌}
+use Rattle.std.specs.Result.{IsErrOf}
 use Rattle.std.proofs.Math.Seq.{take-append_seam}
 use Rattle.std.proofs.lemmas.Grind.{flat_map-append}
 use Rattle.std.proofs.lemmas.List.Folds.{list_all-append, list_any-append}
 use Rattle.std.specs.List.{list_all, list_any}
 use Rattle.upath_commands.specs.Commands.{text_for}
-use Rattle.upath_commands.specs.Outputs.{Tells, TellsPrefix}
+use Rattle.upath_commands.specs.Outputs.{is_read_error, Tells, TellsPrefix}
+use Rattle.upath_commands.specs.declared.output.RunError.{RunError}
+use Rattle.upath_commands.specs.declared.output.RunError.TheVariants.{Read, Write, Closed}
+use Rattle.upath_commands.specs.declared.output.RunError.TheVariants.{Memory, Arguments}
 use Rattle.upath_commands.specs.Replies.{Answered, State, Stopped}
 use Rattle.upath_commands.specs.Tasks.{TaskValue, answers, message_of, messages_of, output_of}
 use Rattle.upath_commands.proofs.lemmas.OutputLemmas.{Emits-added, Emits-then, Emits-fail}
@@ -32,6 +36,24 @@ pub if_err : {T E : Type 0} {P Q : E → Type 0} (r : Result T E) → ((x : E) �
     → IfErr r P → IfErr r Q
 if_err (Ok x) f h = tt
 if_err (Err e) f h = f e h
+
+-- a result is no error of a read
+pub not_read_error : {A : Type 0} (r : Result A RunError) → IfErr r (λ error. (error ≡ Read) → ⊥)
+    → is_read_error r ≡ false
+not_read_error (Ok x) h = refl
+not_read_error (Err Read) h = absurd (h refl)
+not_read_error (Err Write) h = refl
+not_read_error (Err Closed) h = refl
+not_read_error (Err Memory) h = refl
+not_read_error (Err Arguments) h = refl
+
+-- no read failed, and the result says so
+pub no_read_told : {A : Type 0} (r : Result A RunError) (failed : Bool) → failed ≡ false
+    → IfErr r (λ error. (error ≡ Read) → ⊥) → IsErrOf r Read ↔ IsTrue failed
+no_read_told (Ok x) failed e h =
+    (λ is. absurd (true≢false (ap is_ok is)), λ t. absurd (true≢false (sym t ∙ e)))
+no_read_told (Err error) failed e h =
+    (λ is. absurd (h (cc)), λ t. absurd (true≢false (sym t ∙ e)))
 
 -- what follows from a known input
 pub IfSome-then : {P Q : List ℕ → Type 0} (known : Option (List ℕ))

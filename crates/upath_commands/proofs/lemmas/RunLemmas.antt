@@ -1,12 +1,13 @@
 -- Whole runs.
-use Rattle.std.proofs.Common.{◌≡◌, ℕ, Bool, false, ◌&&◌, ◌||◌, List, [], ◌++◌, take}
-use Rattle.std.proofs.Common.{refl, sym, ap, ap₂, subst, ◌∙◌, append-nil, if◌then◌else◌}
+use Rattle.std.proofs.Common.{◌≡◌, ℕ, Bool, true, false, ◌&&◌, ◌||◌, List, [], ◌++◌, take}
+use Rattle.std.proofs.Common.{refl, sym, ap, ap₂, subst, ◌∙◌, append-nil}
 use Rattle.std.proofs.Common.{true≢false}
 use Rattle.std.specs.Io.KnownBytes.{Appends}
 use Rattle.std.specs.List.{list_all, list_any}
 use Rattle.std.proofs.KnownBytes.{Appends-nil}
 use Rattle.upath_commands.specs.Invocations.{CommandValue, Sort, Check, Uniq}
-use Rattle.upath_commands.specs.Outputs.{AppendsPrefix, Tells, TellsPrefix}
+use Rattle.upath_commands.specs.Outputs.{AppendsPrefix, error_line, Tells, TellsPrefix}
+use Rattle.upath_commands.specs.declared.output.RunError.TheVariants.{Arguments}
 use Rattle.upath_commands.specs.Replies.{Answered, IsNew, State, Stopped}
 use Rattle.upath_commands.specs.Runs.{Broken, Done, Failed, command_yes, yes_of}
 use Rattle.upath_commands.specs.Sorting.{chosen, firsts_if, is_gathered, is_uniq}
@@ -67,14 +68,21 @@ module _ (old new : State) where
     said = k;
   }
 
-  -- nothing was written, and perhaps the line for an error
-  pub Failed-said : (output messages line : List ℕ) (is_said : Bool) → new.written ≡ old.written
-      → Tells old.is_deaf new.is_deaf old.told new.told (if is_said then line else [])
+  -- nothing was written but the line for an error
+  pub Failed-said : (output messages line : List ℕ) → new.written ≡ old.written
+      → Tells old.is_deaf new.is_deaf old.told new.told line
       → Failed old new output messages line
-  Failed-said output messages line is_said same k = record {
+  Failed-said output messages line same k = record {
     wrote = (0, subst (λ w. Appends old.written w []) (sym same) (Appends-nil old.written));
-    said = (0, (is_said, k));
+    said = (0, k);
   }
+
+  -- the caller reports that the arguments were not understood
+  pub Failed-arguments : (output messages : List ℕ) (is_quiet : Bool) → new.written ≡ old.written
+      → Tells old.is_deaf new.is_deaf old.told new.told []
+      → Failed old new output messages (error_line is_quiet Arguments)
+  Failed-arguments output messages true same k = Failed-said output messages [] same k
+  Failed-arguments output messages false same k = Failed-said output messages [] same k
 
 module _ (old mid new : State) where
   -- paths were answered, and the pending bytes written
@@ -103,19 +111,15 @@ module _ (old mid new : State) where
         (messages_of task paths) [] h.said k.said);
   }
 
-  -- the line for an error was written, if memory wasn't out for it
-  pub Failed-after : (output messages line : List ℕ) (is_said : Bool)
-      → Broken old mid output messages → new.written ≡ mid.written
-      → Tells mid.is_deaf new.is_deaf mid.told new.told (if is_said then line else [])
+  -- the line for an error was written
+  pub Failed-after : (output messages line : List ℕ) → Broken old mid output messages
+      → new.written ≡ mid.written → Tells mid.is_deaf new.is_deaf mid.told new.told line
       → Failed old new output messages line
-  Failed-after output messages line is_said h same k = record {
+  Failed-after output messages line h same k = record {
     wrote = subst (λ w. AppendsPrefix old.written w (old.pending ++ output)) (sym same) h.wrote;
     said = let (n, told) = h.said in (
       n,
-      (
-        is_said,
-        Tells-then old.told mid.told new.told old.is_deaf mid.is_deaf new.is_deaf
-            (take n messages) (if is_said then line else []) told k,
-      ),
+      Tells-then old.told mid.told new.told old.is_deaf mid.is_deaf new.is_deaf (take n messages)
+          line told k,
     );
   }

@@ -57,7 +57,7 @@ filter_all : {X : Type 0} (test : X → Bool) → ((x : X) → test x ≡ true) 
 filter_all test h [] = refl
 filter_all test h (x ∷ xs) = rw (h x) (ap (λ l. x ∷ l) (filter_all test h xs))
 
-filter-append : {X : Type 0} (test : X → Bool) (xs ys : List X)
+pub filter-append : {X : Type 0} (test : X → Bool) (xs ys : List X)
     → filter test (xs ++ ys) ≡ filter test xs ++ filter test ys
 filter-append test [] ys = refl
 filter-append test (x ∷ xs) ys =

@@ -26,12 +26,12 @@ and_false false = refl
 
 module _ {X : Type 0} (less : X → X → Bool) (order : IsStrictWeakOrder less) where
   -- none of the elements is less than x
-  abbrev Above : X → List X → Type 0
+  abbrev pub Above : X → List X → Type 0
   Above x [] = ⊤
   Above x (y ∷ ys) = (less y x ≡ false) × Above x ys
 
   -- none of the elements is less than one before it
-  abbrev Up : List X → Type 0
+  abbrev pub Up : List X → Type 0
   Up [] = ⊤
   Up (x ∷ xs) = Above x xs × Up xs
 
@@ -126,7 +126,8 @@ module _ {X : Type 0} (less : X → X → Bool) (order : IsStrictWeakOrder less)
       (λ t. rw t (Above-insert y x ys (order.one_way y x t) a, Up-insert x ys h))
       (λ t. rw t ((t, Above-trans x y ys t a), (a, h)))
 
-  Up-sorted_by : (xs : List X) → Up (sorted_by less xs)
+  -- the sorted list rises
+  pub Up-sorted_by : (xs : List X) → Up (sorted_by less xs)
   unfolding sorted_by
   Up-sorted_by [] = tt
   Up-sorted_by (x ∷ xs) = Up-insert x (sorted_by less xs) (Up-sorted_by xs)
@@ -181,7 +182,8 @@ module _ {X : Type 0} (less : X → X → Bool) (order : IsStrictWeakOrder less)
   at_later x y ys e h (suc k) d high =
       simp unary_clauses (simp unary_clauses at (h k d (omega arith) (omega arith)))
 
-  Up-later : (xs : List X) → Up xs → IsSortedBy less xs
+  -- a list that rises is sorted
+  pub Up-later : (xs : List X) → Up xs → IsSortedBy less xs
   Up-later [] h = λ k d low high. absurd (omega arith)
   Up-later (x ∷ []) h = λ k d low high. absurd (omega arith)
   Up-later (x ∷ y ∷ ys) ((e, above), up) =
@@ -276,7 +278,8 @@ map-reverse f (x ∷ xs) =
 pub turned_paths : (ps qs : List Path) → qs ≡ reverse ps → paths_of qs ≡ reverse (paths_of ps)
 turned_paths ps qs e = ap paths_of e ∙ map-reverse (λ (path : Path). path.bytes.now) ps
 
-by_paths : IsStrictWeakOrder comes_before
+-- paths are in an order
+pub by_paths : IsStrictWeakOrder comes_before
 by_paths = ranks_by values_cmp-total values
 
 -- the sorted paths are ordered, they are the same paths, and equal paths stay in their order

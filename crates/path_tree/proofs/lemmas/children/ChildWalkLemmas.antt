@@ -27,7 +27,7 @@ use Rattle.path_keys.specs.Ranges.{bytes_cmp, end_of}
 use Rattle.path_keys.proofs.lemmas.values.BeginLemmas.{begins_told}
 use Rattle.path_keys.proofs.lemmas.values.RangeLemmas.{begins-lies_under}
 use Rattle.path_tree.specs.Children.{child_entry, child_of, children_of, is_below}
-use Rattle.path_keys.specs.Read.{is_own}
+use Rattle.path_keys.specs.KeyValues.{is_own}
 use Rattle.path_tree.specs.Rows.{Key, key_entries}
 use Rattle.path_tree.proofs.lemmas.children.ChildLemmas.{children-fresh, fresh}
 use Rattle.path_tree.proofs.lemmas.children.ChildLemmas.{goes_on_in, is_after}

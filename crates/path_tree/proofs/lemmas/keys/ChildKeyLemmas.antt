@@ -20,9 +20,9 @@ use Rattle.path_keys.proofs.lemmas.reading.FitLemmas.{values-spelled}
 use Rattle.path_keys.proofs.lemmas.values.KeyLemmas.{key_of-append, key_of-one}
 use Rattle.path_keys.proofs.lemmas.values.LoweredLemmas.{first_zero, is_zero, raised-NoZero}
 use Rattle.path_tree.specs.Children.{child_of, first_code_len}
-use Rattle.path_keys.specs.Read.{is_own, key_values}
-use Rattle.path_keys.proofs.lemmas.reading.ReadLemmas.{key_values-values, own-is, own-key_of}
-use Rattle.path_keys.proofs.lemmas.reading.ReadLemmas.{own-values}
+use Rattle.path_keys.specs.KeyValues.{is_own, key_values}
+use Rattle.path_keys.proofs.lemmas.reading.KeyValueLemmas.{key_values-values, own-is, own-key_of}
+use Rattle.path_keys.proofs.lemmas.reading.KeyValueLemmas.{own-values}
 use Rattle.path_tree.proofs.lemmas.keys.UnderLemmas.{values_begin}
 use Rattle.path_keys.proofs.lemmas.values.OrderLemmas.{begins-key_of}
 

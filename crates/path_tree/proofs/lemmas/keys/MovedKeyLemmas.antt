@@ -8,9 +8,9 @@ use Rattle.path_keys.specs.Codes.{AllFit}
 use Rattle.path_keys.specs.Keys.{key_of}
 use Rattle.path_keys.proofs.lemmas.reading.FitLemmas.{AllFit-any, AllFit-append, AllFit-later}
 use Rattle.path_keys.proofs.lemmas.values.KeyLemmas.{key_of-append, key_of-nil}
-use Rattle.path_keys.specs.Read.{is_own, key_values}
+use Rattle.path_keys.specs.KeyValues.{is_own, key_values}
 use Rattle.path_tree.proofs.lemmas.keys.ChildKeyLemmas.{fit-own, key_of-own, own-fit}
-use Rattle.path_keys.proofs.lemmas.reading.ReadLemmas.{key_values-key_of}
+use Rattle.path_keys.proofs.lemmas.reading.KeyValueLemmas.{key_values-key_of}
 use Rattle.path_tree.proofs.lemmas.keys.UnderLemmas.{values_begin}
 
 module _ (key from to : List ℕ) (own : is_own key ≡ true) (from_own : is_own from ≡ true)

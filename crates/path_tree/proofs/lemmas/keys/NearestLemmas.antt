@@ -14,8 +14,8 @@ use Rattle.path_runs.specs.Rows.{value_at}
 use Rattle.path_keys.specs.Keys.{code, key_of}
 use Rattle.path_keys.proofs.lemmas.values.KeyLemmas.{key_of-append, key_of-one}
 use Rattle.path_tree.specs.Nearest.{IsNearest}
-use Rattle.path_keys.specs.Read.{is_own, key_values}
-use Rattle.path_keys.proofs.lemmas.reading.ReadLemmas.{own-is}
+use Rattle.path_keys.specs.KeyValues.{is_own, key_values}
+use Rattle.path_keys.proofs.lemmas.reading.KeyValueLemmas.{own-is}
 
 -- if `key` is the key of a path and represents the components of s, it is the key of s
 pub key-is : (key s : List ℕ) → is_own key ≡ true → key_values key ≡ values s

@@ -11,9 +11,9 @@ use Rattle.unix_bytes.proofs.lemmas.lists.ListLemmas.{by_test}
 use Rattle.unix_path.specs.Order.{values_cmp}
 use Rattle.unix_path.specs.Parts.{Value}
 use Rattle.path_keys.specs.Ranges.{bytes_cmp}
-use Rattle.path_keys.specs.Read.{is_own, key_values}
+use Rattle.path_keys.specs.KeyValues.{is_own, key_values}
 use Rattle.path_tree.specs.Rows.{Key}
-use Rattle.path_keys.proofs.lemmas.reading.ReadLemmas.{Represents, bytes_cmp-represents}
+use Rattle.path_keys.proofs.lemmas.reading.KeyValueLemmas.{Represents, bytes_cmp-represents}
 
 -- the bytes of a key
 abbrev pub items_of : Key → List ℕ

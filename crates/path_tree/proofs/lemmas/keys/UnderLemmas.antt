@@ -15,8 +15,8 @@ use Rattle.path_keys.specs.Ranges.{bytes_cmp, end_of}
 use Rattle.path_keys.proofs.lemmas.values.CodeLemmas.{values-coded}
 use Rattle.path_keys.proofs.lemmas.values.OrderLemmas.{key_of-begins, begins-key_of}
 use Rattle.path_keys.proofs.lemmas.values.RangeLemmas.{begins-lies_under, end_of-some}
-use Rattle.path_keys.specs.Read.{is_own, key_values}
-use Rattle.path_keys.proofs.lemmas.reading.ReadLemmas.{bytes_cmp-own, own-is, own-values}
+use Rattle.path_keys.specs.KeyValues.{is_own, key_values}
+use Rattle.path_keys.proofs.lemmas.reading.KeyValueLemmas.{bytes_cmp-own, own-is, own-values}
 use Rattle.path_tree.proofs.lemmas.keys.RowLemmas.{Own, keys_cmp, own_first, own_others, rows_by}
 
 -- k and l are keys of paths

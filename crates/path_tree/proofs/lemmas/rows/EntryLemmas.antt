@@ -19,9 +19,9 @@ use Rattle.path_keys.specs.Keys.{IsKey}
 use Rattle.path_keys.specs.Ranges.{bytes_cmp, end_of, LiesUnder}
 use Rattle.path_keys.proofs.lemmas.values.BeginLemmas.{begins_told}
 use Rattle.path_keys.proofs.lemmas.values.RangeLemmas.{begins-lies_under}
-use Rattle.path_keys.specs.Read.{is_own, key_values}
+use Rattle.path_keys.specs.KeyValues.{is_own, key_values}
 use Rattle.path_tree.specs.Rows.{Key, entries_under, key_entries, key_rows, rows_under}
-use Rattle.path_keys.proofs.lemmas.reading.ReadLemmas.{own-is}
+use Rattle.path_keys.proofs.lemmas.reading.KeyValueLemmas.{own-is}
 use Rattle.path_tree.proofs.lemmas.keys.RowLemmas.{Own, items_of, keys_cmp, own_first, own_others}
 use Rattle.path_tree.proofs.lemmas.keys.UnderLemmas.{endless, less_from_not_le, less_not_le}
 use Rattle.path_tree.proofs.lemmas.rows.ManyLemmas.{starts_with-under}

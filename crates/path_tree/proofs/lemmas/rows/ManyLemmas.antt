@@ -13,7 +13,7 @@ use Rattle.path_runs.proofs.lemmas.rows.UnderLemmas.{begins_from_under, under_fr
 use Rattle.path_keys.proofs.lemmas.values.BeginLemmas.{begins_told}
 use Rattle.path_tree.specs.Many.{inserted_all}
 use Rattle.path_tree.specs.Rows.{Key, key_rows}
-use Rattle.path_keys.specs.Read.{is_own, key_values}
+use Rattle.path_keys.specs.KeyValues.{is_own, key_values}
 use Rattle.path_tree.proofs.lemmas.keys.UnderLemmas.{key_begins, values_begin}
 
 -- inserting the items and then one more is the same as inserting this one into the rows with the

@@ -6,7 +6,7 @@ use Rattle.std.specs.List.{AllByRecursion}
 use Rattle.std.specs.Map.{keys_of}
 use Rattle.unix_path.specs.Parts.{Value}
 use Rattle.path_tree.specs.Moved.{rows_with}
-use Rattle.path_keys.specs.Read.{is_own}
+use Rattle.path_keys.specs.KeyValues.{is_own}
 use Rattle.path_tree.specs.Rows.{Key, key_rows}
 use Rattle.path_tree.proofs.lemmas.keys.RowLemmas.{Own, all_own}
 use Rattle.path_tree.proofs.lemmas.rows.WalkLemmas.{all_rest}

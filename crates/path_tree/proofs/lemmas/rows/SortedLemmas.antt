@@ -17,7 +17,7 @@ use Rattle.unix_bytes.proofs.lemmas.lists.ListLemmas.{by_test}
 use Rattle.path_keys.specs.Ranges.{bytes_cmp}
 use Rattle.unix_path.specs.Parts.{Value, values}
 use Rattle.unix_path.specs.declared.path.Path.{Path}
-use Rattle.path_keys.specs.Read.{is_own, key_values}
+use Rattle.path_keys.specs.KeyValues.{is_own, key_values}
 use Rattle.path_tree.specs.Rows.{Key, key_entries, key_rows}
 use Rattle.path_tree.specs.Sorted.{rows_in}
 use Rattle.path_tree.proofs.lemmas.keys.RowLemmas.{Own, items_of, keys_cmp, own_first, own_others}

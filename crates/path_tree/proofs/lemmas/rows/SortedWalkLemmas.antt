@@ -17,10 +17,10 @@ use Rattle.unix_path.specs.Order.{values_cmp}
 use Rattle.unix_path.specs.Parts.{values}
 use Rattle.unix_path.specs.declared.path.Path.{Path}
 use Rattle.path_keys.specs.Ranges.{bytes_cmp}
-use Rattle.path_keys.specs.Read.{is_own, key_values}
+use Rattle.path_keys.specs.KeyValues.{is_own, key_values}
 use Rattle.path_tree.specs.Rows.{Key, key_entries, key_rows}
 use Rattle.path_tree.specs.Sorted.{rows_in, StopsRising}
-use Rattle.path_keys.proofs.lemmas.reading.ReadLemmas.{bytes_cmp-own}
+use Rattle.path_keys.proofs.lemmas.reading.KeyValueLemmas.{bytes_cmp-own}
 use Rattle.path_tree.proofs.lemmas.keys.RowLemmas.{Own, all_own, items_of, keys_cmp, own_first}
 use Rattle.path_tree.proofs.lemmas.keys.RowLemmas.{own_others}
 use Rattle.path_tree.proofs.lemmas.rows.EntryLemmas.{rows-key_entries}

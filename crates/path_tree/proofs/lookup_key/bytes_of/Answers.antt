@@ -1,4 +1,4 @@
-use Rattle.path_keys.proofs.lemmas.reading.ReadLemmas.{own-IsKey}
+use Rattle.path_keys.proofs.lemmas.reading.KeyValueLemmas.{own-IsKey}
 use Rattle.path_tree.proofs.lookup_key.bytes_of.Goals as goal
 
 pub returns-clause-own : goal.returns-clause-own

@@ -1,6 +1,6 @@
 use Rattle.std.proofs.Common.{arith}
 use Rattle.std.proofs.lemmas.Grind.{common_steps}
-use Rattle.path_keys.proofs.lemmas.reading.ReadLemmas.{own-of, values-of}
+use Rattle.path_keys.proofs.lemmas.reading.KeyValueLemmas.{own-of, values-of}
 use Rattle.path_tree.proofs.lookup_key.owned_key.Goals as goal
 
 pub returns-clause-own : goal.returns-clause-own

@@ -1,9 +1,9 @@
 use Rattle.std.proofs.Common.{◌∷◌, ◌++◌, codes, refl, ap, ◌∙◌}
+use Rattle.upath_commands.specs.declared.options.Request.TheVariants as request
 use Rattle.upath_commands.specs.Arguments.{asked_in}
-use Rattle.upath_commands.specs.Invocations.{Help}
 use Rattle.upath_commands.specs.Options.{verb_by_name}
 use Rattle.upath_commands.proofs.lemmas.ItemLemmas.{items_after-plain}
-use Rattle.upath_commands.proofs.lemmas.ItemLemmas.{meaning_of-items, option_map-some}
+use Rattle.upath_commands.proofs.lemmas.ItemLemmas.{asked_of-known, meaning_of-items}
 use Rattle.upath_commands.proofs.lemmas.ItemLemmas.{request_of-plain}
 use Rattle.upath_commands.proofs.lemmas.ItemLemmas.{verb-not_help, verb-plain}
 use Rattle.upath_commands.proofs.lemmas.RequestLemmas.{asked_in-options, options_ask_nothing}
@@ -18,5 +18,5 @@ returns c = λ before name after options known.
     ∙ rw (
       asked_in-options before rest options,
       ap asked_in (items_after-plain name (codes "--help" ∷ after) plain),
-      option_map-some (verb_by_name name) (Help name) known,
+      asked_of-known request.Help name (verb_by_name name) known,
     ) refl

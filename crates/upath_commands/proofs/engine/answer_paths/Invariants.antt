@@ -1,13 +1,14 @@
-use Rattle.std.proofs.Common.{◌-◌, drop, length}
+use Rattle.std.proofs.Common.{◌≡◌, ◌-◌, drop, false, length}
 use Rattle.upath_commands.specs.Records.{paths_of}
-use Rattle.upath_commands.specs.Replies.{state_of}
+use Rattle.upath_commands.specs.Replies.{answers_failed, state_of}
 use Rattle.upath_commands.specs.Tasks.{task_value}
 use Rattle.upath_commands.proofs.lemmas.PathLemmas.{Passed}
 use Rattle.upath_commands.proofs.engine.answer_paths.Given as goal
 
 abbrev pub invariant-loop-index : goal.invariant-loop-index
 invariant-loop-index g l =
-    Passed (task_value l.task) l.initial.selection l.selection (paths_of l.paths)
+    (answers_failed l.replies ≡ false)
+    × Passed (task_value l.task) l.initial.selection l.selection (paths_of l.paths)
     (paths_of (drop l.index l.paths))
     (state_of g.W.Write.contents g.E.Write.contents l.initial.replies)
     (state_of g.W.Write.contents g.E.Write.contents l.replies)

@@ -7,10 +7,11 @@ use Rattle.upath_commands.proofs.output.write_all.Goals as goal
 
 pub loop-at-preserved : goal.loop-at-preserved
 loop-at-preserved g c =
-    let (a, so_far) = c.loop-at.invariant in
+    let (a, b, so_far) = c.loop-at.invariant in
     let bytes : List ℕ = c.args.bytes.now in
     let at = c.loop-at.at in
     let count = c.in-Ok.count in (
+      search rules,
       search rules,
       subst (Appends _ _)
           (ap (λ l. take at bytes ++ take count l) (take_rest bytes at)

@@ -4,6 +4,7 @@ use Rattle.upath_commands.specs.Invocations.{command_value}
 use Rattle.upath_commands.specs.Records.{records_of}
 use Rattle.upath_commands.specs.Sorting.{firsts_if}
 use Rattle.upath_commands.specs.Tasks.{task_value}
+use Rattle.upath_commands.specs.Watched.{watched_inner}
 use Rattle.upath_commands.proofs.lemmas.ReplyLemmas.{on_err, on_ok, IfSome-use}
 use Rattle.upath_commands.proofs.lemmas.RunLemmas.{chosen_streamed}
 use Rattle.upath_commands.proofs.runs.answer_records_read.Goals as goal
@@ -11,7 +12,7 @@ use Rattle.upath_commands.proofs.runs.answer_records_read.Goals as goal
 pub returns-clause-ok : goal.returns-clause-ok
 returns-clause-ok g c =
     on_ok c.answer_input.result
-    (λ k. IfSome-use (g.R.Read.remaining c.args.reader.now) k (λ input h.
+    (λ k. IfSome-use (g.R.Read.remaining (watched_inner c.args.reader.now)) k (λ input h.
     let settings = (task_value c.args.task.now).settings in
     let paths = records_of (end_of settings) input in
     let command = command_value c.args.task.now.command in
@@ -23,7 +24,7 @@ returns-clause-ok g c =
 pub returns-clause-err : goal.returns-clause-err
 returns-clause-err g c =
     on_err c.answer_input.result
-    (λ k. IfSome-use (g.R.Read.remaining c.args.reader.now) k (λ input h.
+    (λ k. IfSome-use (g.R.Read.remaining (watched_inner c.args.reader.now)) k (λ input h.
     let settings = (task_value c.args.task.now).settings in
     let paths = records_of (end_of settings) input in
     let command = command_value c.args.task.now.command in

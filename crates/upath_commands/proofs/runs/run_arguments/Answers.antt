@@ -1,9 +1,17 @@
-use Rattle.std.proofs.Common.{false, refl}
+use Rattle.std.proofs.Common.{refl}
+use Rattle.upath_commands.specs.Arguments.{meaning_of}
+use Rattle.upath_commands.specs.Records.{paths_of}
+use Rattle.upath_commands.specs.Runs.{hides_errors}
 use Rattle.upath_commands.proofs.lemmas.OutputLemmas.{Tells-none}
-use Rattle.upath_commands.proofs.lemmas.ReplyLemmas.{IfSome-all}
-use Rattle.upath_commands.proofs.lemmas.RunLemmas.{Failed-said}
+use Rattle.upath_commands.proofs.lemmas.ReplyLemmas.{no_read_told, IfSome-all}
+use Rattle.upath_commands.proofs.lemmas.RunLemmas.{Failed-arguments}
 use Rattle.upath_commands.proofs.runs.run_arguments.Goals as goal
 
 pub returns-in-Err-clause-err : goal.returns-in-Err-clause-err
 returns-in-Err-clause-err g c =
-    IfSome-all _ (λ input. Failed-said _ _ _ _ _ false refl (Tells-none _ _))
+    IfSome-all _ (λ input. Failed-arguments _ _ _ _
+    (hides_errors (meaning_of (paths_of c.args.arguments.now))) refl (Tells-none _ _))
+
+pub returns-in-Ok-Err-clause-read : goal.returns-in-Ok-Err-clause-read
+returns-in-Ok-Err-clause-read g c =
+    no_read_told c.refuse.result _ c.requires.reader c.refuse.ensures.no_read

@@ -1,6 +1,7 @@
-use Rattle.std.proofs.Common.{◌∙◌}
+use Rattle.std.proofs.Common.{sym, ◌∙◌}
 use Rattle.upath_commands.proofs.lemmas.OutputLemmas.{OnErr-of}
-use Rattle.upath_commands.proofs.lemmas.ReplyLemmas.{if_ok, on_err, on_ok, IfSome-then}
+use Rattle.upath_commands.proofs.lemmas.ReplyLemmas.{if_ok, not_read_error, on_err, on_ok}
+use Rattle.upath_commands.proofs.lemmas.ReplyLemmas.{IfSome-then}
 use Rattle.upath_commands.proofs.lemmas.RunLemmas.{Broken-after, Broken-stopped}
 use Rattle.upath_commands.proofs.lemmas.RunLemmas.{Done-after, yes-new}
 use Rattle.upath_commands.proofs.runs.run_input.Goals as goal
@@ -21,8 +22,13 @@ returns-clause-ok g c =
 pub returns-clause-yes : goal.returns-clause-yes
 returns-clause-yes g c =
     if_ok c.finish.result
-    (λ yes e. IfSome-then _ (λ input h. e ∙ yes-new _ _ _ _ c.requires h)
+    (λ yes e. IfSome-then _ (λ input h. e ∙ yes-new _ _ _ _ c.requires.new h)
     c.in_ok-answer_records_read.ensures.ok) c.finish.ensures.yes
+
+pub returns-clause-read : goal.returns-clause-read
+returns-clause-read g c =
+    c.in_ok-answer_records_read.ensures.read
+    ∙ sym (not_read_error c.finish.result c.finish.ensures.no_read)
 
 pub returns-clause-err : goal.returns-clause-err
 returns-clause-err g c =

@@ -1,6 +1,6 @@
 use Rattle.std.proofs.Common.{arith}
 use Rattle.std.proofs.lemmas.Grind.{common_steps}
-use Rattle.path_keys.proofs.lemmas.reading.ReadLemmas.{own-of, values-of}
+use Rattle.path_keys.proofs.lemmas.reading.KeyValueLemmas.{own-of, values-of}
 use Rattle.path_tree.proofs.lookup_key.LookupKey.of.Goals as goal
 
 pub returns-then-len-le-STACK_LEN-clause-own : goal.returns-then-len-le-STACK_LEN-clause-own

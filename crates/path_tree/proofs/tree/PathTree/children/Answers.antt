@@ -4,7 +4,7 @@ use Rattle.std.proofs.Common.{Option, IfSome, false, rules, subst, subst₂, sym
 use Rattle.std.specs.List.{starts_with}
 use Rattle.unix_path.specs.Prefixes.{IsPrefixOf}
 use Rattle.path_tree.specs.Children.{borrowed_child, child_entry, child_of, children_of}
-use Rattle.path_keys.specs.Read.{is_own}
+use Rattle.path_keys.specs.KeyValues.{is_own}
 use Rattle.path_tree.specs.Rows.{Key}
 use Rattle.path_tree.specs.Tree.{entries_of}
 use Rattle.path_tree.proofs.lemmas.children.ChildWalkLemmas.{FindsChildren, begins_by, finds}

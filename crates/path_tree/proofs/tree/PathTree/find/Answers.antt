@@ -1,5 +1,5 @@
 use Rattle.std.proofs.Common.{◌∙◌}
-use Rattle.path_keys.proofs.lemmas.reading.ReadLemmas.{own-represents}
+use Rattle.path_keys.proofs.lemmas.reading.KeyValueLemmas.{own-represents}
 use Rattle.path_tree.proofs.lemmas.keys.RowLemmas.{lookup-rows_by}
 use Rattle.path_tree.proofs.tree.PathTree.find.Goals as goal
 

@@ -1,7 +1,7 @@
 use Rattle.std.proofs.Common.{◌∙◌, sym}
 use Rattle.path_tree.specs.KeyFilter.{may_contain}
 use Rattle.path_tree.proofs.lemmas.keys.FilterLemmas.{lookup-filtered}
-use Rattle.path_keys.proofs.lemmas.reading.ReadLemmas.{own-represents}
+use Rattle.path_keys.proofs.lemmas.reading.KeyValueLemmas.{own-represents}
 use Rattle.path_tree.proofs.lemmas.keys.RowLemmas.{lookup-rows_by}
 use Rattle.path_tree.proofs.tree.PathTree.find_filtered.Goals as goal
 

@@ -1,5 +1,5 @@
 use Rattle.std.proofs.Common.{ap, refl, ◌∙◌}
-use Rattle.path_keys.proofs.lemmas.reading.ReadLemmas.{own-represents}
+use Rattle.path_keys.proofs.lemmas.reading.KeyValueLemmas.{own-represents}
 use Rattle.path_tree.proofs.lemmas.keys.RowLemmas.{lookup-rows_by, rows_by, set_value-rows_by}
 use Rattle.path_tree.proofs.tree.PathTree.find_mut.Goals as goal
 

@@ -1,6 +1,6 @@
 use Rattle.std.proofs.Common.{◌≡◌, ◌∙◌, ◌∷◌, [], ap, ap₂, eqb, rules, sym}
 use Rattle.std.specs.List.{starts_with}
-use Rattle.path_keys.specs.Read.{key_values}
+use Rattle.path_keys.specs.KeyValues.{key_values}
 use Rattle.path_tree.specs.Rows.{Key, entries_under, key_entries, rows_under}
 use Rattle.path_tree.specs.Tree.{table_of}
 use Rattle.path_tree.proofs.lemmas.rows.EntryLemmas.{rows_under-none, rows_under-some}

@@ -7,7 +7,7 @@ use Rattle.std.specs.List.{starts_with}
 use Rattle.unix_path.specs.Parts.{Value}
 use Rattle.path_runs.specs.Rows.{is_under}
 use Rattle.path_tree.specs.Moved.{moved_row, moved_rows}
-use Rattle.path_keys.specs.Read.{is_own, key_values}
+use Rattle.path_keys.specs.KeyValues.{is_own, key_values}
 use Rattle.path_tree.specs.Rows.{Key, key_rows}
 use Rattle.path_tree.proofs.lemmas.children.ChildWalkLemmas.{begins_by}
 use Rattle.path_tree.proofs.lemmas.rows.ManyLemmas.{starts_with-under}

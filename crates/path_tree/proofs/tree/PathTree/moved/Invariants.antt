@@ -1,6 +1,6 @@
 use Rattle.std.proofs.Common.{◌≡◌, ◌++◌}
 use Rattle.path_tree.specs.Moved.{moved_rows}
-use Rattle.path_keys.specs.Read.{key_values}
+use Rattle.path_keys.specs.KeyValues.{key_values}
 use Rattle.path_tree.specs.Rows.{Key, key_rows}
 use Rattle.path_tree.specs.Tree.{table_of}
 use Rattle.path_tree.proofs.lemmas.keys.RowLemmas.{Own}

@@ -6,7 +6,7 @@ use Rattle.path_runs.specs.Rows.{value_at}
 use Rattle.path_tree.specs.Tree.{table_of}
 use Rattle.path_tree.proofs.lemmas.keys.NearestLemmas.{GoesUp, code_fits, goes_on, goes_up}
 use Rattle.path_tree.proofs.lemmas.keys.NearestLemmas.{is_nearest, none_nearer}
-use Rattle.path_keys.proofs.lemmas.reading.ReadLemmas.{own-of, values-of}
+use Rattle.path_keys.proofs.lemmas.reading.KeyValueLemmas.{own-of, values-of}
 use Rattle.path_tree.proofs.lemmas.keys.RestLemmas.{prefix-trimmed, stripped-trimmed}
 use Rattle.path_tree.proofs.tree.PathTree.nearest_by.Goals as goal
 

@@ -2,9 +2,9 @@ use Rattle.std.proofs.Common.{ap, sym, ◌∙◌}
 use Rattle.path_runs.proofs.lemmas.rows.UpdateLemmas.{elsewhere-insert_entry}
 use Rattle.path_runs.specs.Rows.{value_at}
 use Rattle.path_tree.specs.KeyFilter.{may_contain}
-use Rattle.path_keys.specs.Read.{is_own, key_values}
+use Rattle.path_keys.specs.KeyValues.{is_own, key_values}
 use Rattle.path_tree.proofs.lemmas.keys.PassLemmas.{AllKeys-insert}
-use Rattle.path_keys.proofs.lemmas.reading.ReadLemmas.{own-represents}
+use Rattle.path_keys.proofs.lemmas.reading.KeyValueLemmas.{own-represents}
 use Rattle.path_tree.proofs.lemmas.keys.RowLemmas.{insert-rows_by, lookup-rows_by, rows_by}
 use Rattle.path_tree.proofs.tree.PathTree.put.Goals as goal
 

@@ -5,7 +5,7 @@ use Rattle.std.specs.List.{starts_with}
 use Rattle.path_keys.specs.Held.{key_bytes}
 use Rattle.path_runs.specs.Rows.{is_under}
 use Rattle.path_tree.specs.KeyFilter.{may_contain}
-use Rattle.path_keys.specs.Read.{is_own, key_values}
+use Rattle.path_keys.specs.KeyValues.{is_own, key_values}
 use Rattle.path_tree.specs.Rows.{Key, key_rows, rows_outside}
 use Rattle.path_tree.specs.Tree.{table_of}
 use Rattle.path_tree.proofs.lemmas.rows.ManyLemmas.{length-key_rows, starts_with-under}

@@ -1,9 +1,9 @@
 use Rattle.std.proofs.Common.{ap, sym, ◌∙◌}
 use Rattle.path_runs.proofs.lemmas.rows.UpdateLemmas.{elsewhere-remove_entry}
 use Rattle.path_tree.specs.KeyFilter.{may_contain}
-use Rattle.path_keys.specs.Read.{is_own}
+use Rattle.path_keys.specs.KeyValues.{is_own}
 use Rattle.path_tree.proofs.lemmas.keys.PassLemmas.{AllKeys-remove}
-use Rattle.path_keys.proofs.lemmas.reading.ReadLemmas.{own-represents}
+use Rattle.path_keys.proofs.lemmas.reading.KeyValueLemmas.{own-represents}
 use Rattle.path_tree.proofs.lemmas.keys.RowLemmas.{lookup-rows_by, remove-rows_by, rows_by}
 use Rattle.path_tree.proofs.tree.PathTree.take.Goals as goal
 

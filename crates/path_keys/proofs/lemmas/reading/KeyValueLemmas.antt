@@ -18,7 +18,7 @@ use Rattle.path_keys.proofs.lemmas.reading.FitLemmas.{values-fit}
 use Rattle.path_keys.proofs.lemmas.values.KeyLemmas.{key_of-nil, key_of-cons}
 use Rattle.path_keys.proofs.lemmas.values.LoweredLemmas.{raised-no_zero, lowered-raised}
 use Rattle.path_keys.proofs.lemmas.values.OrderLemmas.{bytes_cmp-keys}
-use Rattle.path_keys.specs.Read.{is_own, key_values, values_from}
+use Rattle.path_keys.specs.KeyValues.{is_own, key_values, values_from}
 
 -- if a and `name` are the first bytes of a name, and n has no slash, reading the raised bytes of n
 -- and an end mark after them yields the name of a, `name` and n, and then the components of `key`

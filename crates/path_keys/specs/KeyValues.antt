@@ -25,7 +25,6 @@ values_from (Some (a ∷ name)) (b ∷ key) =
 abbrev pub key_values : List ℕ → List Value
 key_values key = values_from (Some []) key
 
--- these bytes are the key of a path: of the canonical form of the components that they represent.
--- No public clause cites this definition
+-- these bytes are the key of a path: of the canonical form of the components that they represent
 abbrev pub is_own : List ℕ → Bool
 is_own key = bytes_eq (key_of (values (spelling_of (key_values key)))) key

@@ -1,0 +1,7 @@
+use Rattle.std.proofs.Common.{ap, reverse, if◌then◌else◌}
+use Rattle.upath_commands.proofs.lemmas.UniqueLemmas.{sorted_firsts}
+use Rattle.upath_commands.proofs.sort_laws.sort_unique_keeps_firsts.Goals as goal
+
+pub returns : goal.returns
+returns c = λ reversed paths.
+    ap (λ sorted. if reversed then reverse sorted else sorted) (sorted_firsts paths)

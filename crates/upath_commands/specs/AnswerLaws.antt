@@ -1,0 +1,53 @@
+-- Laws of what is printed.
+use Rattle.std.specs.Prelude.{◌≡◌, ◌≢◌, ◌⊎◌, ◌↔◌, ℕ, Bool, true, false, ◌==◌, List, []}
+use Rattle.std.specs.Prelude.{IsTrue, Some}
+use Rattle.std.specs.List.{AllByRecursion, flat_map, list_any}
+use Rattle.unix_path.specs.Parts.{values}
+use Rattle.path_within.specs.Below.{has_nul}
+use Rattle.path_within.specs.Escapes.{Escapes}
+use Rattle.upath_commands.specs.Answers.{end_of, is_refused}
+use Rattle.upath_commands.specs.Commands.{answer_of, printed_of}
+use Rattle.upath_commands.specs.Invocations.{CommandValue, Relative, Strip, Under}
+use Rattle.upath_commands.specs.Records.{records_of}
+use Rattle.upath_commands.specs.Tasks.{TaskValue, messages_of, output_of}
+
+-- `escapes` prints the paths that escape, as the library defines it, and those with a NUL
+abbrev pub EscapesTested : Type 0
+EscapesTested = (p : List ℕ)
+    → IsTrue (is_refused p) ↔ (Escapes (values p) ⊎ IsTrue (has_nul p))
+
+-- the command prints no empty answer
+abbrev pub NeverEmpty : CommandValue → Type 0
+NeverEmpty command = (null : Bool) (p : List ℕ) → answer_of command null p ≢ Some []
+
+-- nor do these
+abbrev pub StripsNeverEmpty : Type 0
+StripsNeverEmpty = (base : List ℕ) → NeverEmpty (Strip base)
+
+abbrev pub RelativesNeverEmpty : Type 0
+RelativesNeverEmpty = (dir : List ℕ) → NeverEmpty (Relative dir)
+
+abbrev pub UnderStripsNeverEmpty : Type 0
+UnderStripsNeverEmpty = (base : List ℕ) (by_components : Bool) → NeverEmpty (Under
+    record { inverted = false; stripped = true; by_components = by_components } base)
+
+-- what is printed for these paths, one after the other
+abbrev pub printed_for : TaskValue → List (List ℕ) → List (List ℕ)
+printed_for task paths = flat_map (printed_of task.command task.settings) paths
+
+-- the bytes don't have this byte
+abbrev pub Lacks : ℕ → List ℕ → Type 0
+Lacks b bytes = list_any (λ c. c == b) bytes ≡ false
+
+-- the output has one record for each answer, and the record is the answer, unless an answer has the
+-- byte that ends records, or `-q` or `-p` is given
+abbrev pub OutputReadsBack : Type 0
+OutputReadsBack = (task : TaskValue) (paths : List (List ℕ))
+    → task.settings.quiet ≡ false → task.settings.pair ≡ false
+    → AllByRecursion (Lacks (end_of task.settings)) (printed_for task paths)
+    → records_of (end_of task.settings) (output_of task paths) ≡ printed_for task paths
+
+-- with `-q` nothing is printed, neither answers nor messages
+abbrev pub QuietPrintsNothing : Type 0
+QuietPrintsNothing = (task : TaskValue) (paths : List (List ℕ)) → task.settings.quiet ≡ true
+    → (output_of task paths ≡ []) × (messages_of task paths ≡ [])
