@@ -152,13 +152,14 @@ class Compiled(CTest):
         return program
 
     def try_head(self, build, header):
-        """Builds and runs the examples at the head of a header. Each has to print what the text
-        after it says."""
+        """Builds and runs the examples of a header. Each has to print what the text after it says,
+        or the text before it."""
         ending, *includes = HEADS[header]
-        text = read(f"include/{header}").decode().split("#ifndef")[0]
-        head = re.sub(r"(?m)^( \*|//) ?", "", text)
-        found = re.findall(r"((?:^ {4}.*\n)(?:^ {4}.*\n|^ *\n)*)It prints `(.*?)`", head, re.M)
-        self.assertEqual(len(found), head.count("It prints"))
+        text = re.sub(r"(?m)^( \*|//) ?", "", read(f"include/{header}").decode())
+        code = r"((?:^ {4}.*\n)(?:^ {4}.*\n|^ *\n)*)"
+        found = re.findall(rf"{code}It prints `(.*?)`", text, re.M)
+        found += [it[::-1] for it in re.findall(rf"This prints `(.*?)`:\n\n{code}", text, re.M)]
+        self.assertEqual(len(found), len(re.findall("(?:It|This) prints `", text)))
         source = f"{tempfile.mkdtemp(dir=self.folder)}/head.{ending}"
         write(source, *(f"#include <{it}>" for it in (*includes, header)), "int main(void) {",
               *(f"{{\n{code}}}" for code, _ in found), "    return 0;\n}")
