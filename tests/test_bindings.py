@@ -54,7 +54,8 @@ REFUSALS = {3: LACKING, 4: LACKING, **{
         5: "pass native() of", 10: "call resolved()", 11: "call file_name()",
         12: "call set_extension(", 13: "loop over components()", 14: "call strip_prefix(",
         15: "a view has no NUL after it"}.items()}}
-HEADERS = {"c": ["unix_path.h"], "c++": ["unix_path.h", "unix_path.hpp", "unix_path_owned.hpp"]}
+HEADERS = {"c": ["unix_path.h"], "c++": ["unix_path.h", "unix_path.hpp", "unix_path_archive.hpp",
+                                         "unix_path_owned.hpp"]}
 # An expression of the table of docs/CPP.md, how it is tested with a type, and what it needs.
 EXPRESSION = re.compile(r"`((?:[pqP][ (:.]|typename|std::|swap|hash|out|in ).*?)`")
 VALID = """static_assert(([]<typename P>(P *) {{
@@ -64,6 +65,7 @@ INCLUDED = ("filesystem", "functional", "iostream", "string", "unix_path_owned.h
 # What the examples at the heads of the headers need.
 HEADS = {"unix_path.h": ("c", "stdio.h", "string.h"),
          "unix_path.hpp": ("cpp", "algorithm", "cstdio", "iostream", "map", "string"),
+         "unix_path_archive.hpp": ("cpp", "iostream"),
          "unix_path_owned.hpp": ("cpp", "iostream", "map")}
 # The directories of an installation below a directory, and where the libraries are then.
 PLACES = {"installed": ({"PREFIX": "{}", "LIBDIR": "{}/lib", "INCLUDEDIR": "{}/include"}, "lib"),
@@ -201,7 +203,7 @@ class Cpp(Calls, Compiled):
     def try_calls(self, flags, linked, is_oldest=False):
         compilers = CPPS if is_oldest else [*CPPS, *over_libcxx()]
         found = builds(compilers, "c++", [*STRICT, *flags], linked, is_oldest)
-        self.try_all(self.try_test, found, ["view_rows", "view", "owned", "header"])
+        self.try_all(self.try_test, found, ["view_rows", "view", "owned", "archive", "header"])
         self.try_all(self.try_example, found, ["sizes.cpp", "requests.cpp"])
         self.try_all(self.try_head, found, HEADERS["c++"][1:])
 
