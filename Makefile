@@ -1,7 +1,7 @@
 # GNU make builds, installs and tests by these targets; `make help` lists them.
 #
 # The SHA-256 of asm/PROVED.txt, which tools/generate writes here.
-PROVED = bd6cf9c99ba4e7a6058923e855b756b22c5cdbe20458328744042f57af4bde60
+PROVED = 9165891bee1e1f304948301db827e63384e356a199633e137fac77fb48e8f010
 PREFIX ?= /usr/local
 LIBDIR ?= $(PREFIX)/lib
 INCLUDEDIR ?= $(PREFIX)/include

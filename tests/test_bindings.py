@@ -54,7 +54,8 @@ REFUSALS = {3: LACKING, 4: LACKING, **{
         5: "pass native() of", 10: "call resolved()", 11: "call file_name()",
         12: "call set_extension(", 13: "loop over components()", 14: "call strip_prefix(",
         15: "a view has no NUL after it"}.items()}}
-HEADERS = {"c": ["unix_path.h"], "c++": ["unix_path.h", "unix_path.hpp", "unix_path_owned.hpp"]}
+HEADERS = {"c": ["unix_path.h"], "c++": ["unix_path.h", "unix_path.hpp", "unix_path_archive.hpp",
+                                         "unix_path_owned.hpp"]}
 # An expression of the table of docs/CPP.md, how it is tested with a type, and what it needs.
 EXPRESSION = re.compile(r"`((?:[pqP][ (:.]|typename|std::|swap|hash|out|in ).*?)`")
 VALID = """static_assert(([]<typename P>(P *) {{
@@ -64,6 +65,7 @@ INCLUDED = ("filesystem", "functional", "iostream", "string", "unix_path_owned.h
 # What the examples at the heads of the headers need.
 HEADS = {"unix_path.h": ("c", "stdio.h", "string.h"),
          "unix_path.hpp": ("cpp", "algorithm", "cstdio", "iostream", "map", "string"),
+         "unix_path_archive.hpp": ("cpp", "iostream"),
          "unix_path_owned.hpp": ("cpp", "iostream", "map")}
 # The directories of an installation below a directory, and where the libraries are then.
 PLACES = {"installed": ({"PREFIX": "{}", "LIBDIR": "{}/lib", "INCLUDEDIR": "{}/include"}, "lib"),
@@ -152,15 +154,14 @@ class Compiled(CTest):
         return program
 
     def try_head(self, build, header):
-        """Builds and runs the examples of a header. Those at its head have to print what the text
-        after them says, and the others what the text before them says."""
+        """Builds and runs the examples of a header. Each has to print what the text after it says,
+        or the text before it."""
         ending, *includes = HEADS[header]
         text = re.sub(r"(?m)^( \*|//) ?", "", read(f"include/{header}").decode())
-        head = text.split("#ifndef")[0]
-        found = re.findall(r"((?:^ {4}.*\n)(?:^ {4}.*\n|^ *\n)*)It prints `(.*?)`", head, re.M)
-        self.assertEqual(len(found), head.count("It prints"))
-        later = re.findall(r"This prints `(.*)`:\n\n((?: {4}.*\n)+)", text)
-        found += [(code, wanted) for wanted, code in later]
+        code = r"((?:^ {4}.*\n)(?:^ {4}.*\n|^ *\n)*)"
+        found = re.findall(rf"{code}It prints `(.*?)`", text, re.M)
+        found += [it[::-1] for it in re.findall(rf"This prints `(.*?)`:\n\n{code}", text, re.M)]
+        self.assertEqual(len(found), len(re.findall("(?:It|This) prints `", text)))
         source = f"{tempfile.mkdtemp(dir=self.folder)}/head.{ending}"
         write(source, *(f"#include <{it}>" for it in (*includes, header)), "int main(void) {",
               *(f"{{\n{code}}}" for code, _ in found), "    return 0;\n}")
@@ -202,7 +203,7 @@ class Cpp(Calls, Compiled):
     def try_calls(self, flags, linked, is_oldest=False):
         compilers = CPPS if is_oldest else [*CPPS, *over_libcxx()]
         found = builds(compilers, "c++", [*STRICT, *flags], linked, is_oldest)
-        self.try_all(self.try_test, found, ["view_rows", "view", "owned", "header"])
+        self.try_all(self.try_test, found, ["view_rows", "view", "owned", "archive", "header"])
         self.try_all(self.try_example, found, ["sizes.cpp", "requests.cpp"])
         self.try_all(self.try_head, found, HEADERS["c++"][1:])
 

@@ -28,8 +28,8 @@ TOOLS = ["make", "cc", "as", "ld", "ar"]
 LINE, ANSWER = b"canon\t.//a/./b/\n", b"./a/b\n"
 SHARED = f"libunix_path.so.{VERSION}"
 INSTALLED = set(f"""bin/pathtool bin/upath include/unix_path.h include/unix_path.hpp
-    include/unix_path_owned.hpp lib/libunix_path.a lib/libunix_path.so lib/{SONAME} lib/{SHARED}
-    lib/pkgconfig/unix_path.pc
+    include/unix_path_archive.hpp include/unix_path_owned.hpp lib/libunix_path.a
+    lib/libunix_path.so lib/{SONAME} lib/{SHARED} lib/pkgconfig/unix_path.pc
     lib/cmake/unix_path/unix_path-config.cmake lib/cmake/unix_path/unix_path-config-version.cmake
     share/man/man1/pathtool.1 share/man/man1/upath.1 share/bash-completion/completions/upath
     share/zsh/site-functions/_upath share/fish/vendor_completions.d/upath.fish

@@ -17,7 +17,8 @@ from repository import MAP, ROOT, read_programs
 
 PROVED, NOTICES = "asm/PROVED.txt", "asm/NOTICES.txt"
 # The files that are written by hand and have their digests in PROVED.txt.
-HEADERS = ("include/unix_path.h", "include/unix_path.hpp", "include/unix_path_owned.hpp")
+HEADERS = tuple(f"include/{it}" for it in (
+    "unix_path.h", "unix_path.hpp", "unix_path_archive.hpp", "unix_path_owned.hpp"))
 BY_HAND = (NOTICES, "asm/support.c", *HEADERS)
 DIGEST = re.compile("[0-9a-f]{64}  (.*)")
 # The name that the main function of a program has in its assembly: main is in support.c.

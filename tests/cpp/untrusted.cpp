@@ -1,6 +1,7 @@
 // Whatever the library returns, no member reads outside its path and each slice is in its path or
 // buffer. This is true of any library: the one of bindings/rust/tests/untrusted returns random
 // results. Members that allocate may throw, since some results are longer than any string.
+#include "unix_path_archive.hpp"
 #include "unix_path_owned.hpp"
 
 #include <cstddef>
@@ -199,6 +200,21 @@ void edits() {
     }
 }
 
+// A refused entry is one of the list.
+void entries() {
+    const std::vector<unix_path::entry> list{{unix_path::entry_kind::file, first},
+                                             {unix_path::entry_kind::hard_link, second, first}};
+    for (int round = 0; round < rounds; round++) {
+        attempt([&] {
+            if (const auto found = unix_path::check_entries(list); !found) {
+                CHECK(found.refusal().entry < 2 && found.refusal().cause < 2);
+                CHECK(unix_path::to_string(found.refusal().reason) != nullptr);
+            }
+        });
+    }
+    CHECK(unix_path::check_entries({}).is_accepted());
+}
+
 }  // namespace
 
 int main() {
@@ -206,5 +222,6 @@ int main() {
     run("paths", paths);
     run("ranges", ranges);
     run("edits", edits);
+    run("entries", entries);
     return finish();
 }

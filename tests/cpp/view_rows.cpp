@@ -12,6 +12,8 @@
 #include <string_view>
 #include <vector>
 
+#include "check.hpp"
+
 namespace {
 
 using unix_path::component;
@@ -171,20 +173,6 @@ const call calls[] = {
 #define MAKE_OF_TWO(name) FIND_OF_TWO(name)
 #include "../calls.inc"
 };
-
-// Removes the field up to the next `|` from `left`. Returns it without the spaces around it.
-std::string_view take_field(std::string_view &left) {
-    const std::size_t length = std::min(left.find('|'), left.size());
-    std::string_view field = left.substr(0, length);
-    left.remove_prefix(std::min(length + 1, left.size()));
-    while (!field.empty() && field.front() == ' ') {
-        field.remove_prefix(1);
-    }
-    while (!field.empty() && field.back() == ' ') {
-        field.remove_suffix(1);
-    }
-    return field;
-}
 
 // Makes the row's call, and returns the row written again with the call's result. Returns a message
 // if there is no call with the row's name.
