@@ -1,5 +1,5 @@
 #!/usr/bin/env python3
-"""Tests the calls from C, C++, Python and Rust, and the examples.
+"""Tests the calls from C, C++ and Rust, and the examples.
 
 tests/test_bindings.py [CLASS ..] [-k WORD]
 
@@ -423,25 +423,6 @@ class Installed(Compiled):
                         program = f"{project}/built/{example.partition('/')[0]}_{library}"
                         self.example([program], example)
                         self.check_needed(program, library == "unix_path")
-
-
-@has_shared
-class Python(CTest):
-    """The example in Python."""
-    environment = {**os.environ, "UNIX_PATH_SO": SHARED, "PYTHONDONTWRITEBYTECODE": "1"}
-
-    def test_pathlib(self):
-        """Compares 100,000 paths with pathlib."""
-        self.passes([sys.executable, "examples/python/test_unix_paths.py"], env=self.environment)
-
-    def test_rows(self):
-        self.all_rows([sys.executable, "examples/python/test_rows.py"], env=self.environment)
-
-    def test_missing(self):
-        """If there is no library, the error names the variable that may name one."""
-        self.refused([sys.executable, "examples/python/test_rows.py"],
-                     r"OSError: /missing\.so: .*UNIX_PATH_SO",
-                     env={**self.environment, "UNIX_PATH_SO": "/missing.so"})
 
 
 class Cargo(CTest):
