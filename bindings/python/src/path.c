@@ -310,8 +310,10 @@ static bool split_name(PyObject *self, Name *found)
 
 static PyObject *path_name(PyObject *self, void *Py_UNUSED(none))
 {
-    Name found;
-    return split_name(self, &found) ? text_from(found.name) : NULL;
+    View path = view(self);
+    unix_path_span span;
+    bool has_name = unix_path_file_name(path.data, path.length, &span);
+    return text_from(has_name ? part_of(path, span) : (View){"", 0});
 }
 
 static PyObject *path_stem(PyObject *self, void *Py_UNUSED(none))
