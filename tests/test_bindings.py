@@ -1,5 +1,5 @@
 #!/usr/bin/env python3
-"""Tests the calls from C, C++, Python and Rust, and the examples.
+"""Tests the calls from C, C++ and Rust, and the examples.
 
 tests/test_bindings.py [CLASS ..] [-k WORD]
 
@@ -506,25 +506,6 @@ class Installed(Compiled):
             home = {**os.environ, "CONAN_HOME": f"{self.folder}/conan"}
             self.call("conan", "profile", "detect", env=home)
             self.call("conan", "create", "packaging/conan", env=home)
-
-
-@has_shared
-class Python(CTest):
-    """The example in Python."""
-    environment = {**os.environ, "UNIX_PATH_SO": SHARED, "PYTHONDONTWRITEBYTECODE": "1"}
-
-    def test_pathlib(self):
-        """Compares 100,000 paths with pathlib."""
-        self.passes([sys.executable, "examples/python/test_unix_paths.py"], env=self.environment)
-
-    def test_rows(self):
-        self.all_rows([sys.executable, "examples/python/test_rows.py"], env=self.environment)
-
-    def test_missing(self):
-        """If there is no library, the error names the variable that may name one."""
-        self.refused([sys.executable, "examples/python/test_rows.py"],
-                     r"OSError: /missing\.so: .*UNIX_PATH_SO",
-                     env={**self.environment, "UNIX_PATH_SO": "/missing.so"})
 
 
 class Cargo(CTest):

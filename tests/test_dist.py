@@ -27,6 +27,7 @@ from test_processors import find_wine, running_wine
 
 PACKAGES = "libunix-path1 libunix-path-dev unix-path-tools".split()
 CRATES = ["unix_path_rattle", "unix_path_typed"]
+WHEELS = [f"unix_path-{VERSION}-cp38-abi3-manylinux2014_{it}.whl" for it in ("x86_64", "aarch64")]
 SYSTEMS = {"x86_64-linux": "amd64", "aarch64-linux": "arm64"}
 DATED = {"SOURCE_DATE_EPOCH": "1700000000", "MAINTAINER": "Ada <ada@debian.org>"}
 ARM = ("qemu-aarch64", "aarch64-linux-gnu-gcc")
@@ -155,14 +156,15 @@ class Packages(Case):
         if name.endswith(".deb"):
             self.call("dpkg-deb", "-R", path, folder)
             return
-        with (zipfile.ZipFile if name.endswith("zip") else tarfile.open)(path) as archive:
+        is_zip = name.endswith((".zip", ".whl"))
+        with (zipfile.ZipFile if is_zip else tarfile.open)(path) as archive:
             archive.extractall(folder)
 
     def unpacked(self, name):
         """Unpacks a package. Returns the directory that has its files."""
         top = f"{self.folder}/{name}.d"
         self.unpack(name, top)
-        return top if name.endswith(".deb") else f"{top}/{os.listdir(top)[0]}"
+        return top if name.endswith((".deb", ".whl")) else f"{top}/{os.listdir(top)[0]}"
 
 
 class Contents(Packages):
@@ -178,7 +180,7 @@ class Contents(Packages):
             self.assertEqual(set(os.listdir(self.out)), {
                 "SHA256SUMS", *(f"unix_path-{VERSION}-{it}.tar.xz" for it in ("asm", *SYSTEMS)),
                 f"unix_path-{VERSION}-x86_64-windows.zip",
-                *(f"{it}-{VERSION}.crate" for it in CRATES),
+                *(f"{it}-{VERSION}.crate" for it in CRATES), *WHEELS, f"unix_path-{VERSION}.tar.gz",
                 *(f"{package}_{VERSION}_{it}.deb" for package in PACKAGES
                   for it in SYSTEMS.values())})
 
@@ -239,9 +241,11 @@ class Contents(Packages):
             with self.row(missing):
                 path = link_commands(f"{self.folder}/{missing}", [
                     it for it in names if not re.search(missing, it)])
+                wheels = [f"the wheel for {it}" for it in SYSTEMS
+                          if missing[0] != "-" or it != TARGET]
                 printed = said(self.ran(["tools/dist"], top, path))
                 self.assertEqual(re.findall("^left out: (.*), since", printed, re.M),
-                                 [*wanted, "the zip for Windows", "the crates"])
+                                 [*wanted, "the zip for Windows", "the crates", *wheels])
 
     def test_sums(self):
         """The digests in each archive are those of all its files, and of asm/."""
@@ -281,6 +285,19 @@ class Contents(Packages):
                 self.assertEqual(re.findall(r"NEEDED.*\[(.*)\]", text), ["libc.so.6"])
                 self.assertNotIn("TEXTREL", text)
                 self.assertIn("BIND_NOW", text)
+
+    @needs("readelf")
+    def test_wheels(self):
+        """Each wheel has an extension module for its machine, which needs glibc 2.17 or older."""
+        for name, machine in zip(WHEELS, ("X86-64", "AArch64")):
+            with self.row(name):
+                text = self.call("readelf", "-hdW", "--dyn-syms",
+                                 f"{self.unpacked(name)}/unix_path/_unix_path.abi3.so").decode()
+                self.assertRegex(text, f"Machine:.*{machine}")
+                versions = re.findall(r" UND \w+@GLIBC_([\d.]+)", text)
+                self.assertLessEqual(max([int(it) for it in version.split(".")]
+                                         for version in versions), [2, 17])
+                self.assertEqual(re.findall(r"NEEDED.*\[(.*)\]", text), ["libc.so.6"])
 
     @needs("lintian")
     def test_lintian(self):
