@@ -3,7 +3,7 @@
 //! Each edit fails with [`Error::NoMemory`] if an allocation fails. `set_file_name`,
 //! `set_extension` and `add_extension` allocate if the vector has no capacity for the result, and
 //! also if the path and the argument have more than 255 bytes together.
-use crate::calls::{file_name, is_absolute, parent};
+use crate::calls::{file_name, parent};
 use crate::error::Error;
 use crate::ffi::MakeOfTwo;
 use alloc::vec::Vec;
@@ -27,7 +27,7 @@ const SHORT: usize = 256;
 /// ```
 #[inline]
 pub fn push(path: &mut Vec<u8>, other: &[u8]) -> Result<(), Error> {
-    if is_absolute(other) {
+    if other.starts_with(b"/") {
         let more = other.len().saturating_sub(path.len());
         path.try_reserve(more).map_err(|_| Error::NoMemory)?;
         return MakeOfTwo::JOIN.write_after(path, 0, &[], other);

@@ -4,9 +4,10 @@ mod made;
 mod queries;
 
 use crate::calls;
+use crate::component::Component;
 use crate::display::Display;
 use crate::unix_str::UnixStr;
-use crate::walks::{Components, Iter};
+use crate::walks::Iter;
 use core::cmp::Ordering;
 use core::hash::{Hash, Hasher};
 
@@ -90,6 +91,22 @@ impl Path {
         self.0.to_str()
     }
 
+    /// Feeds the hasher the blocks of the canonical form.
+    fn feed_components<H: Hasher>(&self, state: &mut H) {
+        let mut blocks = Blocks {
+            block: [0; BLOCK],
+            length: 0,
+            state,
+        };
+        let mut separator = "";
+        for part in self.components() {
+            blocks.push(separator.as_bytes());
+            blocks.push(part.as_unix_str().as_bytes());
+            separator = if part == Component::RootDir { "" } else { "/" };
+        }
+        blocks.flush();
+    }
+
     /// Returns a value that prints the path. Does not allocate.
     ///
     /// ```
@@ -125,13 +142,51 @@ impl Ord for Path {
     }
 }
 
-/// Feeds the hasher each component, and then an end mark, like [`Components`]. Equal paths feed it
-/// the same bytes. If the hasher is keyed, its key determines which different paths, or lists of
-/// paths, collide.
+/// Feeds the hasher the canonical form, in blocks, and then an end mark: two slashes and a NUL. No
+/// canonical form has two slashes in a row. So equal paths feed the same bytes, and different paths,
+/// or different lists of paths, feed different bytes: if the hasher is keyed, its key determines
+/// which of them collide.
 impl Hash for Path {
     #[inline]
     fn hash<H: Hasher>(&self, state: &mut H) {
-        Components::new(self).hash(state);
+        if self.is_canonical() {
+            let blocks = self.as_bytes().chunks(BLOCK);
+            blocks.for_each(|block| state.write(block));
+        } else {
+            self.feed_components(state);
+        }
+        state.write(b"//\0");
+    }
+}
+
+/// The number of bytes that are fed to a hasher at once. Equal paths have to feed the same blocks.
+const BLOCK: usize = 256;
+
+/// Collects bytes and feeds them to a hasher, block by block.
+struct Blocks<'a, H> {
+    block: [u8; BLOCK],
+    length: usize,
+    state: &'a mut H,
+}
+
+impl<H: Hasher> Blocks<'_, H> {
+    fn push(&mut self, mut bytes: &[u8]) {
+        while !bytes.is_empty() {
+            let (now, later) = bytes.split_at(bytes.len().min(BLOCK - self.length));
+            self.block[self.length..][..now.len()].copy_from_slice(now);
+            self.length += now.len();
+            bytes = later;
+            if self.length == BLOCK {
+                self.flush();
+            }
+        }
+    }
+
+    fn flush(&mut self) {
+        if self.length > 0 {
+            self.state.write(&self.block[..self.length]);
+            self.length = 0;
+        }
     }
 }
 

@@ -110,14 +110,11 @@ impl Ord for Components<'_> {
     }
 }
 
-/// Feeds the hasher each remaining component, and then an end mark: a slash and a NUL. The bytes of
-/// no component begin with these two. So the bytes of one walk are never a prefix of the bytes of a
-/// walk over other components, and two tuples of paths feed the same bytes only if they are equal.
+/// Feeds the hasher the same bytes as the rest of the path.
 impl Hash for Components<'_> {
     #[inline]
     fn hash<H: Hasher>(&self, state: &mut H) {
-        self.clone().for_each(|part| part.hash(state));
-        state.write(b"/\0");
+        self.as_path().hash(state);
     }
 }
 

@@ -8,13 +8,13 @@ use std::ops::RangeBounds;
 use std::{rc::Rc, sync::Arc};
 use unix_path_proved::{calls, Component, Error, Path, PathBuf, UnixStr, UnixString};
 
-/// A hasher that stores what it is fed.
+/// A hasher that stores what it is fed, each time in one item.
 #[derive(Default)]
-struct Fed(Vec<u8>);
+struct Fed(Vec<Vec<u8>>);
 
 impl Hasher for Fed {
     fn write(&mut self, bytes: &[u8]) {
-        self.0.extend_from_slice(bytes);
+        self.0.push(bytes.to_vec());
     }
 
     fn finish(&self) -> u64 {
@@ -22,26 +22,31 @@ impl Hasher for Fed {
     }
 }
 
-/// Returns the bytes that the key feeds a hasher.
-fn fed_by(key: impl Hash) -> Vec<u8> {
+/// Returns what the key feeds a hasher.
+fn feeds_of(key: impl Hash) -> Vec<Vec<u8>> {
     let mut hasher = Fed::default();
     key.hash(&mut hasher);
     hasher.0
 }
 
-/// Returns the bytes that a path feeds a hasher: its components and then an end mark. Checks that a
-/// borrowed path, an owned path and a walk feed the same bytes.
-fn fed_by_path(path: &Path) -> Vec<u8> {
-    let fed = fed_by(path);
-    let parts = path.components().map(fed_by);
-    let parts: Vec<_> = parts.chain([fed_by(Path::new(""))]).collect();
-    assert_eq!(fed, parts.concat());
-    assert_eq!(fed, fed_by(path.components()));
-    assert_eq!(fed, fed_by(path.to_path_buf()));
-    assert_eq!(fed, fed_by(Box::<Path>::from(path)));
-    assert_eq!(fed, fed_by(Rc::<Path>::from(path)));
-    assert_eq!(fed, fed_by(Arc::<Path>::from(path)));
-    assert_eq!(fed, fed_by(Cow::from(path)));
+/// Returns the bytes that the key feeds a hasher.
+fn fed_by(key: impl Hash) -> Vec<u8> {
+    feeds_of(key).concat()
+}
+
+/// Returns what a path feeds a hasher: its canonical form and then an end mark. Checks that a
+/// borrowed path, an owned path and a walk feed the same.
+fn fed_by_path(path: &Path) -> Vec<Vec<u8>> {
+    let fed = feeds_of(path);
+    let canonical: PathBuf = path.components().collect();
+    assert_eq!(fed.concat(), [bytes(&canonical), b"//\0"].concat());
+    assert_eq!(fed, feeds_of(&canonical));
+    assert_eq!(fed, feeds_of(path.components()));
+    assert_eq!(fed, feeds_of(path.to_path_buf()));
+    assert_eq!(fed, feeds_of(Box::<Path>::from(path)));
+    assert_eq!(fed, feeds_of(Rc::<Path>::from(path)));
+    assert_eq!(fed, feeds_of(Arc::<Path>::from(path)));
+    assert_eq!(fed, feeds_of(Cow::from(path)));
     fed
 }
 
@@ -57,12 +62,28 @@ fn hashers_are_fed_the_parts() {
         let same = feeds.entry(theirs(s).to_owned()).or_insert(fed.clone());
         assert_eq!(*same, fed);
     }
-    let sorted: BTreeSet<_> = feeds.values().collect();
+    let sorted: BTreeSet<_> = feeds.values().map(|fed| fed.concat()).collect();
     assert_eq!(sorted.len(), feeds.len());
     // The set is sorted: a feed that is a prefix of some other feed is also a prefix of the next
     // one.
     let sorted: Vec<_> = sorted.into_iter().collect();
-    assert!(sorted.windows(2).all(|pair| !pair[1].starts_with(pair[0])));
+    assert!(sorted.windows(2).all(|pair| !pair[1].starts_with(&pair[0])));
+}
+
+/// Checks long paths, which are fed in blocks: each spelling in the same ones.
+#[test]
+fn long_paths_feed_the_same_blocks() {
+    for length in 240..300 {
+        for piece in ["a", "a/", "ab/..", "/"] {
+            let long: String = piece.chars().cycle().take(length).collect();
+            for spelling in [long.clone(), format!("{long}//b"), format!("/{long}/./b")] {
+                let fed = fed_by_path(Path::new(&spelling));
+                let other = spelling.replace('/', "/./") + "/.";
+                let is_same = Path::new(&other) == Path::new(&spelling);
+                assert_eq!(fed == fed_by_path(Path::new(&other)), is_same, "{spelling}");
+            }
+        }
+    }
 }
 
 /// Checks that the lists of two or three paths with 64 names in all feed a hasher different bytes
