@@ -37,13 +37,14 @@
  *  - It returns, whatever the bytes are. It reads only the bytes and records passed to it, and
  *    keeps no pointer.
  *  - Lengths and indices count bytes. A length is at most PTRDIFF_MAX.
- *  - No pointer may be null, except the pointer to a path of no bytes or to an `out` of size 0.
+ *  - No pointer may be null, except the pointer to a path of no bytes or to an `out` or slots of
+ *    size 0.
  *    Inline functions of this header replace such a null pointer before they make the call. These
  *    functions are not proved, and unix_path.hpp needs them. A program that makes the calls without
  *    them, by the library's symbols or with UNIX_PATH_EXPORTS_ONLY defined before this file, must
  *    pass no null pointer at all.
- *  - The memory to which a call writes (walk, part, span, next, ancestor, chunk, out) must not
- *    overlap the other memory that is passed to the call.
+ *  - The memory to which a call writes (walk, part, span, next, ancestor, chunk, out, slots,
+ *    refusal) must not overlap the other memory that is passed to the call.
  *  - If it returns false, the records that it writes otherwise are unchanged.
  *
  * A call with `out` returns the length of its result. If that is at most out_length, the result is
@@ -153,6 +154,42 @@ typedef struct {
 typedef struct {
     size_t start, valid_length, broken_length;
 } unix_path_chunk;
+
+/* The levels of unix_path_check_entries. Any other number is UNIX_PATH_CLOSED, too. */
+enum {
+    UNIX_PATH_INSIDE = 0,
+    UNIX_PATH_CLOSED = 1
+};
+
+/* The results of unix_path_check_entries. There are no others. */
+enum {
+    UNIX_PATH_ENTRIES_ACCEPTED = 0,
+    UNIX_PATH_ENTRIES_REFUSED = 1,
+    UNIX_PATH_ENTRIES_CUT_OFF = 2,
+    UNIX_PATH_ENTRIES_NO_ROOM = 3
+};
+
+/* Why unix_path_check_entries refuses an entry. There are no other reasons. */
+enum {
+    UNIX_PATH_REFUSED_NAME = 0,
+    UNIX_PATH_REFUSED_KIND = 1,
+    UNIX_PATH_REFUSED_BELOW_LEAF = 2,
+    UNIX_PATH_REFUSED_LINK_USED_TWICE = 3,
+    UNIX_PATH_REFUSED_TARGET_IS_LINK = 4,
+    UNIX_PATH_REFUSED_LEADS_OUT = 5
+};
+
+/* Memory for one use of a path, which unix_path_check_entries writes before it reads it. */
+typedef struct {
+    size_t start, end, rank, entry, cause;
+} unix_path_slot;
+
+/* An entry that is refused: its number, of which the first is 0; the number of the entry that it
+ * clashes with, or its own; and the reason. */
+typedef struct {
+    size_t entry, cause;
+    uint32_t reason;
+} unix_path_refusal;
 
 /* Returns the version of the loaded library: 65536 * major + 256 * minor + patch. The library is
  * older than this file if this number is less than UNIX_PATH_VERSION_NUMBER. */
@@ -433,6 +470,60 @@ size_t unix_path_from_key(const void *key, size_t key_length, void *out, size_t 
  * the end is 61 01. */
 size_t unix_path_key_range_end(const void *key, size_t key_length, void *out, size_t out_length);
 
+/* The entries of an archive, links among them: whether an extractor that works in a new, empty
+ * directory can write outside of it. Names that each stay inside can still lead out: after a link
+ * `x` to `/etc`, the file `x/passwd` is written to `/etc/passwd`.
+ *
+ * Each entry is a record: its kind, its path and a link's target, with a NUL after each of the
+ * three. The kind is `d` for a directory, `f` for a file, `l` for a symbolic link and `h` for a
+ * hard link, and anything else for other entries, which are refused. List the entries with the
+ * program that extracts them, and with its options. This prints `entry 1 is below entry 0`:
+ *
+ *     static const char records[] = "l\0x\0/etc\0" "f\0x/passwd\0";
+ *     unix_path_slot slots[8];
+ *     unix_path_refusal why;
+ *     if (unix_path_check_entries(records, sizeof records, slots, 8, UNIX_PATH_INSIDE, &why)
+ *             == UNIX_PATH_ENTRIES_REFUSED
+ *         && why.reason == UNIX_PATH_REFUSED_BELOW_LEAF) {
+ *         printf("entry %zu is below entry %zu\n", why.entry, why.cause);
+ *     }
+ *
+ * An extractor uses the path of each entry, and the target of each hard link. Entries are accepted
+ * if none of these holds:
+ *
+ *     UNIX_PATH_REFUSED_NAME               a path that is used has a root, a `..` or a NUL, or ends
+ *                                          in `/` or `/.` though it is not a directory's
+ *     UNIX_PATH_REFUSED_KIND               an entry is of another kind
+ *     UNIX_PATH_REFUSED_BELOW_LEAF         a path that is used is below a file's or a link's
+ *     UNIX_PATH_REFUSED_LINK_USED_TWICE    the path of a symbolic link is used twice
+ *     UNIX_PATH_REFUSED_TARGET_IS_LINK     the target of a hard link is a link
+ *     UNIX_PATH_REFUSED_LEADS_OUT          at the level UNIX_PATH_CLOSED: the target of a symbolic
+ *                                          link has a root, more `..` than directories above the
+ *                                          link, or a `..` after a name
+ *
+ * What is accepted is safe in any order, for every extractor that does not follow a symbolic link
+ * when it works on the link's own path; at the level UNIX_PATH_CLOSED also for those that do, as
+ * unzip and 7z can. It is not safe for names that the file system takes for equal though they
+ * differ, for options that change names, or in a directory that others change meanwhile. */
+
+/* Returns how many slots unix_path_check_entries needs for these records: one for each entry, and
+ * one more for each hard link. Returns 0 if the last record is cut off. */
+size_t unix_path_entries_scratch(const void *records, size_t records_length);
+
+/* Decides whether the entries are accepted at a level. Returns the first of these that holds:
+ *
+ *     UNIX_PATH_ENTRIES_CUT_OFF     the last record is cut off
+ *     UNIX_PATH_ENTRIES_NO_ROOM     there are fewer slots than unix_path_entries_scratch returns
+ *     UNIX_PATH_ENTRIES_ACCEPTED    the entries are accepted
+ *     UNIX_PATH_ENTRIES_REFUSED     they are not; only then a refusal is written
+ *
+ * The entries before the refused one are accepted, as a list of their own. So is a list without
+ * entries. The slots need no initialization, and hold nothing of use afterwards. Takes about
+ * n log n comparisons of paths for n slots. */
+uint32_t unix_path_check_entries(const void *records, size_t records_length,
+                                 unix_path_slot *slots, size_t slots_length, uint32_t level,
+                                 unix_path_refusal *refusal);
+
 #ifndef UNIX_PATH_EXPORTS_ONLY
 
 #ifdef __cplusplus
@@ -586,6 +677,20 @@ UNIX_PATH_INLINE void *unix_path_room(void *out, size_t out_length, void *none) 
     UNIX_PATH_OUT_CALL(name, UNIX_PATH_READS_TWO UNIX_PATH_FILLS(5, 6),                            \
                        (UNIX_PATH_TWO, UNIX_PATH_OUT), UNIX_PATH_AB)
 
+#define UNIX_PATH_COUNT_SLOTS(name) UNIX_PATH_ASK(size_t, name)
+#define UNIX_PATH_CHECK_ENTRIES_OF                                                                 \
+    UNIX_PATH_ONE, unix_path_slot *slots, size_t slots_length, uint32_t level,                     \
+        unix_path_refusal *refusal
+#define UNIX_PATH_CHECK_ENTRIES(name)                                                              \
+    UNIX_PATH_READS_ONE UNIX_PATH_FILLS(3, 4) UNIX_PATH_ACCESS(__write_only__, 6)                  \
+    UNIX_PATH_ALL_NONNULL uint32_t unix_path_##name(UNIX_PATH_CHECK_ENTRIES_OF);                   \
+    UNIX_PATH_ASKED UNIX_PATH_READS_ONE UNIX_PATH_FILLS(3, 4) UNIX_PATH_WRITES(6)                  \
+    UNIX_PATH_INLINE uint32_t unix_path_inline_##name(UNIX_PATH_CHECK_ENTRIES_OF) {                \
+        unix_path_slot none[1];                                                                    \
+        return unix_path_##name(UNIX_PATH_A, slots_length == 0 ? none : slots, slots_length,       \
+                                level, refusal);                                                   \
+    }
+
 /* Define the functions that make the calls that return nothing. */
 #define UNIX_PATH_BEGIN(name)                                                                      \
     UNIX_PATH_READS_ONE UNIX_PATH_WRITES(3) UNIX_PATH_INLINE                                       \
@@ -640,6 +745,8 @@ UNIX_PATH_MAKE_OF_TWO(relative_path)
 UNIX_PATH_MAKE(key)
 UNIX_PATH_MAKE(from_key)
 UNIX_PATH_MAKE(key_range_end)
+UNIX_PATH_COUNT_SLOTS(entries_scratch)
+UNIX_PATH_CHECK_ENTRIES(check_entries)
 
 #define unix_path_version unix_path_inline_version
 #define unix_path_components unix_path_inline_components
@@ -681,6 +788,8 @@ UNIX_PATH_MAKE(key_range_end)
 #define unix_path_key unix_path_inline_key
 #define unix_path_from_key unix_path_inline_from_key
 #define unix_path_key_range_end unix_path_inline_key_range_end
+#define unix_path_entries_scratch unix_path_inline_entries_scratch
+#define unix_path_check_entries unix_path_inline_check_entries
 /* The end of what tools/calls wrote. */
 
 #undef UNIX_PATH_INLINE
@@ -716,6 +825,9 @@ UNIX_PATH_MAKE(key_range_end)
 #undef UNIX_PATH_ASK_TWO
 #undef UNIX_PATH_MAKE
 #undef UNIX_PATH_MAKE_OF_TWO
+#undef UNIX_PATH_COUNT_SLOTS
+#undef UNIX_PATH_CHECK_ENTRIES_OF
+#undef UNIX_PATH_CHECK_ENTRIES
 #ifdef __GNUC__
 #pragma GCC diagnostic pop
 #endif

@@ -25,6 +25,9 @@
 // calls, their error codes, and their use by threads and signal handlers. The calls are proved.
 // This file is not: only tests check that it passes on arguments and results.
 //
+// Of the decision on archives there are the calls of C, unix_path_entries_scratch and
+// unix_path_check_entries.
+//
 // Nothing here throws by itself. A function that is `noexcept` does not allocate. A function that
 // returns a std::string, or a result with one, throws std::bad_alloc if an allocation fails. A
 // std::string_view with a null pointer is an empty path. A part of a path that a function returns,

@@ -10,7 +10,7 @@ import tables
 from support import ROOT, Case
 
 STRICT = ["-Wall", "-Wextra", "-Wconversion", "-Wpedantic", "-Werror", "-Iinclude"]
-CALL_TESTS = ("rows", "keys", "walks", "laws", "nulls")
+CALL_TESTS = ("rows", "entries", "keys", "walks", "laws", "nulls")
 # The tests that replay rows.txt.
 ROW_TESTS = ("rows", "view_rows")
 PATHTOOL = [f"tests/c/{name}.c" for name in ("pathtool", "answers", "edits")]

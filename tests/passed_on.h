@@ -29,6 +29,10 @@ extern "C" {
 #define ASK_TWO(answer, name) EXPORTED(answer, name, TWO)
 #define MAKE(name) EXPORTED(size_t, name, ONE, OUT)
 #define MAKE_OF_TWO(name) EXPORTED(size_t, name, TWO, OUT)
+#define COUNT_SLOTS(name) EXPORTED(size_t, name, ONE)
+#define CHECK_ENTRIES(name)                                                                        \
+    EXPORTED(uint32_t, name, ONE, unix_path_slot *slots, size_t slots_length, uint32_t level,      \
+             unix_path_refusal *refusal)
 #include "calls.inc"
 #ifdef __cplusplus
 }
@@ -41,6 +45,8 @@ typedef struct {
     unix_path_span span;
     unix_path_chunk chunk;
     size_t next;
+    unix_path_slot slots[4];
+    unix_path_refusal refusal;
     unsigned char out[64];
 } written;
 
@@ -51,6 +57,9 @@ static inline bool same_written(const written *a, const written *b) {
            && a->span.length == b->span.length && a->chunk.start == b->chunk.start
            && a->chunk.valid_length == b->chunk.valid_length
            && a->chunk.broken_length == b->chunk.broken_length && a->next == b->next
+           && memcmp(a->slots, b->slots, sizeof a->slots) == 0
+           && a->refusal.entry == b->refusal.entry && a->refusal.cause == b->refusal.cause
+           && a->refusal.reason == b->refusal.reason
            && memcmp(a->out, b->out, sizeof a->out) == 0;
 }
 
@@ -84,6 +93,8 @@ static inline int wrong_functions(ONE, const void *b, size_t b_length, size_t ro
     begin_anew(&by_function, a_length);
     begin_anew(&by_call, a_length);
     void *out = room == 0 ? NULL : by_function.out;
+    unix_path_slot *slots = room == 0 ? NULL : by_function.slots;
+    size_t slot_count = room == 0 ? 0 : 4;
 
 #define A a, a_length
 #define B b, b_length
@@ -119,6 +130,11 @@ static inline int wrong_functions(ONE, const void *b, size_t b_length, size_t ro
     TRY(name, unix_path_##name(A, FUNCTION_OUT) == exported_##name(OWN_A, OWN_OUT))
 #define MAKE_OF_TWO(name)                                                                          \
     TRY(name, unix_path_##name(A, B, FUNCTION_OUT) == exported_##name(OWN_A, OWN_B, OWN_OUT))
+#define COUNT_SLOTS(name) TRY(name, unix_path_##name(A) == exported_##name(OWN_A))
+#define CHECK_ENTRIES(name)                                                                        \
+    TRY(name, unix_path_##name(A, slots, slot_count, UNIX_PATH_CLOSED, &by_function.refusal)       \
+              == exported_##name(OWN_A, by_call.slots, slot_count, UNIX_PATH_CLOSED,               \
+                                 &by_call.refusal))
 #include "calls.inc"
 #undef A
 #undef B

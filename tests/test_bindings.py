@@ -137,17 +137,19 @@ class Compiled(CTest):
         return program
 
     def try_head(self, build, header):
-        """Builds and runs the example at the head of a header. It has to print what the text after
-        it says."""
+        """Builds and runs the example at the head of a header, which has to print what the text after
+        it says, and those that say before them what they print."""
         ending, *includes = {"unix_path.h": ("c", "stdio.h", "string.h"), "unix_path.hpp": (
             "cpp", "cstdio", "map", "string", "string_view")}[header]
         head = re.sub(r"(?m)^( \*|//) ?", "", read(f"include/{header}").decode())
         code = re.search(r"(?:^ {4}.*\n|^ *\n)+", head[head.index("\n    "):], re.M)[0]
-        source = f"{tempfile.mkdtemp(dir=self.folder)}/head.{ending}"
-        write(source, *(f"#include <{it}>" for it in (*includes, header)),
-              f"int main(void) {{\n{code}    return 0;\n}}")
-        printed = self.passes([self.compiled(build, [source], f"{source}.program")])
-        self.assertEqual(printed.decode(), re.search(r"It prints `(.*?)`", head)[1] + "\n")
+        later = re.findall(r"This prints `(.*)`:\n\n((?: {4}.*\n)+)", head)
+        for said, code in [(re.search(r"It prints `(.*?)`", head)[1], code), *later]:
+            source = f"{tempfile.mkdtemp(dir=self.folder)}/head.{ending}"
+            write(source, *(f"#include <{it}>" for it in (*includes, header)),
+                  f"int main(void) {{\n{code}    return 0;\n}}")
+            printed = self.passes([self.compiled(build, [source], f"{source}.program")])
+            self.assertEqual(printed.decode(), said + "\n")
 
 
 class Calls:

@@ -278,22 +278,6 @@ static const call calls[] = {
 #include "../calls.inc"
 };
 
-// Cuts off the field up to the next `|`, without the spaces around it.
-static view take_field(view *left) {
-    const uint8_t *bar = memchr(left->bytes, '|', left->length);
-    size_t length = bar == NULL ? left->length : (size_t)(bar - left->bytes);
-    view field = {left->bytes, length};
-    size_t taken = bar == NULL ? length : length + 1;
-    *left = (view){left->bytes + taken, left->length - taken};
-    while (field.length > 0 && field.bytes[0] == ' ') {
-        field = (view){field.bytes + 1, field.length - 1};
-    }
-    while (field.length > 0 && field.bytes[field.length - 1] == ' ') {
-        field.length--;
-    }
-    return field;
-}
-
 // Returns the bytes of a field, at one end of the memory.
 static view unescaped(view field, fence around, bool at_end) {
     uint8_t bytes[most];

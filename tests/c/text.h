@@ -46,6 +46,22 @@ static inline bool same_bytes(view a, view b) {
     return a.length == b.length && memcmp(a.bytes, b.bytes, a.length) == 0;
 }
 
+// Cuts off the field up to the next `|`, without the spaces around it.
+static inline view take_field(view *left) {
+    const uint8_t *bar = memchr(left->bytes, '|', left->length);
+    size_t length = bar == NULL ? left->length : (size_t)(bar - left->bytes);
+    view field = {left->bytes, length};
+    size_t taken = bar == NULL ? length : length + 1;
+    *left = (view){left->bytes + taken, left->length - taken};
+    while (field.length > 0 && field.bytes[0] == ' ') {
+        field = (view){field.bytes + 1, field.length - 1};
+    }
+    while (field.length > 0 && field.bytes[field.length - 1] == ' ') {
+        field.length--;
+    }
+    return field;
+}
+
 // Enlarges the buffer to at least `room` bytes.
 static inline void make_room(text *buffer, size_t room) {
     if (buffer->bytes != NULL && buffer->room >= room) {

@@ -19,7 +19,13 @@ mod raw;
 
 use crate::error::Error;
 #[cfg(feature = "alloc")]
+use alloc::vec;
+#[cfg(feature = "alloc")]
 use alloc::vec::Vec;
+#[cfg(feature = "alloc")]
+pub(crate) use raw::entries;
+#[cfg(feature = "alloc")]
+use raw::entries::{ENTRIES_ACCEPTED, REFUSED_NAME};
 use raw::errors::*;
 use raw::*;
 pub(crate) use raw::{Part, Walk};
@@ -244,6 +250,33 @@ pub(crate) fn next_chunk<'a>(path: &'a [u8], next: &mut usize) -> Option<(&'a [u
     let valid = cut(path, chunk.start, chunk.valid_length)?;
     let end = chunk.start.checked_add(chunk.valid_length)?;
     Some((valid, cut(path, end, chunk.broken_length)?))
+}
+
+/// Decides whether the entries in these records are accepted at a level. Returns `None` if they
+/// are, and otherwise the number of the entry that is refused, the number of the one that it
+/// clashes with, and the number of the reason. `slots` is how many uses of paths there are, as
+/// `unix_path_entries_scratch` counts them.
+#[cfg(feature = "alloc")]
+pub(crate) fn refusal_of(records: &[u8], slots: usize, level: u32) -> Option<(usize, usize, u32)> {
+    let unused = Slot {
+        start: 0,
+        end: 0,
+        rank: 0,
+        entry: 0,
+        cause: 0,
+    };
+    let mut memory = vec![unused; slots];
+    let mut found = Refusal {
+        entry: 0,
+        cause: 0,
+        reason: REFUSED_NAME,
+    };
+    let (start, length) = (records.as_ptr(), records.len());
+    // SAFETY: the slice is read, and the slots and the refusal are written.
+    let result = unsafe {
+        unix_path_check_entries(start, length, memory.as_mut_ptr(), slots, level, &mut found)
+    };
+    (result != ENTRIES_ACCEPTED).then_some((found.entry, found.cause, found.reason))
 }
 
 /// Returns the version of the library.

@@ -114,6 +114,8 @@ extern crate alloc;
 extern crate std;
 
 #[cfg(feature = "alloc")]
+pub mod archive;
+#[cfg(feature = "alloc")]
 mod boxes;
 pub mod calls;
 mod compare;

@@ -44,19 +44,25 @@ pub data UsedAs : Type 0 where
   UsedAsSymlink : UsedAs
   UsedAsOther : UsedAs
 
--- a path that an extractor uses
+-- a path that an extractor uses; with the path of a symbolic link, also the link's target
 pub record Use : Type 0 where
   pub used_as : UsedAs
   pub path : List ℕ
+  pub target : List ℕ
 
+-- a path that isn't a symbolic link's
 abbrev pub use_as : UsedAs → List ℕ → Use
-use_as kind path = record { used_as = kind; path = path }
+use_as kind path = record { used_as = kind; path = path; target = [] }
+
+-- the path of a symbolic link
+abbrev pub link_use : List ℕ → List ℕ → Use
+link_use path target = record { used_as = UsedAsSymlink; path = path; target = target }
 
 -- the paths that an extractor uses for an entry: the entry's, and the target of a hard link
 abbrev pub uses_of : EntryValue → List Use
 uses_of (DirectoryEntry p) = use_as UsedAsDirectory p ∷ []
 uses_of (FileEntry p) = use_as UsedAsFile p ∷ []
-uses_of (SymlinkEntry p t) = use_as UsedAsSymlink p ∷ []
+uses_of (SymlinkEntry p t) = link_use p t ∷ []
 uses_of (HardLinkEntry p t) = use_as UsedAsHardLink p ∷ use_as UsedAsTarget t ∷ []
 uses_of (OtherEntry p) = use_as UsedAsOther p ∷ []
 

@@ -1,6 +1,7 @@
 pub mod Entries
 pub mod FileSystems
 pub mod Extractions
+pub mod Levels
 pub mod Rule
 pub mod Laws
 pub mod Records

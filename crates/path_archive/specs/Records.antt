@@ -1,12 +1,14 @@
 -- Records of entries: for each entry its kind, its path and a link's target, with a NUL after each.
 use Rattle.std.specs.Prelude.{◌≡◌, ◌≢◌, map, ℕ, ◌+◌, ◌<◌, ◌≤◌, slice_range, ◌==◌, List, [], ◌∷◌}
+use Rattle.std.specs.Prelude.{length, take}
 use Rattle.std.specs.Prelude.{codes, IfSome, Option, Some, None, if◌then◌else◌}
 use Rattle.std.specs.List.{slice_split}
 use Rattle.std.specs.Option.{option_map}
 use Rattle.std.specs.Str.{bytes_eq}
 use Rattle.path_archive.specs.Entries.{EntryValue, DirectoryEntry, FileEntry, SymlinkEntry}
-use Rattle.path_archive.specs.Entries.{HardLinkEntry, OtherEntry}
+use Rattle.path_archive.specs.Entries.{HardLinkEntry, OtherEntry, all_uses}
 use Rattle.path_archive.specs.Refusals.{numbered_at, numbered_from}
+use Rattle.path_archive.specs.Slots.{field_at}
 use Rattle.path_archive.specs.declared.records.Record.{Record}
 use Rattle.path_archive.specs.declared.slot.Slot.{Slot}
 
@@ -64,8 +66,15 @@ pub record IsInRange (at len : ℕ) (r : Record) : Type 0 where
   pub end : r.target_end < len
   pub kind : IsKind r.rank
 
--- the slots are the uses of the entries of the records, in order
-pub record IsSplit (records : List ℕ) (slots : List Slot) : Type 0 where
+-- the record's target ends at the first NUL
+abbrev pub HasTarget : List ℕ → Record → Type 0
+HasTarget records r = field_at records (r.end + 1) ≡ slice_range records (r.end + 1) r.target_end
+
+-- `count` is the number of uses of the entries of the records, and if there is room, the first
+-- slots are these uses, in order
+pub record IsSplit (records : List ℕ) (count : ℕ) (slots : List Slot) : Type 0 where
   pub entries : List EntryValue
   pub read : entries_in records ≡ Some entries
-  pub uses : map (numbered_at records) slots ≡ numbered_from 0 entries
+  pub count_is : count ≡ length (all_uses entries)
+  pub uses : count ≤ length slots
+      → map (numbered_at records) (take count slots) ≡ numbered_from 0 entries

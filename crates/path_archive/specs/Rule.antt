@@ -9,6 +9,8 @@ use Rattle.path_archive.specs.Entries.{EntryValue, SymlinkEntry, UsedAs, UsedAsH
 use Rattle.path_archive.specs.Entries.{UsedAsTarget, UsedAsSymlink, UsedAsOther, UsedAsDirectory}
 use Rattle.path_archive.specs.Entries.{Use, all_uses, components}
 use Rattle.path_archive.specs.FileSystems.{parent}
+use Rattle.path_archive.specs.Levels.{asks_closed}
+use Rattle.path_archive.specs.declared.level.Level.{Level}
 
 -- the path is a directory's
 abbrev pub is_directory : UsedAs → Bool
@@ -68,8 +70,26 @@ abbrev pub StaysBelow : List Value → List Value → Type 0
 StaysBelow here (ParentDir ∷ vs) = (here ≢ []) × StaysBelow (parent here) vs
 StaysBelow here vs = AllNames vs
 
+-- the symbolic link at `path` to `target` doesn't lead out
+pub record StaysInside (path target : List ℕ) : Type 0 where
+  pub below : StaysBelow (parent (components path)) (components target)
+  pub no_nul : has_nul target ≡ false
+
 -- no symbolic link leads out
 pub record Closed (entries : List EntryValue) : Type 0 where
-  pub below : (p t : List ℕ) → Contains entries (SymlinkEntry p t)
-      → StaysBelow (parent (components p)) (components t)
-  pub no_nul : (p t : List ℕ) → Contains entries (SymlinkEntry p t) → has_nul t ≡ false
+  pub inside : (p t : List ℕ) → Contains entries (SymlinkEntry p t) → StaysInside p t
+
+-- what the level asks of the entries
+pub record AcceptedAt (level : Level) (entries : List EntryValue) : Type 0 where
+  pub accepted : Accepted entries
+  pub closed : asks_closed level ≡ true → Closed entries
+
+-- if the level asks for it, a symbolic link doesn't lead out
+abbrev pub IsClosedAt : Level → Use → Type 0
+IsClosedAt level u = asks_closed level ≡ true → u.used_as ≡ UsedAsSymlink
+    → StaysInside u.path u.target
+
+-- what the level asks of one use by itself
+pub record IsAllowedAt (level : Level) (u : Use) : Type 0 where
+  pub allowed : IsAllowed u
+  pub closed : IsClosedAt level u

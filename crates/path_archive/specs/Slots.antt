@@ -1,5 +1,6 @@
 -- Uses of paths as places in the records of an archive's entries.
-use Rattle.std.specs.Prelude.{ℕ, Bool, ◌==◌, List, slice_range, if◌then◌else◌}
+use Rattle.std.specs.Prelude.{ℕ, Bool, ◌==◌, ◌+◌, List, [], slice_range, take, drop, if◌then◌else◌}
+use Rattle.std.specs.List.{position_or_len}
 use Rattle.std.specs.declared.cmp.Ordering.{Ordering}
 use Rattle.std.specs.Ordering.{is_lt, nat_cmp, then_cmp, on}
 use Rattle.unix_path.specs.Order.{values_cmp}
@@ -17,9 +18,21 @@ used_as_of r =
 abbrev pub path_at : List ℕ → Slot → List ℕ
 path_at records slot = slice_range records slot.start slot.end
 
+-- the bytes from an index on, up to the next NUL
+abbrev pub field_at : List ℕ → ℕ → List ℕ
+field_at records at = take (position_or_len (λ b. b == 0) (drop at records)) (drop at records)
+
+-- the target of a symbolic link at a slot, which follows the path and its NUL
+abbrev pub target_at : List ℕ → Slot → List ℕ
+target_at records slot = if slot.rank == 0 then field_at records (slot.end + 1) else []
+
 -- the use at a slot
 unfoldable pub use_at : List ℕ → Slot → Use
-use_at records slot = record { used_as = used_as_of slot.rank; path = path_at records slot }
+use_at records slot = record {
+  used_as = used_as_of slot.rank;
+  path = path_at records slot;
+  target = target_at records slot;
+}
 
 -- the order of slots: by path, then by rank, then by entry
 abbrev pub slot_cmp : List ℕ → Slot → Slot → Ordering

@@ -6,6 +6,8 @@
 
 mod decide;
 pub mod laws;
+mod level;
+mod links;
 mod names;
 mod order;
 mod pass;
@@ -13,5 +15,9 @@ mod records;
 mod refusal;
 mod slot;
 
-pub use decide::refusals;
+pub use decide::{Verdict, check, refusals};
+pub use level::Level;
+pub use links::leads_out;
+pub use records::slots_needed;
 pub use refusal::{Reason, Refusal};
+pub use slot::Slot;

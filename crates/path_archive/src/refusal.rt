@@ -16,6 +16,8 @@ pub enum Reason {
     LinkUsedTwice,
     /// The target of a hard link is a link.
     TargetIsLink,
+    /// A symbolic link leads out. Only the level `Closed` refuses it.
+    LeadsOut,
 }
 
 /// An entry that is refused, and why.

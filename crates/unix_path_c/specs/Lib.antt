@@ -4,6 +4,7 @@ pub mod Chunks
 pub mod Walks
 pub mod Queries
 pub mod ErrorCodes
+pub mod Entries
 pub mod Layout
 pub mod SaturatedSize
 pub mod Steps

@@ -18,6 +18,7 @@ mod ancestors;
 mod callers;
 mod canonical;
 mod chunks;
+mod entries;
 mod first_component;
 mod joins;
 mod keys;

@@ -137,3 +137,21 @@ macro_rules! make {
         }
     };
 }
+
+#[allow(unused_macros)]
+macro_rules! count_slots {
+    ($each:ident) => {
+        $each! {
+            entries_scratch;
+        }
+    };
+}
+
+#[allow(unused_macros)]
+macro_rules! check_entries {
+    ($each:ident) => {
+        $each! {
+            check_entries;
+        }
+    };
+}

@@ -49,6 +49,36 @@ pub struct Chunk {
     pub(super) broken_length: usize,
 }
 
+/// Memory for one use of a path, which `check` writes: where the path is in the records, and what
+/// it is used as.
+#[repr(C)]
+#[derive(Clone, Copy, Debug)]
+pub struct Slot {
+    /// The index of the path's first byte in the records.
+    pub(super) start: usize,
+    /// The index just after the path's last byte.
+    pub(super) end: usize,
+    /// What the path is used as.
+    pub(super) rank: usize,
+    /// The number of the entry.
+    pub(super) entry: usize,
+    /// The index of the slot that this one clashes with, or its own index.
+    pub(super) cause: usize,
+}
+
+/// An entry of an archive that is refused, and why.
+#[repr(C)]
+#[derive(Clone, Copy, Debug)]
+pub struct Refusal {
+    /// The number of the entry; the first entry's is 0.
+    pub(super) entry: usize,
+    /// The number of the entry that it clashes with, or its own number.
+    pub(super) cause: usize,
+    /// Why it is refused: 0 for its name, 1 for its kind, 2 if it is below a file or link, 3 if a
+    /// link's path is used twice, 4 for a hard link to a link, 5 for a link that leads out.
+    pub reason: u32,
+}
+
 /// The kinds of components.
 impl Part {
     pub const ROOT_DIR: u32 = 0;
@@ -75,6 +105,23 @@ pub mod errors {
     pub const ESCAPES: usize = usize::MAX - 1;
     /// The error code if a request has a NUL byte.
     pub const NUL_IN_REQUEST: usize = usize::MAX - 3;
+}
+
+/// The levels, the results and the reasons of `unix_path_check_entries`.
+#[allow(dead_code)]
+pub mod entries {
+    pub const INSIDE: u32 = 0;
+    pub const CLOSED: u32 = 1;
+    pub const ENTRIES_ACCEPTED: u32 = 0;
+    pub const ENTRIES_REFUSED: u32 = 1;
+    pub const ENTRIES_CUT_OFF: u32 = 2;
+    pub const ENTRIES_NO_ROOM: u32 = 3;
+    pub const REFUSED_NAME: u32 = 0;
+    pub const REFUSED_KIND: u32 = 1;
+    pub const REFUSED_BELOW_LEAF: u32 = 2;
+    pub const REFUSED_LINK_USED_TWICE: u32 = 3;
+    pub const REFUSED_TARGET_IS_LINK: u32 = 4;
+    pub const REFUSED_LEADS_OUT: u32 = 5;
 }
 
 #[rustfmt::skip]
@@ -139,6 +186,9 @@ super::code::declare! {
         -> usize;
     pub fn unix_path_key_range_end(key: Start, key_length: usize, out: *mut u8, out_length: usize)
         -> usize;
+    pub fn unix_path_entries_scratch(records: Start, records_length: usize) -> usize;
+    pub fn unix_path_check_entries(records: Start, records_length: usize, slots: *mut Slot,
+        slots_length: usize, level: u32, refusal: *mut Refusal) -> u32;
 }
 
 impl Step {

@@ -1,4 +1,5 @@
 //! What the types and the calls return: by rows, and compared with `std::path` or with a model.
+mod archive;
 mod edits;
 mod families;
 mod keys;

@@ -130,7 +130,7 @@ fn spelled(bytes: &[u8]) -> String {
 }
 
 /// Returns the bytes that a field represents.
-fn unescaped(field: &str) -> Vec<u8> {
+pub fn unescaped(field: &str) -> Vec<u8> {
     let (mut bytes, mut left) = (vec![], field.as_bytes());
     while let [first, rest @ ..] = left {
         let digits = rest.get(1..3).and_then(|it| std::str::from_utf8(it).ok());

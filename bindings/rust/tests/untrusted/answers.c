@@ -79,6 +79,16 @@ static size_t any_bytes(void *room, size_t out_length)
     return any_size_t();
 }
 
+static uint32_t any_refusal(unix_path_slot *slots, size_t slots_length, unix_path_refusal *refusal)
+{
+    for (size_t at = 0; at < slots_length; at++)
+        slots[at] = (unix_path_slot){any(), any(), any(), any(), any()};
+    refusal->entry = any_size_t();
+    refusal->cause = any_size_t();
+    refusal->reason = (uint32_t)(any() % 8);
+    return (uint32_t)(any() % 6);
+}
+
 #define ONE const void *a, size_t a_length
 #define TWO ONE, const void *b, size_t b_length
 #define OUT void *out, size_t out_length
@@ -115,4 +125,9 @@ static size_t any_bytes(void *room, size_t out_length)
     size_t unix_path_##name(ONE, OUT) { return NONE_OF_ONE, any_bytes(out, out_length); }
 #define MAKE_OF_TWO(name) \
     size_t unix_path_##name(TWO, OUT) { return NONE_OF_TWO, any_bytes(out, out_length); }
+#define COUNT_SLOTS(name) size_t unix_path_##name(ONE) { return NONE_OF_ONE, any_size_t(); }
+#define CHECK_ENTRIES(name) \
+    uint32_t unix_path_##name(ONE, unix_path_slot *slots, size_t slots_length, uint32_t level, \
+                              unix_path_refusal *refusal) \
+    { return NONE_OF_ONE, (void)level, any_refusal(slots, slots_length, refusal); }
 #include "../../../../tests/calls.inc"

@@ -11,6 +11,7 @@ use std::borrow::Cow;
 use std::cmp::Ordering;
 use std::hash::DefaultHasher;
 use std::panic::{catch_unwind, set_hook, AssertUnwindSafe};
+use unix_path_proved::archive::{check, Entry, Kind, Level};
 use unix_path_proved::{calls, Error, Path, PathBuf, RequestError, StripPrefixError, UnixStr};
 
 const PATH: &[u8] = b"/a//b.c";
@@ -228,6 +229,18 @@ fn vectors() {
             )*};
         }
         make_of_two!(of_two);
+    }
+}
+
+#[test]
+fn entries_of_archives() {
+    let entries = [
+        Entry::new("a", Kind::HardLink(Path::new("b"))),
+        Entry::new("b", Kind::File),
+    ];
+    for _ in 0..ROUNDS {
+        let refusal = check(entries, Level::Closed).err();
+        assert!(refusal.is_none_or(|it| it.to_string().starts_with("entry ")));
     }
 }
 

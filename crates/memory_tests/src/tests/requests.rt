@@ -1,6 +1,7 @@
 //! Each test makes one call, here with enough memory. `tests/test_requests.py` runs them while
 //! allocation number 1, 2, 3 and so on fails. A test then fails with `refused` if its call failed
 //! and left its arguments as promised.
+mod archives;
 mod copies;
 mod edits;
 mod kept;

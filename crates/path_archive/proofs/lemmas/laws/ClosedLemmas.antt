@@ -76,4 +76,4 @@ closed_inside entries closed top fs own p q vs (link {n = n} {vs = ws} t is l) a
     closed_inside entries closed top fs own p q (components t ++ ws) l at p_is
     (StaysBelow-append (components t) ws at
     (subst (λ x. StaysBelow x (components t)) (ap parent met.is ∙ parent-name at (Normal n))
-    (closed.below met.path t met.listed)) h)
+    (closed.inside met.path t met.listed).below) h)

@@ -86,8 +86,5 @@ ordinary_accepted entries h =
           plain_free entries h _ _ (at k d k_in) (at j d (omega arith)),
         );
       },
-      record {
-        below = λ p t c. absurd (no_link p t c);
-        no_nul = λ p t c. absurd (no_link p t c);
-      },
+      record { inside = λ p t c. absurd (no_link p t c) },
     )

@@ -12,7 +12,8 @@ use Rattle.path_within.specs.Resolved.{AllNames}
 use Rattle.path_archive.specs.Entries.{EntryValue, DirectoryEntry, FileEntry, SymlinkEntry}
 use Rattle.path_archive.specs.Entries.{HardLinkEntry, OtherEntry, UsedAs, UsedAsSymlink}
 use Rattle.path_archive.specs.Entries.{UsedAsDirectory, UsedAsFile, UsedAsHardLink, UsedAsTarget}
-use Rattle.path_archive.specs.Entries.{UsedAsOther, Use, use_as, uses_of, all_uses, components}
+use Rattle.path_archive.specs.Entries.{UsedAsOther, Use, use_as, link_use, uses_of, all_uses}
+use Rattle.path_archive.specs.Entries.{components}
 use Rattle.path_archive.specs.Entries.{is_symlink, path_of}
 use Rattle.path_archive.specs.Rule.{Accepted, IsAllowed, Clash, AreApart}
 
@@ -21,13 +22,13 @@ pub data Uses : EntryValue → List Value → Type 0 where
   path : {e : EntryValue} → Uses e (components (path_of e))
   target : {p t : List ℕ} → Uses (HardLinkEntry p t) (components t)
 
--- what an entry's own path is used as
-abbrev own_use : EntryValue → UsedAs
-own_use (DirectoryEntry p) = UsedAsDirectory
-own_use (FileEntry p) = UsedAsFile
-own_use (SymlinkEntry p t) = UsedAsSymlink
-own_use (HardLinkEntry p t) = UsedAsHardLink
-own_use (OtherEntry p) = UsedAsOther
+-- the use of an entry's own path
+abbrev pub own_use : EntryValue → Use
+own_use (DirectoryEntry p) = use_as UsedAsDirectory p
+own_use (FileEntry p) = use_as UsedAsFile p
+own_use (SymlinkEntry p t) = link_use p t
+own_use (HardLinkEntry p t) = use_as UsedAsHardLink p
+own_use (OtherEntry p) = use_as UsedAsOther p
 
 -- the path is a symbolic link's
 abbrev is_symlinks : UsedAs → Bool
@@ -35,7 +36,7 @@ is_symlinks UsedAsSymlink = true
 is_symlinks _ = false
 
 -- what is used for an entry is used for the list
-entry_use : (entries : List EntryValue) (e : EntryValue) (u : Use) → Contains entries e
+pub entry_use : (entries : List EntryValue) (e : EntryValue) (u : Use) → Contains entries e
     → Contains (uses_of e) u → Contains (all_uses entries) u
 entry_use [] e u c h = absurd (omega (arith, c.1))
 entry_use (x ∷ xs) e u (zero, k_in, is) h =
@@ -50,10 +51,10 @@ first_of : (u : Use) (us : List Use) → Contains (u ∷ us) u
 first_of u us = (0, omega arith, refl)
 
 -- an entry's own path is the first that is used for it
-own_listed : (e : EntryValue) → Contains (uses_of e) (use_as (own_use e) (path_of e))
+pub own_listed : (e : EntryValue) → Contains (uses_of e) (own_use e)
 own_listed (DirectoryEntry p) = first_of (use_as UsedAsDirectory p) []
 own_listed (FileEntry p) = first_of (use_as UsedAsFile p) []
-own_listed (SymlinkEntry p t) = first_of (use_as UsedAsSymlink p) []
+own_listed (SymlinkEntry p t) = first_of (link_use p t) []
 own_listed (HardLinkEntry p t) = first_of (use_as UsedAsHardLink p) (use_as UsedAsTarget t ∷ [])
 own_listed (OtherEntry p) = first_of (use_as UsedAsOther p) []
 
@@ -69,19 +70,27 @@ pub record UseOf (entries : List EntryValue) (e : EntryValue) (q : List Value) :
   pub link : is_symlinks it.used_as ≡ true → is_symlink e ≡ true
 
 -- a symbolic link's path is used for one alone
-own_link : (e : EntryValue) → is_symlinks (own_use e) ≡ true → is_symlink e ≡ true
+own_link : (e : EntryValue) → is_symlinks (own_use e).used_as ≡ true → is_symlink e ≡ true
 own_link (DirectoryEntry p) h = h
 own_link (FileEntry p) h = h
 own_link (SymlinkEntry p t) h = refl
 own_link (HardLinkEntry p t) h = h
 own_link (OtherEntry p) h = h
 
+-- the path of an entry's own use
+own_path : (e : EntryValue) → (own_use e).path ≡ path_of e
+own_path (DirectoryEntry p) = refl
+own_path (FileEntry p) = refl
+own_path (SymlinkEntry p t) = refl
+own_path (HardLinkEntry p t) = refl
+own_path (OtherEntry p) = refl
+
 use_of : (entries : List EntryValue) (e : EntryValue) (q : List Value) → Contains entries e
     → Uses e q → UseOf entries e q
 use_of entries e q c path = record {
-  it = use_as (own_use e) (path_of e);
-  listed = entry_use entries e (use_as (own_use e) (path_of e)) c (own_listed e);
-  is = refl;
+  it = own_use e;
+  listed = entry_use entries e (own_use e) c (own_listed e);
+  is = ap components (own_path e);
   link = own_link e;
 }
 use_of entries e q c (target {p = p} {t = t}) = record {
@@ -123,11 +132,11 @@ uses_apart us u v apart (i, i_in, i_is) (j, j_in, j_is) =
     ]
 
 -- what clashes with a symbolic link's path
-link_clash : (p : List ℕ) (v : Use) → IsPrefixOf (components p) (components v.path)
-    → Clash (use_as UsedAsSymlink p) v
-link_clash p v ([], same) =
+link_clash : (p t : List ℕ) (v : Use) → IsPrefixOf (components p) (components v.path)
+    → Clash (link_use p t) v
+link_clash p t v ([], same) =
     inr record { same = sym (append-nil (components p)) ∙ same; clash = refl }
-link_clash p v (name ∷ more, at) =
+link_clash p t v (name ∷ more, at) =
     inl record { leaf = refl; name = name; more = more; below = at }
 
 -- a used path at or below the path of a symbolic link is the link's own
@@ -135,7 +144,7 @@ pub used_apart : (entries : List EntryValue) → Accepted entries → (p t : Lis
     (e : EntryValue) (q : List Value) → Contains entries (SymlinkEntry p t) → Contains entries e
     → Uses e q → IsPrefixOf (components p) q → (is_symlink e ≡ true) × (components p ≡ q)
 used_apart entries ok p t e q in_list c u h =
-    let link : Use = use_as UsedAsSymlink p in
+    let link : Use = link_use p t in
     let link_listed = entry_use entries (SymlinkEntry p t) link in_list
     (own_listed (SymlinkEntry p t)) in
     let used = use_of entries e q c u in
@@ -146,5 +155,5 @@ used_apart entries ok p t e q in_list c u h =
         used.link (ap (λ u. is_symlinks u.used_as) (sym same)),
         ap (λ u. components u.path) same ∙ used.is,
       )
-      | ◌⊎◌.inr free ↦ absurd (free (link_clash p used.it begins))
+      | ◌⊎◌.inr free ↦ absurd (free (link_clash p t used.it begins))
     ]

@@ -6,6 +6,7 @@ use Rattle.std.specs.List.{slice_split, position_or_len, prefix_len}
 use Rattle.std.proofs.lemmas.List.{drop-drop}
 use Rattle.std.proofs.lemmas.List.Splits.{slice_split_first, slice_split-cons_no}
 use Rattle.path_archive.specs.Records.{entries_of, fields_of}
+use Rattle.path_archive.specs.Slots.{field_at}
 
 -- a list without an element that passes is one piece
 unsplit : (p : ℕ → Bool) (xs : List ℕ) → length xs ≤ position_or_len p xs
@@ -39,6 +40,13 @@ field_first s at n at_in is n_in =
     ∙ ap (λ k. take k (drop at s) ∷ fields_of (drop (k + 1) (drop at s))) (sym is)
     ∙ ap₂ (λ k l. take k (drop at s) ∷ fields_of l) (sym count)
     (drop-drop (n + 1) at s ∙ ap (λ k. drop k s) index)
+
+-- the bytes of a field
+pub field_bytes : (s : List ℕ) (at n : ℕ) → n ≡ position_or_len (λ b. b == 0) (drop at s)
+    → field_at s at ≡ slice_range s at (at + n)
+field_bytes s at n is =
+    let count : at + n - at ≡ n = omega arith in
+    ap (λ k. take k (drop at s)) (sym is ∙ sym count)
 
 -- a last field
 pub field_last : (s : List ℕ) (at n : ℕ) → n ≡ position_or_len (λ b. b == 0) (drop at s)

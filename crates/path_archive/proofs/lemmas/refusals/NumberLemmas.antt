@@ -1,15 +1,16 @@
 -- Uses with the numbers of their entries: no two are the same.
-use Rattle.std.proofs.Common.{◌≡◌, ◌≤◌, ◌+◌, ℕ, suc, zero, List, [], ◌∷◌, ◌++◌, map, refl, ap, ap₂}
-use Rattle.std.proofs.Common.{◌∙◌, arith}
-use Rattle.std.specs.Prelude.{All, AllPairs}
-use Rattle.std.proofs.lemmas.List.{map-append}
-use Rattle.std.proofs.lemmas.List.Elements.{All-append, All-weaker}
+use Rattle.std.proofs.Common.{◌≡◌, ◌⊎◌, ◌≤◌, ◌<◌, ◌+◌, ℕ, suc, zero, List, [], ◌∷◌, ◌++◌, map, refl}
+use Rattle.std.proofs.Common.{sym, ap, ap₂, ◌∙◌, arith, length}
+use Rattle.std.specs.Prelude.{All, AllPairs, Contains}
+use Rattle.std.proofs.lemmas.List.{append_assoc, map-append}
+use Rattle.std.proofs.lemmas.List.Elements.{All-append, All-weaker, Contains-append_cases}
 use Rattle.std.proofs.lemmas.List.Kept.{AllPairs-cons}
 use Rattle.path_archive.specs.Entries.{EntryValue, DirectoryEntry, FileEntry, SymlinkEntry}
 use Rattle.path_archive.specs.Entries.{HardLinkEntry, OtherEntry, UsedAsDirectory, UsedAsFile}
 use Rattle.path_archive.specs.Entries.{UsedAsHardLink, UsedAsOther, UsedAsSymlink, UsedAsTarget}
-use Rattle.path_archive.specs.Entries.{Use, all_uses, use_as, uses_of}
+use Rattle.path_archive.specs.Entries.{Use, all_uses, link_use, use_as, uses_of}
 use Rattle.path_archive.specs.Refusals.{AreTwo, numbered, numbered_from}
+use Rattle.path_archive.specs.Rule.{Closed, StaysInside}
 use Rattle.path_archive.proofs.lemmas.marks.PassLemmas.{rank}
 
 -- the uses without the numbers
@@ -53,6 +54,34 @@ numbers_low n (e ∷ es) =
     one (HardLinkEntry p t) = all_two (λ a. n ≤ a.0) _ _ (omega arith) (omega arith)
     one (OtherEntry p) = all_one (λ a. n ≤ a.0) _ (omega arith)
 
+-- each number is below the one after the last
+pub numbers_high : (n : ℕ) (es : List EntryValue)
+    → All (λ a. a.0 < n + length es) (numbered_from n es)
+numbers_high n [] = λ k d k_in. absurd (omega arith)
+numbers_high n (e ∷ es) =
+    All-append (λ a. a.0 < n + suc (length es)) (numbered n e) (numbered_from (n + 1) es) (one e)
+    (All-weaker (λ (a : ℕ × Use). a.0 < n + 1 + length es) (λ a. a.0 < n + suc (length es))
+    (λ a h. omega arith) (numbered_from (n + 1) es) (numbers_high (n + 1) es))
+  where
+    one : (e : EntryValue) → All (λ a. a.0 < n + suc (length es)) (numbered n e)
+    one (DirectoryEntry p) = all_one (λ a. a.0 < n + suc (length es)) _ (omega arith)
+    one (FileEntry p) = all_one (λ a. a.0 < n + suc (length es)) _ (omega arith)
+    one (SymlinkEntry p t) = all_one (λ a. a.0 < n + suc (length es)) _ (omega arith)
+    one (HardLinkEntry p t) =
+        all_two (λ a. a.0 < n + suc (length es)) _ _ (omega arith) (omega arith)
+    one (OtherEntry p) = all_one (λ a. a.0 < n + suc (length es)) _ (omega arith)
+
+-- the uses of entries in two parts
+pub numbered_append : (n : ℕ) (xs ys : List EntryValue)
+    → numbered_from n (xs ++ ys) ≡ numbered_from n xs ++ numbered_from (n + length xs) ys
+numbered_append n [] ys = ap (λ k. numbered_from k ys) (omega arith)
+numbered_append n (x ∷ xs) ys =
+    let index : n + 1 + length xs ≡ n + suc (length xs) = omega arith in
+    ap (λ us. numbered n x ++ us) (numbered_append (n + 1) xs ys
+    ∙ ap (λ k. numbered_from (n + 1) xs ++ numbered_from k ys) index)
+    ∙ sym (append_assoc (numbered n x) (numbered_from (n + 1) xs)
+    (numbered_from (n + suc (length xs)) ys))
+
 -- a use of an entry and those of later entries are two
 later_two : (n : ℕ) (u : Use) (es : List EntryValue)
     → All (AreTwo (n, u)) (numbered_from (n + 1) es)
@@ -80,7 +109,7 @@ numbered_two n (DirectoryEntry p ∷ es) =
 numbered_two n (FileEntry p ∷ es) =
     first_two n (use_as UsedAsFile p) es (numbered_two (n + 1) es)
 numbered_two n (SymlinkEntry p t ∷ es) =
-    first_two n (use_as UsedAsSymlink p) es (numbered_two (n + 1) es)
+    first_two n (link_use p t) es (numbered_two (n + 1) es)
 numbered_two n (OtherEntry p ∷ es) =
     first_two n (use_as UsedAsOther p) es (numbered_two (n + 1) es)
 numbered_two n (HardLinkEntry p t ∷ es) =
@@ -90,3 +119,44 @@ numbered_two n (HardLinkEntry p t ∷ es) =
     (All-append (AreTwo (n, u)) ((n, v) ∷ []) (numbered_from (n + 1) es)
     (all_one (AreTwo (n, u)) (n, v) (λ same. kinds_differ p t)) (later_two n u es))
     (first_two n v es (numbered_two (n + 1) es))
+
+-- a use of another rank is no symbolic link's
+differ : (v u : Use) → v ≡ u → u.used_as ≡ UsedAsSymlink → 0 < rank v.used_as → ⊥
+differ v u is link some =
+    let e : rank v.used_as ≡ 0 = ap (λ (x : Use). rank x.used_as) is ∙ ap rank link in omega arith
+
+-- a use of one entry as a symbolic link's is the link's
+link_one : (e : EntryValue) (u : Use) → Contains (uses_of e) u → u.used_as ≡ UsedAsSymlink
+    → e ≡ SymlinkEntry u.path u.target
+link_one (SymlinkEntry p t) u (zero, k_in, is) link =
+    ap (λ (v : Use). SymlinkEntry v.path v.target) is
+link_one (SymlinkEntry p t) u (suc k, k_in, is) link = absurd (omega arith)
+link_one (DirectoryEntry p) u (zero, k_in, is) link = absurd (differ _ _ is link (omega arith))
+link_one (DirectoryEntry p) u (suc k, k_in, is) link = absurd (omega arith)
+link_one (FileEntry p) u (zero, k_in, is) link = absurd (differ _ _ is link (omega arith))
+link_one (FileEntry p) u (suc k, k_in, is) link = absurd (omega arith)
+link_one (OtherEntry p) u (zero, k_in, is) link = absurd (differ _ _ is link (omega arith))
+link_one (OtherEntry p) u (suc k, k_in, is) link = absurd (omega arith)
+link_one (HardLinkEntry p t) u (zero, k_in, is) link = absurd (differ _ _ is link (omega arith))
+link_one (HardLinkEntry p t) u (suc zero, k_in, is) link =
+    absurd (differ _ _ is link (omega arith))
+link_one (HardLinkEntry p t) u (suc (suc k), k_in, is) link = absurd (omega arith)
+
+-- a symbolic link's use among those of entries is inside if the links are
+pub link_inside : (entries : List EntryValue) → Closed entries → (u : Use)
+    → Contains (all_uses entries) u → u.used_as ≡ UsedAsSymlink → StaysInside u.path u.target
+link_inside entries closed u c link =
+    closed.inside u.path u.target (link_listed entries u c link)
+  where
+    link_listed : (es : List EntryValue) (u : Use) → Contains (all_uses es) u
+        → u.used_as ≡ UsedAsSymlink → Contains es (SymlinkEntry u.path u.target)
+    link_listed [] u c link = absurd (omega (arith, c.1))
+    link_listed (e ∷ es) u c link = elim (Contains-append_cases (uses_of e) (all_uses es) u c) [
+      | ◌⊎◌.inl own ↦ (0, omega arith, link_one e u own link)
+      | ◌⊎◌.inr more ↦
+          let rest = link_listed es u more link in (
+            suc rest.0,
+            let low = rest.1 in omega arith,
+            rest.2,
+          )
+    ]

@@ -1,19 +1,24 @@
 -- Why a use is refused.
-use Rattle.std.proofs.Common.{◌≡◌, ◌≢◌, ◌⊎◌, ◌<◌, ◌+◌, ℕ, List, ◌∷◌, refl, sym, ap, ◌∙◌, subst}
-use Rattle.std.proofs.Common.{arith, length, map, slice_index_or, slice_index}
+use Rattle.std.proofs.Common.{◌≡◌, ◌≢◌, ◌⊎◌, ◌↔◌, ◌<◌, ◌+◌, ◌==◌, ℕ, Bool, true, false, List, []}
+use Rattle.std.proofs.Common.{◌∷◌, refl, sym, ap, ◌∙◌, subst, arith, length, map, slice_index_or}
+use Rattle.std.proofs.Common.{slice_index, true≢false, if◌then◌else◌}
 use Rattle.std.specs.Prelude.{AllPairs, Contains}
 use Rattle.std.proofs.lemmas.List.{get_or-map, length-append, length-map}
 use Rattle.path_archive.specs.Entries.{Use, use_as, components}
+use Rattle.path_archive.specs.Levels.{asks_closed}
 use Rattle.path_archive.specs.Marks.{Marked, use_in}
 use Rattle.path_archive.specs.Refusals.{AreTwo, ClashesFor, ForbiddenFor, IsTrueOf, numbered_at}
 use Rattle.path_archive.specs.Refusals.ClashesFor.{below, target, twice}
-use Rattle.path_archive.specs.Refusals.ForbiddenFor.{name, kind}
+use Rattle.path_archive.specs.Refusals.ForbiddenFor.{name, kind, out}
 use Rattle.path_archive.specs.Refusals.IsTrueOf.{forbidden, clashes}
-use Rattle.path_archive.specs.Rule.{Clash, IsAllowed, IsNamed, IsUsedTwice}
-use Rattle.path_archive.specs.Slots.{path_at, use_at, used_as_of}
+use Rattle.path_archive.specs.Rule.{Clash, IsAllowedAt, IsClosedAt, IsNamed, IsUsedTwice}
+use Rattle.path_archive.specs.Rule.{StaysInside}
+use Rattle.path_archive.specs.Slots.{field_at, path_at, target_at, use_at, used_as_of}
+use Rattle.path_archive.specs.declared.level.Level.{Level}
 use Rattle.path_archive.specs.declared.refusal.Reason.{Reason}
 use Rattle.path_archive.specs.declared.refusal.Reason.TheVariants.{Name, Kind, BelowLeaf}
 use Rattle.path_archive.specs.declared.refusal.Reason.TheVariants.{LinkUsedTwice, TargetIsLink}
+use Rattle.path_archive.specs.declared.refusal.Reason.TheVariants.{LeadsOut}
 use Rattle.path_archive.specs.declared.slot.Slot.{Slot}
 use Rattle.path_archive.proofs.lemmas.marks.OrderLemmas.{rank_of}
 use Rattle.path_archive.proofs.lemmas.marks.PassLemmas.{rank}
@@ -62,28 +67,73 @@ twice_reason r a b clash begins other =
     other same))
 
 -- a slot of another kind
-pub kind_reason : (r : List ℕ) (s : Slot) → s.rank ≡ 4 → ForbiddenFor (use_at r s) Kind
+pub kind_reason : (level : Level) (r : List ℕ) (s : Slot) → s.rank ≡ 4
+    → ForbiddenFor level (use_at r s) Kind
 unfolding use_at
-kind_reason r s is = kind (ap used_as_of is)
+kind_reason level r s is = kind (ap used_as_of is)
 
 -- a slot whose path is not of names
-pub name_reason : (r : List ℕ) (s : Slot)
-    → (IsNamed (use_as (used_as_of s.rank) (path_at r s)) → ⊥) → ForbiddenFor (use_at r s) Name
+pub name_reason : (level : Level) (r : List ℕ) (s : Slot)
+    → (IsNamed (use_as (used_as_of s.rank) (path_at r s)) → ⊥)
+    → ForbiddenFor level (use_at r s) Name
 unfolding use_at
-name_reason r s other = name other
+name_reason level r s other =
+    name (λ h. other record { names = h.names; no_nul = h.no_nul; ends = h.ends })
 
--- a slot whose path is of names, and whose kind is known
-pub allowed_at : (r : List ℕ) (s : Slot) → s.rank ≢ 4
-    → IsNamed (use_as (used_as_of s.rank) (path_at r s)) → IsAllowed (use_at r s)
+-- a slot whose path is of names, whose kind is known, and whose link doesn't lead out
+pub allowed_at : (level : Level) (r : List ℕ) (s : Slot) → s.rank ≢ 4
+    → IsNamed (use_as (used_as_of s.rank) (path_at r s)) → IsClosedAt level (use_at r s)
+    → IsAllowedAt level (use_at r s)
 unfolding use_at
-allowed_at r s other h = record {
-  named = h;
-  known = λ is.
-      (let first : 4 ≡ rank (used_as_of s.rank) = sym (ap rank is) in
-      let second = rank_of s.rank in
-      let same : s.rank ≡ 4 = omega arith in
-      other same);
+allowed_at level r s other h inside = record {
+  allowed = record {
+    named = record { names = h.names; no_nul = h.no_nul; ends = h.ends };
+    known = λ is.
+        (let first : 4 ≡ rank (used_as_of s.rank) = sym (ap rank is) in
+        let second = rank_of s.rank in
+        let same : s.rank ≡ 4 = omega arith in
+        other same);
+  };
+  closed = inside;
 }
+
+-- a slot of a link that leads out
+pub out_reason : (level : Level) (r : List ℕ) (s : Slot) → (IsClosedAt level (use_at r s) → ⊥)
+    → ForbiddenFor level (use_at r s) LeadsOut
+out_reason level r s other = out other
+
+-- a level that doesn't ask where links lead
+pub not_asked : (level : Level) (u : Use) → asks_closed level ≡ false
+    → (false ≡ false) ↔ IsClosedAt level u
+not_asked level u is = (λ h asked. absurd (true≢false (sym asked ∙ is)), λ h. refl)
+
+-- a slot that isn't a symbolic link's
+pub no_link : (level : Level) (r : List ℕ) (s : Slot) → s.rank ≢ 0
+    → (false ≡ false) ↔ IsClosedAt level (use_at r s)
+unfolding use_at
+no_link level r s other = (
+  λ h asked is. absurd
+      (let first : 0 ≡ rank (used_as_of s.rank) = sym (ap rank is) in
+      let second = rank_of s.rank in
+      let same : s.rank ≡ 0 = omega arith in
+      other same),
+  λ h. refl,
+)
+
+-- a slot of a symbolic link, at a level that asks where it leads
+pub link_leads : (level : Level) (r : List ℕ) (s : Slot) (t : Bool) (path to : List ℕ)
+    → asks_closed level ≡ true → s.rank ≡ 0 → path ≡ path_at r s
+    → to ≡ field_at r (s.end + 1) → ((t ≡ false) ↔ StaysInside path to)
+    → (t ≡ false) ↔ IsClosedAt level (use_at r s)
+unfolding use_at
+link_leads level r s t path to asked link path_is to_is found =
+    let field : to ≡ target_at r s = to_is
+    ∙ sym (ap (λ k. if k == 0 then field_at r (s.end + 1) else []) link) in (
+      λ h asks is. subst (λ p. StaysInside p (target_at r s)) path_is
+          (subst (StaysInside path) field (found.0 h)),
+      λ h. found.1 (subst (λ p. StaysInside p to) (sym path_is)
+          (subst (StaysInside (path_at r s)) (sym field) (h asked (ap used_as_of link)))),
+    )
 
 -- a slot's use is among the uses
 pub use_listed : (r : List ℕ) (ss : List Slot) (k : ℕ) (d : Slot) → k < length ss
@@ -121,15 +171,16 @@ cause_clashes r ss k d e k_in marked other =
     )
 
 -- the refusal of a use that isn't allowed
-pub forbidden_true : (r : List ℕ) (ss : List Slot) (k : ℕ) (d : Slot) (reason : Reason)
-    → k < length ss → ForbiddenFor (use_at r (slice_index_or ss k d)) reason
-    → IsTrueOf (map (numbered_at r) ss) (record {
+pub forbidden_true : (level : Level) (r : List ℕ) (ss : List Slot) (k : ℕ) (d : Slot)
+    (reason : Reason) → k < length ss
+    → ForbiddenFor level (use_at r (slice_index_or ss k d)) reason
+    → IsTrueOf level (map (numbered_at r) ss) (record {
       entry = (slice_index_or ss k d).entry;
       cause = (slice_index_or ss k d).entry;
       reason =
           reason;
     })
-forbidden_true r ss k d reason k_in why = forbidden (use_listed r ss k d k_in) refl why
+forbidden_true level r ss k d reason k_in why = forbidden (use_listed r ss k d k_in) refl why
 
 -- two slots are two uses
 two_at : (r : List ℕ) (ss : List Slot) (v k : ℕ) (e d : Slot)
@@ -144,16 +195,17 @@ two_at r ss v k e d two before k_in =
     (get_or-map (numbered_at r) ss k d z k_in) (two v k z before (omega arith)))
 
 -- the refusal of a use that clashes with its cause
-pub clash_true : (r : List ℕ) (ss : List Slot) (k : ℕ) (d e : Slot) (reason : Reason)
-    → k < length ss → AllPairs AreTwo (map (numbered_at r) ss) → (slice_index_or ss k d).cause < k
+pub clash_true : (level : Level) (r : List ℕ) (ss : List Slot) (k : ℕ) (d e : Slot)
+    (reason : Reason) → k < length ss → AllPairs AreTwo (map (numbered_at r) ss)
+    → (slice_index_or ss k d).cause < k
     → ClashesFor (use_at r (slice_index_or ss (slice_index_or ss k d).cause e))
     (use_at r (slice_index_or ss k d)) reason
-    → IsTrueOf (map (numbered_at r) ss) (record {
+    → IsTrueOf level (map (numbered_at r) ss) (record {
       entry = (slice_index_or ss k d).entry;
       cause = (slice_index_or ss (slice_index_or ss k d).cause e).entry;
       reason = reason;
     })
-clash_true r ss k d e reason k_in two before why =
+clash_true level r ss k d e reason k_in two before why =
     clashes (use_listed r ss (slice_index_or ss k d).cause e (omega arith))
     (use_listed r ss k d k_in)
     (two_at r ss (slice_index_or ss k d).cause k e d two before k_in) why

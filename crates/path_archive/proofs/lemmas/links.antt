@@ -1,0 +1,2 @@
+-- Where symbolic links lead.
+pub mod LinkLemmas
