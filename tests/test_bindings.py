@@ -15,6 +15,7 @@ needs libsqlite3-dev; etcd needs etcd-server and pathtool. What lacks something 
 """
 import functools
 import glob
+import html
 import itertools
 import json
 import os
@@ -27,9 +28,9 @@ import tempfile
 import unittest
 
 from c_tests import CALL_TESTS, STRICT, Build, CTest
-from repository import MAP, read_version, read_versions
+from repository import MAP, read_version, read_versions, with_serde
 from support import (CALLS, LIBRARY, NEEDED, PROGRAM, ROOT, SONAME, VERSION, VERSIONED, main, needs,
-                     read, run, said, write)
+                     read, run, said, write, write_package)
 
 BUILT = os.path.dirname(LIBRARY)
 SHARED = f"{BUILT}/libunix_path.so"
@@ -72,12 +73,15 @@ PLACES = {"installed": ({"PREFIX": "{}", "LIBDIR": "{}/lib", "INCLUDEDIR": "{}/i
           "installed apart": ({"DESTDIR": "{}", "PREFIX": "/usr", "LIBDIR": "/opt/own/lib",
                                "INCLUDEDIR": "/usr/include/own"}, "opt/own/lib")}
 MANIFEST = ["--offline", "--manifest-path", "bindings/rust/Cargo.toml"]
-# The crate with functions over slices, and the crate with types of paths, and the test of each that
-# asks the rows.
-CRATES = ["-p", "unix_path_rattle", "-p", "unix_path_typed"]
-ROW_TESTS = {"unix_path_rattle": "calls", "unix_path_typed": "typed"}
-# The feature that links them with an installed library.
-SYSTEM = ["--features", "unix_path_rattle/system"]
+# The feature that links an installed library.
+SYSTEM = ["--features", "system"]
+# Where Debian's packages put crates, and how cargo finds them there.
+REGISTRY = "/usr/share/cargo/registry"
+OF_DEBIAN = f"""[source.crates-io]
+replace-with = 'debian'
+[source.debian]
+directory = '{REGISTRY}'
+"""
 
 
 def compiles(words, source, *options):
@@ -508,8 +512,35 @@ class Installed(Compiled):
             self.call("conan", "create", "packaging/conan", env=home)
 
 
+def source_of_std(name):
+    """Returns the documentation in a file of the std of this rustc, from its sources or from the
+    page that shows them, as Markdown. Returns None if neither is installed."""
+    top = run(["rustc", "--print", "sysroot"]).stdout.decode().strip()
+    source, page = (f"{top}/{it}/std/src/{name}" for it in (
+        "lib/rustlib/src/rust/library", "share/doc/rust/html/src"))
+    page = f"{page.replace('/std/src/', '/std/')}.html"
+    if os.path.exists(source):
+        text = read(source).decode()
+    elif os.path.exists(page):
+        code = re.search(r'<pre class="rust"><code>(.*)</code>', read(page).decode(), re.S)[1]
+        shown = re.sub("<a href=#\\d+ id=\\d+ data-nosnippet>\\d+</a>|<[^>]*>", "", code)
+        text = html.unescape(shown)
+    else:
+        return None
+    return "".join(f"{it}\n" for it in re.findall(r"^ *//[/!] ?(.*)$", text, re.M))
+
+
+def renamed(code):
+    """Returns code over std::path with our names."""
+    for old, new in (("std::path", "unix_path_proved"), ("path::", "unix_path_proved::"),
+                     ("std::ffi", "unix_path_proved"), ("OsStr", "UnixStr"),
+                     ("OsString", "UnixString"), ("os_str", "unix_str")):
+        code = re.sub(rf"(?<![A-Za-z]){old}", new, code)
+    return code
+
+
 class Cargo(CTest):
-    """Tests of the crates for Rust. Those of a class share what cargo builds."""
+    """Tests of the crate for Rust. Those of a class share what cargo builds."""
     flags = []
 
     @classmethod
@@ -520,74 +551,111 @@ class Cargo(CTest):
                            "RUSTFLAGS": " ".join(["-D warnings", *cls.flags])}
 
     def cargo(self, *words, **variables):
-        """Runs cargo over the crates for Rust."""
+        """Runs cargo over the crate for Rust."""
         return self.passes(["cargo", words[0], *MANIFEST, *words[1:]],
                            env={**self.environment, **variables})
 
-    def try_rows(self, crate, label, *words, **variables):
-        """Asks the rows through one of the crates for Rust, built with these words."""
-        with self.row(f"{crate}, {label}"):
-            self.all_rows(["cargo", "test", *MANIFEST, "-p", crate, *words, "--test",
-                           ROW_TESTS[crate], "rows::", "--", "--nocapture"],
-                          env={**self.environment, **variables})
+    def try_rows(self, label, *words, **variables):
+        """Asks the rows through the types and through the calls, built with these words."""
+        for test in "of_types", "of_slices":
+            with self.row(test, label):
+                self.all_rows(["cargo", "test", *MANIFEST, *words, "--test", "suite",
+                               f"rows::{test}", "--", "--nocapture"],
+                              env={**self.environment, **variables})
 
 
 @has_cc
 @needs("cargo")
 class Rust(Cargo):
-    """The crates for Rust with the assembly."""
+    """The crate for Rust with the assembly."""
 
     def test_features(self):
-        for words in (["--no-default-features"], ["--no-default-features", "--features", "alloc"],
-                      ["--no-default-features", "-p", "unix_path_typed"], ["--workspace"]):
-            with self.row(*words):
+        for words in ([], ["--no-default-features"],
+                      ["--no-default-features", "--features", "alloc"]):
+            with self.row("features", *words):
                 self.cargo("build", *words)
 
     def test_tests(self):
-        self.cargo("test", *CRATES, "--tests")
+        self.cargo("test", "--tests")
 
     def test_rows(self):
-        for crate in ROW_TESTS:
-            self.try_rows(crate, "as in tests")
+        self.try_rows("as in tests")
 
     def test_documentation(self):
-        self.cargo("test", *CRATES, "--doc")
+        self.cargo("test", "--doc")
 
     def test_pages(self):
-        self.cargo("doc", "--no-deps", *CRATES, RUSTDOCFLAGS="-D warnings")
+        self.cargo("doc", "--no-deps", RUSTDOCFLAGS="-D warnings")
 
     def test_levels(self):
         """Asks the rows without optimization, with it, and with fat LTO in one codegen unit."""
         for level, lto, units in ("0", "off", "16"), ("3", "off", "16"), ("3", "fat", "1"):
-            self.try_rows("unix_path_rattle", f"level {level}, LTO {lto}", "--release",
+            self.try_rows(f"level {level}, LTO {lto}", "--release",
                           CARGO_PROFILE_RELEASE_OPT_LEVEL=level, CARGO_PROFILE_RELEASE_LTO=lto,
                           CARGO_PROFILE_RELEASE_CODEGEN_UNITS=units)
 
-    def test_lookup(self):
-        """The example answers requests."""
-        manifest = "examples/lookup/Cargo.toml"
-        self.passes(["cargo", "build", "--offline", "--manifest-path", manifest],
+    def test_without_assembly(self):
+        """Where there is no assembly, such as in Miri, a program can be checked, and the linker
+        says why it can't be linked."""
+        variables = {**self.environment, "RUSTFLAGS": "-D warnings --cfg miri"}
+        for command in "check", "doc":
+            self.cargo(command, **variables)
+        self.refused(["cargo", "test", *MANIFEST, "--test", "suite", "--no-run"],
+                     "undefined (?s:.*)unix_path_proved has no assembly for this target",
+                     env=variables)
+
+    def test_examples_of_std(self):
+        """The examples of std::path's own documentation run with our types in place of those of
+        std, except those that need Windows, files, the current directory or a nightly compiler."""
+        text = source_of_std("path.rs")
+        if not text:
+            self.leave_out("the examples of std::path", "neither rust-src nor rust-docs is there")
+        blocks = re.findall(r"^```(\S*)\n(.*?)^```", text, re.M | re.S)
+        examples = [renamed(code) for words, code in blocks if words in ("", "rust")
+                    and not re.search(r"#!\[feature|Prefix|path::absolute", code)]
+        self.assertGreater(len(examples), 50)
+        write_package(f"{self.folder}/std", "fn main() {}", [
+            f"unix_path_proved = {{ path = '{ROOT}/bindings/rust' }}"])
+        # With this edition the examples are compiled together.
+        self.call("sed", "-i", "s/2021/2024/", f"{self.folder}/std/Cargo.toml")
+        write(f"{self.folder}/std/src/lib.rs", '#![doc = include_str!("examples.md")]')
+        write(f"{self.folder}/std/src/examples.md", *(f"```\n{it}```" for it in examples))
+        printed = self.passes(["cargo", "test", "--offline", "--doc", "--manifest-path",
+                               f"{self.folder}/std/Cargo.toml"], env=self.environment)
+        self.assertIn(f"{len(examples)} passed; 0 failed; 0 ignored".encode(), printed)
+
+    def test_serde(self):
+        """With the feature `serde`, which the crate of `make dist` has, over the crates of
+        Debian."""
+        if not glob.glob(f"{REGISTRY}/serde_json-*"):
+            self.leave_out("the feature serde", "librust-serde-json-dev is missing")
+        top = f"{self.folder}/serde"
+        os.mkdir(top)
+        for name in "src", "asm", "tests", "build.rs":
+            os.symlink(f"{ROOT}/bindings/rust/{name}", f"{top}/{name}")
+        manifest = with_serde(read("bindings/rust/Cargo.toml").decode())
+        write(f"{top}/Cargo.toml", manifest, "[dev-dependencies]", "serde_json = '1'")
+        write(f"{top}/debian.toml", OF_DEBIAN)
+        self.passes(["cargo", "--config", f"{top}/debian.toml", "test", "--offline", "--features",
+                     "serde", "--manifest-path", f"{top}/Cargo.toml", "--test", "serde"],
                     env=self.environment)
-        self.answers([f"{self.folder}/debug/lookup", "examples/lookup/www"],
-                     "examples/lookup/requests.in", "examples/lookup/requests.out")
 
 
 @has_cc
 @has_shared
 @needs("cargo", "readelf")
 class SystemRust(Cargo):
-    """The crates for Rust with the shared library, as if it were installed."""
+    """The crate for Rust with the shared library, as if it were installed."""
     flags = [f"-L native={BUILT}", f"-C link-arg={LINKED[1]}"]
 
     def test_rows(self):
-        for crate in ROW_TESTS:
-            self.try_rows(crate, "as in tests", *SYSTEM)
-        self.try_rows("unix_path_rattle", "release", "--release", *SYSTEM)
+        self.try_rows("as in tests", *SYSTEM)
+        self.try_rows("release", "--release", *SYSTEM)
 
     def test_needed(self):
-        """A program over the crates needs the shared library."""
-        self.cargo("test", *CRATES, *SYSTEM, "--test", "calls", "--no-run")
-        program, = (it for it in glob.glob(f"{self.folder}/debug/deps/calls-*") if "." not in
+        """A program over the crate needs the shared library."""
+        self.cargo("test", *SYSTEM, "--test", "suite", "--no-run")
+        program, = (it for it in glob.glob(f"{self.folder}/debug/deps/suite-*") if "." not in
                     os.path.basename(it))
         self.assertIn(SONAME, self.call("readelf", "-d", program).decode())
 
@@ -595,13 +663,13 @@ class SystemRust(Cargo):
 @has_cc
 @needs("cargo", "ar")
 class UntrustedRust(Cargo):
-    """The crates for Rust with a library that returns random results."""
+    """The crate for Rust with a library that returns random results."""
 
     def test_untrusted(self):
         self.call(*CCS[0], "-std=c11", *STRICT, "-c", "bindings/rust/tests/untrusted/answers.c",
                   "-o", f"{self.folder}/answers.o")
         self.call("ar", "rcs", f"{self.folder}/libunix_path.a", f"{self.folder}/answers.o")
-        self.cargo("test", *CRATES, *SYSTEM, "--test", "untrusted",
+        self.cargo("test", *SYSTEM, "--test", "untrusted",
                    RUSTFLAGS=f"-D warnings -L native={self.folder}")
 
 

@@ -4,7 +4,7 @@
 Copies of the repository are built with only POSIX commands, make and cc; with a byte of a file
 changed; for another machine; and with commands that are missing or fail. The example of README.md
 and projects of CMake are built elsewhere. The objects and libraries are read with readelf and nm.
-The crates for Rust, which contain the assembly, are packed, compiled for each target, and built
+The crate for Rust, which contains the assembly, is packed, compiled for each target, and built
 into a program. shellcheck reads each script. Needs make, cc, readelf and nm.
 """
 import os
@@ -425,13 +425,13 @@ def write_constants(folder, **crates):
     """Writes the program tests/rust_asm/constants.rs, which depends on the crate in each of these
     directories, by the name for it."""
     write_package(folder, read("tests/rust_asm/constants.rs").decode(), [
-        f"{name} = {{ package = 'unix_path_rattle', path = '{crate}' }}"
+        f"{name} = {{ package = 'unix_path_proved', path = '{crate}' }}"
         for name, crate in crates.items()])
 
 
 def build_constants(folder, crate, profile):
     """Builds and runs the program with a crate. Returns how the last command ended."""
-    write_constants(folder, unix_path_rattle=crate)
+    write_constants(folder, unix_path_proved=crate)
     names = ("OPT_LEVEL", "LTO", "CODEGEN_UNITS")
     found = run(["cargo", "build", "--offline"], folder, CARGO_TARGET_DIR=f"{folder}/target",
                 **{f"CARGO_PROFILE_DEV_{name}": it for name, it in zip(names, profile)})
@@ -481,9 +481,10 @@ class Rust(BuildCase):
         self.check_calls(f"{self.folder}/{target}/code.o")
 
     def try_other_target(self, target):
-        text = said(self.rustc(target))
-        self.assertEqual(text.count("error: "), 2, text)
-        self.assertIn("error: unix_path_rattle has code for Linux", text)
+        """For another target, a program can be compiled, but has no code of the calls."""
+        found = self.rustc(target)
+        self.assertEqual(found.returncode, 0, said(found))
+        self.assertNotIn(b"unix_path_", read(f"{self.folder}/{target}/code.o"))
 
     def try_clang(self, target):
         file = f"{self.folder}/{target}.o"
@@ -493,7 +494,7 @@ class Rust(BuildCase):
         self.check_calls(file)
 
     def test_targets(self):
-        """rustc assembles each file of asm/ for its targets, and rejects other targets."""
+        """rustc assembles each file of asm/ for its targets, and none for other targets."""
         named = set(re.findall(r"asm/(\S+)/unix_path\.s",
                                read(f"bindings/rust/{CODE}").decode()))
         there = {it for it in os.listdir(f"{ROOT}/asm")
@@ -508,22 +509,19 @@ class Rust(BuildCase):
         self.each(self.try_clang, TARGETS)
 
     def test_package(self):
-        """cargo packs the crates with the assembly, notices and licences, and verifies them."""
-        self.ran(["cargo", "package", "--workspace", "--offline", "--allow-dirty", "--target-dir",
-                  self.folder], CRATE)
+        """cargo packs the crate with the assembly, notices and licences, and verifies it."""
+        self.ran(["cargo", "package", "--offline", "--allow-dirty", "--target-dir", self.folder],
+                 CRATE)
         own = r"src/[\w/]+\.rs|Cargo\.(toml|toml\.orig|lock)|README\.md|build\.rs|" \
               r"\.cargo_vcs_info\.json"
-        assembly = ["asm/PROVED.txt", "asm/NOTICES.txt",
-                    *(f"asm/{it}/unix_path.s" for it in TARGETS.values())]
-        for name, more in ("unix_path_rattle", assembly), ("unix_path_typed", []):
-            with self.row(name), tarfile.open(
-                    f"{self.folder}/package/{name}-{VERSION}.crate") as archive:
-                files = {it.name.partition("/")[2]: archive.extractfile(it).read()
-                         for it in archive}
-                others = {it for it in files if not re.fullmatch(own, it)}
-                self.assertEqual(others, {"LICENSE-APACHE", "LICENSE-MIT", *more})
-                for it in others:
-                    self.assertEqual(files[it], read(it), it)
+        wanted = {"LICENSE-APACHE", "LICENSE-MIT", "asm/PROVED.txt", "asm/NOTICES.txt",
+                  *(f"asm/{it}/unix_path.s" for it in TARGETS.values())}
+        with tarfile.open(f"{self.folder}/package/unix_path_proved-{VERSION}.crate") as archive:
+            files = {it.name.partition("/")[2]: archive.extractfile(it).read() for it in archive}
+        others = {it for it in files if not re.fullmatch(own, it)}
+        self.assertEqual(others, wanted)
+        for it in others:
+            self.assertEqual(files[it], read(it), it)
 
 
 def is_script(path):

@@ -9,6 +9,7 @@ Windows and with musl. Then the package is removed. The small system needs unsha
 to mount directories.
 """
 import fnmatch
+import glob
 import io
 import os
 import pathlib
@@ -26,8 +27,9 @@ from repository import read_programs, read_version, toolchain_folder
 from test_processors import find_wine, running_wine
 
 PACKAGES = "libunix-path1 libunix-path-dev unix-path-tools".split()
-CRATES = ["unix_path_rattle", "unix_path_typed"]
 WHEELS = [f"unix_path-{VERSION}-cp38-abi3-manylinux2014_{it}.whl" for it in ("x86_64", "aarch64")]
+CRATE = f"unix_path_proved-{VERSION}"
+REGISTRY = "/usr/share/cargo/registry"
 SYSTEMS = {"x86_64-linux": "amd64", "aarch64-linux": "arm64"}
 DATED = {"SOURCE_DATE_EPOCH": "1700000000", "MAINTAINER": "Ada <ada@debian.org>"}
 ARM = ("qemu-aarch64", "aarch64-linux-gnu-gcc")
@@ -105,10 +107,17 @@ fn main() {
     assert!(!unsafe { unix_path_equal(a.as_ptr(), a.len(), b.as_ptr(), 1) });
 }
 """
-CRATES_MAIN = """fn main() {
-    assert_eq!(unix_path_rattle::parent(b"/tmp//foo/./bar.txt"), Some(&b"/tmp//foo"[..]));
-    assert!(unix_path_typed::Path::new("a/./b//") == unix_path_typed::Path::new("a/b"));
+CRATE_MAIN = """use unix_path_proved::Path;
+
+fn main() {
+    assert_eq!(Path::new("/srv").join_beneath("a/../b").unwrap(), Path::new("/srv/b"));
 }
+"""
+# Takes crates from those of Debian's packages.
+OF_DEBIAN = f"""[source.crates-io]
+replace-with = "debian"
+[source.debian]
+directory = "{REGISTRY}"
 """
 WINDOWS_MAIN = """#include <unix_path.h>
 
@@ -179,8 +188,8 @@ class Contents(Packages):
         if not left_out:
             self.assertEqual(set(os.listdir(self.out)), {
                 "SHA256SUMS", *(f"unix_path-{VERSION}-{it}.tar.xz" for it in ("asm", *SYSTEMS)),
-                f"unix_path-{VERSION}-x86_64-windows.zip",
-                *(f"{it}-{VERSION}.crate" for it in CRATES), *WHEELS, f"unix_path-{VERSION}.tar.gz",
+                f"unix_path-{VERSION}-x86_64-windows.zip", f"{CRATE}.crate", *WHEELS,
+                f"unix_path-{VERSION}.tar.gz",
                 *(f"{package}_{VERSION}_{it}.deb" for package in PACKAGES
                   for it in SYSTEMS.values())})
 
@@ -360,7 +369,7 @@ class Notices(Packages):
 
     def test_packed(self):
         """The notices are packed with every binary and with asm/."""
-        for name in set(os.listdir(self.out)) - {"SHA256SUMS", f"{CRATES[1]}-{VERSION}.crate"}:
+        for name in set(os.listdir(self.out)) - {"SHA256SUMS"}:
             with self.row(name):
                 found = list(pathlib.Path(self.unpacked(name)).rglob("NOTICES.txt"))
                 self.assertEqual([it.read_bytes() for it in found], [read(NOTICES)])
@@ -498,13 +507,29 @@ class Uses(Packages):
             "/usr", "/usr/lib/aarch64-linux-gnu"))
 
     @needs("rustc", "cargo")
-    def test_crates(self):
-        """A Rust program is built from both crates, and from no other package."""
-        for name in CRATES:
-            self.unpack(f"{name}-{VERSION}.crate", f"{self.top}/try")
-        lines = [f"{it} = {{ path = '{it}-{VERSION}' }}" for it in CRATES]
-        write_package(f"{self.top}/try", CRATES_MAIN, lines, "[patch.crates-io]", lines[0])
+    def test_crate(self):
+        """A Rust program is built from the crate and no other package: serde is only named."""
+        self.unpack(f"{CRATE}.crate", f"{self.top}/try")
+        write(f"{self.top}/try/serde/Cargo.toml", "[package]", "name = 'serde'",
+              "version = '1.0.0'", "[features]", "alloc = []")
+        write(f"{self.top}/try/serde/src/lib.rs")
+        write_package(f"{self.top}/try", CRATE_MAIN, [f"unix_path_proved = {{ path = '{CRATE}' }}"],
+                      "[patch.crates-io]", "serde = { path = 'serde' }")
         self.enter("cargo run --offline --quiet")
+
+    @needs("rustc", "cargo")
+    def test_service(self):
+        """The example with serde in its configuration is built in an empty directory, and answers
+        requests."""
+        if not glob.glob(f"{REGISTRY}/serde_json-*"):
+            self.leave_out("the service with serde", "librust-serde-json-dev is missing")
+        shutil.copytree(f"{ROOT}/examples/lookup", f"{self.top}/try/lookup", ignore=(
+            shutil.ignore_patterns("target", "Cargo.lock", "unix_path_proved-*")))
+        self.unpack(f"{CRATE}.crate", f"{self.top}/try/lookup")
+        write(f"{self.top}/try/lookup/.cargo/config.toml", OF_DEBIAN)
+        self.enter("cd lookup\ncargo build --offline --quiet\n"
+                   "target/debug/lookup site.json < requests.in > answers\n"
+                   "cmp answers requests.out")
 
 
 class Windows(Packages):

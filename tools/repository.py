@@ -63,6 +63,20 @@ def read_versions():
     return {version: re.findall(r"\bunix_path_(\w+);", calls) for version, calls in nodes}
 
 
+def with_serde(manifest):
+    """Returns the manifest of the crate for Rust with the feature `serde`."""
+    return manifest.replace("[features]\n", """[dependencies.serde]
+version = "1"
+optional = true
+default-features = false
+features = ["alloc"]
+
+[features]
+# Serialize and Deserialize for Path, PathBuf and Box<Path>.
+serde = ["alloc", "dep:serde"]
+""", 1)
+
+
 def is_program(crate):
     return os.path.exists(f"{ROOT}/crates/{crate}/src/main.rt")
 

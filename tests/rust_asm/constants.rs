@@ -6,7 +6,7 @@
 //! with the library's constant. So this program has many functions, each with its own constants and
 //! tables, and compares what they return with integers that are computed in another way.
 use std::hint::black_box;
-use unix_path_rattle::{components, equal, is_utf8, join, Component};
+use unix_path_proved::{Component, Path};
 
 /// Computes with floats that the compiler keeps as vectors.
 #[inline(never)]
@@ -95,12 +95,12 @@ macro_rules! check_each {
 
 /// Checks results of the library, which has constants and tables too.
 fn check_library() {
-    let path = black_box(&b"/srv/./images//a-long-name/of-a-directory/photo.jpeg/."[..]);
-    let other = black_box(&b"/srv/images/a-long-name/of-a-directory//photo.jpeg"[..]);
-    assert!(equal(path, other) && is_utf8(path));
-    let last = components(path).next_back();
-    assert_eq!(last, Some(Component::Normal(b"photo.jpeg")));
-    assert_eq!(join(b"/srv", b"a", &mut [0; 8]), Ok(&b"/srv/a"[..]));
+    let path = black_box(Path::new("/srv/./images//a-long-name/of-a-directory/photo.jpeg/."));
+    let other = black_box(Path::new("/srv/images/a-long-name/of-a-directory//photo.jpeg"));
+    assert!(path == other && path.check_request().is_err());
+    let last = path.components().next_back();
+    assert_eq!(last, Some(Component::Normal("photo.jpeg".as_ref())));
+    assert_eq!(Path::new("/srv").join("a").as_unix_str(), "/srv/a");
 }
 
 fn main() {

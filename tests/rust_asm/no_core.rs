@@ -15,9 +15,3 @@ pub mod arch {
 macro_rules! include_str {
     () => {};
 }
-
-#[rustc_builtin_macro]
-#[macro_export]
-macro_rules! compile_error {
-    () => {};
-}

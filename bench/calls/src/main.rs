@@ -9,6 +9,7 @@
 mod clock;
 mod commands;
 mod corpora;
+mod jobs;
 mod programs;
 mod random;
 mod rows;
@@ -100,6 +101,15 @@ fn print_rows(rows: &[Row], corpora: &[Corpus], options: &Options, timer: &Timer
     })
 }
 
+/// Prints the rows of jobs. Returns true if all results are the same.
+fn print_jobs(options: &Options, timer: &Timer) -> bool {
+    let wanted = jobs::JOBS.iter().filter(|job| options.has_row(job.0));
+    wanted.fold(true, |is_same, (name, count, ours, std)| {
+        let measure = jobs::measure(*count, *ours, *std, timer);
+        measure.is_none_or(|it| print(name, &[it])) && is_same
+    })
+}
+
 /// Prints the rows of sorts. Returns true if all orders are the same.
 fn print_sorts(corpora: &[Corpus], options: &Options, timer: &Timer) -> bool {
     let mut is_same = true;
@@ -130,6 +140,7 @@ fn main() -> ExitCode {
     println!("| Call | Our time / Rust's |\n|---|---|");
     let mut is_same = print_rows(ROWS, &corpora, &options, &timer);
     is_same &= print_sorts(&corpora, &options, &timer);
+    is_same &= print_jobs(&options, &timer);
     let texts: Vec<Corpus> = corpora.into_iter().chain(texts::corpora()).collect();
     is_same &= print_rows(TEXT_ROWS, &texts, &options, &timer);
     if options.has_row("pathtool") {

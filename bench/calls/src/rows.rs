@@ -4,7 +4,7 @@ use std::ffi::OsStr;
 use std::hash::{DefaultHasher, Hash, Hasher};
 use std::os::unix::ffi::OsStrExt;
 use std::path::{Component, Path, PathBuf};
-use unix_path_rattle::{self as paths, edits, owned, Error};
+use unix_path_proved::{self as ours, calls, UnixStr};
 
 /// A call as one side makes it. The number that it returns is a digest of its result.
 pub type Side = fn(&[u8], &[u8]) -> u64;
@@ -35,6 +35,11 @@ pub fn digest(bytes: &[u8]) -> u64 {
     (bytes.len() as u64).wrapping_mul(65_599).wrapping_add(ends)
 }
 
+/// Returns the bytes as our path.
+pub fn path(bytes: &[u8]) -> &ours::Path {
+    ours::Path::new(bytes)
+}
+
 /// Returns the bytes as a path of std.
 pub fn std_path(bytes: &[u8]) -> &Path {
     Path::new(OsStr::from_bytes(bytes))
@@ -45,19 +50,19 @@ fn of(path: impl AsRef<OsStr>) -> u64 {
     digest(path.as_ref().as_bytes())
 }
 
+/// Returns the digest of our `Path`, `PathBuf` or `UnixStr`.
+fn our(path: impl AsRef<UnixStr>) -> u64 {
+    digest(path.as_ref().as_bytes())
+}
+
 /// Returns the digest of a result, or `u64::MAX` if there is none.
-fn some(found: Option<&[u8]>) -> u64 {
-    found.map_or(u64::MAX, digest)
+fn some<T: AsRef<UnixStr>>(found: Option<T>) -> u64 {
+    found.map_or(u64::MAX, our)
 }
 
 /// Returns the same for a result of std.
 fn some_of<T: AsRef<OsStr>>(found: Option<T>) -> u64 {
     found.map_or(u64::MAX, of)
-}
-
-/// Returns the digest of a new path, or `u64::MAX` for an error.
-fn made(path: Result<Vec<u8>, Error>) -> u64 {
-    path.map_or(u64::MAX, |path| digest(&path))
 }
 
 /// Returns a digest of several results.
@@ -69,6 +74,10 @@ fn all<'a>(items: impl Iterator<Item = &'a [u8]>) -> u64 {
 
 fn bytes_of<'a>(part: Component<'a>) -> &'a [u8] {
     part.as_os_str().as_bytes()
+}
+
+fn our_bytes<'a>(part: ours::Component<'a>) -> &'a [u8] {
+    part.as_unix_str().as_bytes()
 }
 
 /// Takes items from both ends, alternating. Returns a digest of them.
@@ -102,13 +111,14 @@ fn resolved(path: &[u8]) -> PathBuf {
 }
 
 /// Pushes the other path onto a copy of the path and pops, four times.
-fn push_pop(path: &[u8], other: &[u8]) -> u64 {
-    let mut edited = path.to_vec();
+fn push_pop(of: &[u8], other: &[u8]) -> u64 {
+    let mut edited = path(of).to_path_buf();
     (0..4).fold(0_u64, |sum, _| {
-        let pushed = edits::push(&mut edited, other).map_or(0, |()| digest(&edited));
-        let popped = u64::from(edits::pop(&mut edited));
+        edited.push(other);
+        let pushed = our(&edited);
+        let popped = u64::from(edited.pop());
         sum.wrapping_mul(31)
-            .wrapping_add(pushed ^ popped ^ digest(&edited))
+            .wrapping_add(pushed ^ popped ^ our(&edited))
     })
 }
 
@@ -125,10 +135,10 @@ fn std_push_pop(path: &[u8], other: &[u8]) -> u64 {
 }
 
 /// Sets the extension of a copy of the path.
-fn set_extension(path: &[u8], extension: &[u8]) -> u64 {
-    let mut edited = path.to_vec();
-    let is_set = edits::set_extension(&mut edited, extension);
-    digest(&edited) ^ u64::from(is_set == Ok(true))
+fn set_extension(of: &[u8], extension: &[u8]) -> u64 {
+    let mut edited = path(of).to_path_buf();
+    let is_set = edited.set_extension(extension);
+    our(&edited) ^ u64::from(is_set)
 }
 
 /// The same over std.
@@ -138,8 +148,8 @@ fn std_set_extension(path: &[u8], extension: &[u8]) -> u64 {
     of(&edited) ^ u64::from(is_set)
 }
 
-fn key_and_back(path: &[u8]) -> u64 {
-    made(owned::key(path).and_then(|key| owned::from_key(&key)))
+fn key_and_back(of: &[u8]) -> u64 {
+    some(ours::PathBuf::from_key(&path(of).key()).ok())
 }
 
 fn sip_hash(path: &[u8]) -> u64 {
@@ -148,16 +158,16 @@ fn sip_hash(path: &[u8]) -> u64 {
     hasher.finish()
 }
 
-fn equal(path: &[u8], other: &[u8]) -> u64 {
-    paths::equal(path, other).into()
+fn equal(a: &[u8], b: &[u8]) -> u64 {
+    (path(a) == path(b)).into()
 }
 
 fn std_equal(path: &[u8], other: &[u8]) -> u64 {
     (std_path(path) == std_path(other)).into()
 }
 
-fn compare(path: &[u8], other: &[u8]) -> u64 {
-    paths::compare(path, other) as u64
+fn compare(a: &[u8], b: &[u8]) -> u64 {
+    path(a).cmp(path(b)) as u64
 }
 
 fn std_compare(path: &[u8], other: &[u8]) -> u64 {
@@ -176,38 +186,38 @@ fn lengths(chunks: impl Iterator<Item = (usize, usize)>) -> u64 {
 #[rustfmt::skip]
 pub const ROWS: &[Row] = &[
     row("components", Other::Nothing,
-        |path, _| all(paths::components(path).map(|it| it.as_bytes())),
+        |p, _| all(path(p).components().map(our_bytes)),
         |path, _| all(std_path(path).components().map(bytes_of))),
     row("components, last to first", Other::Nothing,
-        |path, _| all(paths::components(path).rev().map(|it| it.as_bytes())),
+        |p, _| all(path(p).components().rev().map(our_bytes)),
         |path, _| all(std_path(path).components().rev().map(bytes_of))),
     row("components, from both ends", Other::Nothing,
-        |path, _| both_ends(paths::components(path).map(|it| it.as_bytes())),
+        |p, _| both_ends(path(p).components().map(our_bytes)),
         |path, _| both_ends(std_path(path).components().map(bytes_of))),
     row("as_path after a step", Other::Nothing,
-        |path, _| { let mut left = paths::components(path); left.next(); digest(left.as_path()) },
+        |p, _| { let mut left = path(p).components(); left.next(); our(left.as_path()) },
         |path, _| { let mut left = std_path(path).components(); left.next(); of(left.as_path()) }),
     row("ancestors", Other::Nothing,
-        |path, _| all(paths::ancestors(path)),
+        |p, _| all(path(p).ancestors().map(|it| it.as_bytes())),
         |path, _| all(std_path(path).ancestors().map(|it| it.as_os_str().as_bytes()))),
     row("parent", Other::Nothing,
-        |path, _| some(paths::parent(path)), |path, _| some_of(std_path(path).parent())),
+        |p, _| some(path(p).parent()), |path, _| some_of(std_path(path).parent())),
     row("file_name", Other::Nothing,
-        |path, _| some(paths::file_name(path)), |path, _| some_of(std_path(path).file_name())),
+        |p, _| some(path(p).file_name()), |path, _| some_of(std_path(path).file_name())),
     row("file_stem", Other::Nothing,
-        |path, _| some(paths::file_stem(path)), |path, _| some_of(std_path(path).file_stem())),
+        |p, _| some(path(p).file_stem()), |path, _| some_of(std_path(path).file_stem())),
     row("extension", Other::Nothing,
-        |path, _| some(paths::extension(path)), |path, _| some_of(std_path(path).extension())),
+        |p, _| some(path(p).extension()), |path, _| some_of(std_path(path).extension())),
     row("file_prefix", Other::Nothing,
-        |path, _| some(paths::file_prefix(path)), |path, _| some_of(std_path(path).file_prefix())),
+        |p, _| some(path(p).file_prefix()), |path, _| some_of(std_path(path).file_prefix())),
     row("starts_with", Other::Front,
-        |path, base| paths::starts_with(path, base).into(),
+        |p, base| path(p).starts_with(base).into(),
         |path, base| std_path(path).starts_with(std_path(base)).into()),
     row("strip_prefix", Other::Front,
-        |path, base| some(paths::strip_prefix(path, base)),
+        |p, base| some(path(p).strip_prefix(base).ok()),
         |path, base| some_of(std_path(path).strip_prefix(std_path(base)).ok())),
     row("ends_with", Other::Back,
-        |path, child| paths::ends_with(path, child).into(),
+        |p, child| path(p).ends_with(child).into(),
         |path, child| std_path(path).ends_with(std_path(child)).into()),
     row("equal: a copy", Other::Same, equal, std_equal),
     row("equal: the next path", Other::Next, equal, std_equal),
@@ -215,25 +225,25 @@ pub const ROWS: &[Row] = &[
     row("compare: a copy", Other::Same, compare, std_compare),
     row("compare: the next path", Other::Next, compare, std_compare),
     row("compare: another spelling", Other::Respelled, compare, std_compare),
-    row("hash; SipHash", Other::Nothing, |path, _| paths::hash(path), |path, _| sip_hash(path)),
+    row("hash; SipHash", Other::Nothing, |path, _| calls::hash(path), |path, _| sip_hash(path)),
     row("join", Other::Name,
-        |path, other| made(owned::join(path, other)),
+        |p, other| our(path(p).join(other)),
         |path, other| of(std_path(path).join(std_path(other)))),
     row("with_file_name", Other::Name,
-        |path, name| made(owned::with_file_name(path, name)),
+        |p, name| our(path(p).with_file_name(name)),
         |path, name| of(std_path(path).with_file_name(OsStr::from_bytes(name)))),
     row("with_extension", Other::Extension,
-        |path, end| made(owned::with_extension(path, end)),
+        |p, end| our(path(p).with_extension(end)),
         |path, end| of(std_path(path).with_extension(OsStr::from_bytes(end)))),
     row("with_added_extension", Other::Extension,
-        |path, end| made(owned::with_added_extension(path, end)),
+        |p, end| our(path(p).with_added_extension(end)),
         |path, end| of(std_path(path).with_added_extension(OsStr::from_bytes(end)))),
     row("push and pop", Other::Name, push_pop, std_push_pop),
     row("set_extension", Other::Extension, set_extension, std_set_extension),
     row("canonical", Other::Nothing,
-        |path, _| made(owned::canonical(path)), |path, _| of(canonical(path))),
+        |p, _| our(path(p).canonical()), |path, _| of(canonical(path))),
     row("resolved", Other::Nothing,
-        |path, _| made(owned::resolved(path)), |path, _| of(resolved(path))),
+        |p, _| our(path(p).resolved()), |path, _| of(resolved(path))),
     row("key and back; canonical", Other::Nothing,
         |path, _| key_and_back(path), |path, _| of(canonical(path))),
 ];
@@ -242,11 +252,11 @@ pub const ROWS: &[Row] = &[
 #[rustfmt::skip]
 pub const TEXT_ROWS: &[Row] = &[
     row("to_str", Other::Nothing,
-        |path, _| paths::is_utf8(path).into(), |path, _| std_path(path).to_str().is_some().into()),
+        |path, _| calls::is_utf8(path).into(), |path, _| std_path(path).to_str().is_some().into()),
     row("to_string_lossy", Other::Nothing,
-        |path, _| owned::to_string_lossy(path).map_or(u64::MAX, |it| it.len() as u64),
+        |p, _| path(p).to_string_lossy().len() as u64,
         |path, _| std_path(path).to_string_lossy().len() as u64),
     row("chunks", Other::Nothing,
-        |path, _| lengths(paths::chunks(path).map(|it| (it.valid.len(), it.broken.len()))),
+        |p, _| lengths(UnixStr::new(p).chunks().map(|it| (it.valid.len(), it.broken.len()))),
         |path, _| lengths(path.utf8_chunks().map(|it| (it.valid().len(), it.invalid().len())))),
 ];

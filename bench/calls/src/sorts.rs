@@ -1,10 +1,9 @@
 //! Sorts of the indices of paths.
 use crate::corpora::Corpus;
 use crate::random::Random;
-use crate::rows::std_path;
+use crate::rows::{path, std_path};
 use crate::timing::{Measure, Timer};
 use std::cmp::Ordering;
-use unix_path_rattle::{compare, owned};
 
 /// Sorts the indices. Returns a digest of the new order.
 fn sorted(order: &[usize], by: impl Fn(usize, usize) -> Ordering) -> u64 {
@@ -25,7 +24,7 @@ pub fn of_paths(corpus: &Corpus, timer: &Timer) -> Measure {
     let paths = &corpus.paths;
     timer.compare(
         orders.len(),
-        &|slice| sorted(&orders[slice], |a, b| compare(&paths[a], &paths[b])),
+        &|slice| sorted(&orders[slice], |a, b| path(&paths[a]).cmp(path(&paths[b]))),
         &|slice| {
             sorted(&orders[slice], |a, b| {
                 std_path(&paths[a]).cmp(std_path(&paths[b]))
@@ -38,10 +37,7 @@ pub fn of_paths(corpus: &Corpus, timer: &Timer) -> Measure {
 /// and shuffled.
 pub fn of_keys(corpus: &Corpus, timer: &Timer) -> [Measure; 2] {
     let paths = &corpus.paths;
-    let keys: Vec<Vec<u8>> = paths
-        .iter()
-        .filter_map(|path| owned::key(path).ok())
-        .collect();
+    let keys: Vec<Vec<u8>> = paths.iter().map(|it| path(it).key()).collect();
     let in_order: Vec<usize> = (0..keys.len()).collect();
     let mut shuffled = in_order.clone();
     Random(9).shuffle(&mut shuffled);

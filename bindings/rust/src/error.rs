@@ -1,18 +1,18 @@
-//! The errors of this crate's functions.
+//! The errors of this crate's methods and functions.
 use core::fmt;
 
-/// The reason why a function wrote nothing.
+/// The reason why a path was not made.
 ///
 /// ```
-/// use unix_path_rattle::{join, Error};
-/// let error = join(b"/a", b"b", &mut [0; 2]).unwrap_err();
-/// assert_eq!(error, Error::Short { needed: 4 });
-/// assert_eq!(error.to_string(), "the buffer is too short for 4 bytes");
+/// use unix_path_proved::{Error, Path};
+/// let error = Path::new("/srv").join_beneath("../etc").unwrap_err();
+/// assert_eq!(error, Error::Escapes);
+/// assert_eq!(error.to_string(), "path leaves its root");
 /// ```
 #[derive(Clone, Copy, Debug, PartialEq, Eq)]
 #[non_exhaustive]
 pub enum Error {
-    /// The buffer is too short for the result.
+    /// The buffer is too short for the result. Only [`calls`](crate::calls) fail with it.
     Short {
         /// The length of the result.
         needed: usize,
@@ -25,7 +25,8 @@ pub enum Error {
     /// The request of `join_beneath`, `join_in_root` or `join_verbatim` has a NUL byte, and is not
     /// refused as `Escapes`.
     Nul,
-    /// An allocation fails.
+    /// An allocation fails. Only [`calls`](crate::calls) fail with it: a method of the types ends
+    /// the program.
     NoMemory,
     /// No path has these bytes as its key.
     NotAKey,
@@ -47,15 +48,14 @@ impl fmt::Display for Error {
     }
 }
 
-#[cfg(feature = "std")]
-impl std::error::Error for Error {}
+impl core::error::Error for Error {}
 
 /// Converts to an I/O error: `OutOfMemory` for `NoMemory`, without allocating, and otherwise
 /// `InvalidInput` with the error itself inside.
 ///
 /// ```
 /// use std::io;
-/// use unix_path_rattle::Error;
+/// use unix_path_proved::Error;
 /// let error = io::Error::from(Error::Escapes);
 /// assert_eq!(error.kind(), io::ErrorKind::InvalidInput);
 /// assert_eq!(error.to_string(), "path leaves its root");
@@ -76,8 +76,14 @@ impl From<Error> for std::io::Error {
     }
 }
 
-/// The reason why [`check_request`](crate::check_request) refuses a path. Its messages are the same
-/// as those of `RequestError` in the Rattle crate `path_within`.
+/// The reason why [`Path::check_request`](crate::Path::check_request) refuses a path.
+///
+/// ```
+/// use unix_path_proved::{Path, RequestError};
+/// let why = Path::new("/etc").check_request().unwrap_err();
+/// assert_eq!(why, RequestError::Rooted);
+/// assert_eq!(why.to_string(), "path has a root");
+/// ```
 #[derive(Clone, Copy, Debug, PartialEq, Eq)]
 #[non_exhaustive]
 pub enum RequestError {
@@ -99,20 +105,59 @@ impl fmt::Display for RequestError {
     }
 }
 
-#[cfg(feature = "std")]
-impl std::error::Error for RequestError {}
+impl core::error::Error for RequestError {}
 
 /// Converts to an I/O error: `InvalidInput` with the error itself inside.
 ///
 /// ```
 /// use std::io;
-/// use unix_path_rattle::check_request;
-/// let checked = check_request(b"/a").map_err(io::Error::from);
+/// use unix_path_proved::Path;
+/// let checked = Path::new("/a").check_request().map_err(io::Error::from);
 /// assert_eq!(checked.unwrap_err().kind(), io::ErrorKind::InvalidInput);
 /// ```
 #[cfg(feature = "std")]
 impl From<RequestError> for std::io::Error {
     fn from(error: RequestError) -> std::io::Error {
+        std::io::Error::new(std::io::ErrorKind::InvalidInput, error)
+    }
+}
+
+/// The error that [`Path::strip_prefix`](crate::Path::strip_prefix) returns if the path does not
+/// start with the base.
+///
+/// ```
+/// let error = unix_path_proved::Path::new("/a").strip_prefix("b").unwrap_err();
+/// assert_eq!(error.to_string(), "prefix not found");
+/// ```
+#[derive(Clone, Debug, PartialEq, Eq)]
+pub struct StripPrefixError(());
+
+impl StripPrefixError {
+    #[inline]
+    pub(crate) fn new() -> StripPrefixError {
+        StripPrefixError(())
+    }
+}
+
+impl fmt::Display for StripPrefixError {
+    fn fmt(&self, f: &mut fmt::Formatter<'_>) -> fmt::Result {
+        f.pad("prefix not found")
+    }
+}
+
+impl core::error::Error for StripPrefixError {}
+
+/// Converts to an I/O error: `InvalidInput` with the error itself inside.
+///
+/// ```
+/// use std::io;
+/// use unix_path_proved::Path;
+/// let rest = Path::new("/a").strip_prefix("b").map_err(io::Error::from);
+/// assert_eq!(rest.unwrap_err().kind(), io::ErrorKind::InvalidInput);
+/// ```
+#[cfg(feature = "std")]
+impl From<StripPrefixError> for std::io::Error {
+    fn from(error: StripPrefixError) -> std::io::Error {
         std::io::Error::new(std::io::ErrorKind::InvalidInput, error)
     }
 }

@@ -1,26 +1,31 @@
-//! The calls of `libunix_path`, by their signatures. All `unsafe` code of this crate is in this
-//! module.
+//! The calls of `libunix_path`, by their signatures, and conversions between bytes and views of
+//! them. All `unsafe` code of this crate is in this module; the crate's page lists its lines.
 //!
 //! Calls with the same signature have the same *shape*. A type such as `Find` or `Make` represents
 //! a shape, and its constants are the calls of that shape. `tools/calls` writes the constants to
 //! `raw.rs`; only that module creates values of these types.
 //!
-//! Each `unsafe` block depends on the same promises of the library: a call reads the slices that it
-//! is given, writes the record or the buffer that it is given, and accesses nothing else; it keeps
-//! no pointer; it returns. Rust's slices meet the library's requirements: they are never null, even
-//! if empty; they have at most `isize::MAX` bytes; and a slice that is written shares no byte with
-//! another slice. The library also promises that a call wrote as many bytes as it returns. Each
-//! `Vec` that a call fills depends on this promise.
-//!
-//! No function of this crate makes `unix_path_entries_scratch` or `unix_path_check_entries` yet.
+//! Each `unsafe` block with a call depends on the same promises of the library: a call reads the
+//! slices that it is given, writes the record or the buffer that it is given, and accesses nothing
+//! else; it keeps no pointer; it returns. Rust's slices meet the library's requirements: they are
+//! never null, even if empty; they have at most `isize::MAX` bytes; and a slice that is written
+//! shares no byte with another slice. The library also promises that a call wrote as many bytes as
+//! it returns. Each `Vec` that a call fills depends on this promise.
 #[macro_use]
 mod calls;
+mod cast;
 mod code;
 mod raw;
 
 use crate::error::Error;
 #[cfg(feature = "alloc")]
+use alloc::vec;
+#[cfg(feature = "alloc")]
 use alloc::vec::Vec;
+#[cfg(feature = "alloc")]
+pub(crate) use raw::entries;
+#[cfg(feature = "alloc")]
+use raw::entries::{ENTRIES_ACCEPTED, REFUSED_NAME};
 use raw::errors::*;
 use raw::*;
 pub(crate) use raw::{Part, Walk};
@@ -39,19 +44,98 @@ fn error_of(answer: usize) -> Error {
     }
 }
 
-/// Returns the bytes that a call wrote to the beginning of the buffer, if the number that it
-/// returned is their length. Otherwise returns the error for this number.
+/// Memory to which a call writes its result.
+///
+/// It is a slice, an array or, with the feature `alloc`, a vector. A vector consists of the result
+/// afterwards. It grows if its capacity is too small, and then the call fails with
+/// [`Error::NoMemory`] if the allocation fails, and never with [`Error::Short`]. If a call fails,
+/// the buffer is unchanged. No other type can be a buffer.
+///
+/// ```
+/// use unix_path_proved::calls::{join, Buffer};
+/// use unix_path_proved::Error;
+///
+/// fn length<B: Buffer + ?Sized>(out: &mut B) -> Result<usize, Error> {
+///     join(b"/srv", b"a", out).map(<[u8]>::len)
+/// }
+/// assert_eq!(length(&mut [0; 6]), Ok(6));
+/// assert_eq!(length(&mut [0; 5][..]), Err(Error::Short { needed: 6 }));
+/// assert_eq!(length(&mut Vec::new()), Ok(6));
+/// ```
+pub trait Buffer {
+    /// Lets a call write its result, and returns it. Most results have at most `room` bytes, and
+    /// none has more than three times as many and two.
+    #[doc(hidden)]
+    fn receive<F: Fn(*mut u8, usize) -> usize>(
+        &mut self,
+        room: usize,
+        call: Filling<F>,
+    ) -> Result<&[u8], Error>;
+}
+
+/// A call with its arguments. It writes to memory of a length, and returns the length of its result
+/// or the number of an error. Only this module creates one.
+#[derive(Debug)]
+pub struct Filling<F>(F);
+
+impl Buffer for [u8] {
+    #[inline]
+    fn receive<F: Fn(*mut u8, usize) -> usize>(
+        &mut self,
+        _: usize,
+        call: Filling<F>,
+    ) -> Result<&[u8], Error> {
+        let answer = (call.0)(self.as_mut_ptr(), self.len());
+        self.get(..answer).ok_or_else(|| error_of(answer))
+    }
+}
+
+impl<const N: usize> Buffer for [u8; N] {
+    #[inline]
+    fn receive<F: Fn(*mut u8, usize) -> usize>(
+        &mut self,
+        room: usize,
+        call: Filling<F>,
+    ) -> Result<&[u8], Error> {
+        self.as_mut_slice().receive(room, call)
+    }
+}
+
+#[cfg(feature = "alloc")]
+impl Buffer for Vec<u8> {
+    #[inline]
+    fn receive<F: Fn(*mut u8, usize) -> usize>(
+        &mut self,
+        room: usize,
+        call: Filling<F>,
+    ) -> Result<&[u8], Error> {
+        grow_to(self, room)?;
+        match fill_after(self, 0, &call.0) {
+            // No result is longer, unless the library is wrong.
+            Err(Error::Short { needed }) if needed / 3 <= room => {
+                grow_to(self, needed)?;
+                fill_after(self, 0, &call.0)?;
+            }
+            result => result?,
+        }
+        Ok(self)
+    }
+}
+
+/// Makes sure that the vector has capacity for this many bytes in all.
+#[cfg(feature = "alloc")]
 #[inline]
-fn output(out: &[u8], answer: usize) -> Result<&[u8], Error> {
-    out.get(..answer).ok_or_else(|| error_of(answer))
+fn grow_to(bytes: &mut Vec<u8>, room: usize) -> Result<(), Error> {
+    let more = room.saturating_sub(bytes.len());
+    bytes.try_reserve_exact(more).map_err(|_| Error::NoMemory)
 }
 
 /// Lets a call write after the vector's first `kept` bytes, as far as the capacity reaches. The
-/// vector then consists of those bytes and what the call wrote. If the call fails, the vector's
-/// length is unchanged.
+/// vector then consists of those bytes and what the call wrote. If the call fails, the vector is
+/// unchanged.
 #[cfg(feature = "alloc")]
 #[inline]
-fn fill_behind(
+fn fill_after(
     bytes: &mut Vec<u8>,
     kept: usize,
     call: impl FnOnce(*mut u8, usize) -> usize,
@@ -67,15 +151,6 @@ fn fill_behind(
     // promises that it wrote the rest.
     unsafe { bytes.set_len(kept + answer) };
     Ok(())
-}
-
-/// Clears the vector and lets a call write to its memory, as far as the capacity reaches. The
-/// vector then consists of what the call wrote.
-#[cfg(feature = "alloc")]
-#[inline]
-fn fill(bytes: &mut Vec<u8>, call: impl FnOnce(*mut u8, usize) -> usize) -> Result<(), Error> {
-    bytes.clear();
-    fill_behind(bytes, 0, call)
 }
 
 /// Returns the `length` bytes at index `start`, or `None` if they are not all in the path. So the
@@ -177,6 +252,33 @@ pub(crate) fn next_chunk<'a>(path: &'a [u8], next: &mut usize) -> Option<(&'a [u
     Some((valid, cut(path, end, chunk.broken_length)?))
 }
 
+/// Decides whether the entries in these records are accepted at a level. Returns `None` if they
+/// are, and otherwise the number of the entry that is refused, the number of the one that it
+/// clashes with, and the number of the reason. `slots` is how many uses of paths there are, as
+/// `unix_path_entries_scratch` counts them.
+#[cfg(feature = "alloc")]
+pub(crate) fn refusal_of(records: &[u8], slots: usize, level: u32) -> Option<(usize, usize, u32)> {
+    let unused = Slot {
+        start: 0,
+        end: 0,
+        rank: 0,
+        entry: 0,
+        cause: 0,
+    };
+    let mut memory = vec![unused; slots];
+    let mut found = Refusal {
+        entry: 0,
+        cause: 0,
+        reason: REFUSED_NAME,
+    };
+    let (start, length) = (records.as_ptr(), records.len());
+    // SAFETY: the slice is read, and the slots and the refusal are written.
+    let result = unsafe {
+        unix_path_check_entries(start, length, memory.as_mut_ptr(), slots, level, &mut found)
+    };
+    (result != ENTRIES_ACCEPTED).then_some((found.entry, found.cause, found.reason))
+}
+
 /// Returns the version of the library.
 #[inline]
 pub(crate) fn version() -> u32 {
@@ -246,20 +348,20 @@ impl<T> AskTwo<T> {
 pub(crate) struct Make(unsafe extern "C" fn(Start, usize, *mut u8, usize) -> usize);
 
 impl Make {
+    /// Lets the call write to the buffer. Most results have at most `room` bytes.
     #[inline]
-    pub fn write<'o>(self, path: &[u8], out: &'o mut [u8]) -> Result<&'o [u8], Error> {
-        // SAFETY: the slice is read, and the buffer is written.
-        let answer = unsafe { (self.0)(path.as_ptr(), path.len(), out.as_mut_ptr(), out.len()) };
-        output(out, answer)
-    }
-
-    #[cfg(feature = "alloc")]
-    #[inline]
-    pub fn fill(self, path: &[u8], bytes: &mut Vec<u8>) -> Result<(), Error> {
-        // SAFETY: the slice is read, and the capacity is written.
-        fill(bytes, |out, room| unsafe {
-            (self.0)(path.as_ptr(), path.len(), out, room)
-        })
+    pub fn write<'o, B: Buffer + ?Sized>(
+        self,
+        path: &[u8],
+        room: usize,
+        out: &'o mut B,
+    ) -> Result<&'o [u8], Error> {
+        let (start, length) = (path.as_ptr(), path.len());
+        out.receive(
+            room,
+            // SAFETY: the slice is read, and the buffer is written.
+            Filling(|out, room| unsafe { (self.0)(start, length, out, room) }),
+        )
     }
 }
 
@@ -270,43 +372,37 @@ pub(crate) struct MakeOfTwo(
 );
 
 impl MakeOfTwo {
+    /// Returns the call with these arguments.
     #[inline]
-    pub fn write<'o>(
+    fn on<'a>(self, path: &'a [u8], other: &'a [u8]) -> impl Fn(*mut u8, usize) -> usize + 'a {
+        let (start, length) = (path.as_ptr(), path.len());
+        // SAFETY: the slices are read, and the buffer is written.
+        move |out, room| unsafe { (self.0)(start, length, other.as_ptr(), other.len(), out, room) }
+    }
+
+    /// Lets the call write to the buffer. Most results have at most as many bytes as both arguments
+    /// and a slash.
+    #[inline]
+    pub fn write<'o, B: Buffer + ?Sized>(
         self,
         path: &[u8],
         other: &[u8],
-        out: &'o mut [u8],
+        out: &'o mut B,
     ) -> Result<&'o [u8], Error> {
-        let (start, length) = (path.as_ptr(), path.len());
-        let (begin, room) = (out.as_mut_ptr(), out.len());
-        // SAFETY: the slices are read, and the buffer is written.
-        let answer = unsafe { (self.0)(start, length, other.as_ptr(), other.len(), begin, room) };
-        output(out, answer)
+        let room = path.len().saturating_add(other.len()).saturating_add(1);
+        out.receive(room, Filling(self.on(path, other)))
     }
 
-    #[cfg(feature = "alloc")]
-    #[inline]
-    pub fn fill(self, path: &[u8], other: &[u8], bytes: &mut Vec<u8>) -> Result<(), Error> {
-        let (start, length) = (path.as_ptr(), path.len());
-        // SAFETY: the slices are read, and the capacity is written.
-        fill(bytes, |out, room| unsafe {
-            (self.0)(start, length, other.as_ptr(), other.len(), out, room)
-        })
-    }
     /// Lets the call write its result after the vector's first `kept` bytes, which are unchanged.
     #[cfg(feature = "alloc")]
     #[inline]
-    pub fn fill_behind(
+    pub fn write_after(
         self,
         bytes: &mut Vec<u8>,
         kept: usize,
         path: &[u8],
         other: &[u8],
     ) -> Result<(), Error> {
-        let (start, length) = (path.as_ptr(), path.len());
-        // SAFETY: the slices are read, and the capacity is written.
-        fill_behind(bytes, kept, |out, room| unsafe {
-            (self.0)(start, length, other.as_ptr(), other.len(), out, room)
-        })
+        fill_after(bytes, kept, self.on(path, other))
     }
 }

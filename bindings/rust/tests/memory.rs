@@ -1,12 +1,15 @@
-//! Out of memory: each call that allocates returns an error.
+//! Out of memory: each call that writes to a vector returns an error, and a method of the types ends
+//! the program.
 #[macro_use]
 #[path = "../src/ffi/calls.rs"]
-mod calls;
+mod shapes;
 
 use std::alloc::{GlobalAlloc, Layout, System};
 use std::cell::Cell;
+use std::process::Command;
 use std::ptr::null_mut;
-use unix_path_rattle::{edits, join_beneath, join_in_root, owned, Error};
+use unix_path_proved::calls::{self, join_beneath, join_in_root};
+use unix_path_proved::{Error, Path, PathBuf};
 
 thread_local! {
     /// True if allocations of this thread fail.
@@ -41,35 +44,46 @@ fn without_memory<T>(call: impl FnOnce() -> Result<T, Error>) -> Result<T, Error
     answer
 }
 
-#[test]
-fn it_is_an_error() {
-    macro_rules! of_one {
-        ($($name:ident;)*) => {$(
-            let failed = without_memory(|| owned::$name(b"a\0"));
-            assert_eq!(failed, Err(Error::NoMemory));
-            assert!(owned::$name(b"a\0").is_ok());
-        )*};
-    }
-    make!(of_one);
-    macro_rules! of_two {
-        ($($name:ident;)*) => {$(
-            let failed = without_memory(|| owned::$name(b"a/b", b"c"));
-            assert_eq!(failed, Err(Error::NoMemory));
-            assert!(owned::$name(b"a/b", b"c").is_ok());
-        )*};
-    }
-    make_of_two!(of_two);
-    let joined = without_memory(|| owned::join_in_root(b"/srv", b"/a/../b"));
-    assert_eq!(joined, Err(Error::NoMemory));
+/// Calls `write` on a new vector while allocations fail, and then again.
+fn is_an_error(
+    write: impl Fn(&mut Vec<u8>) -> bool,
+    failed: impl Fn(&mut Vec<u8>) -> Option<Error>,
+) {
+    let mut out = vec![];
+    assert_eq!(
+        without_memory(|| failed(&mut out).map_or(Ok(()), Err)),
+        Err(Error::NoMemory)
+    );
+    assert!(out.is_empty() && write(&mut out));
 }
 
 #[test]
-fn empty_answers_need_none() {
-    assert_eq!(without_memory(|| owned::canonical(b"")), Ok(vec![]));
-    assert_eq!(without_memory(|| owned::resolved(b"")), Ok(vec![]));
-    let no_relative_path =
-        without_memory(|| unix_path_rattle::relative_path(b"/a", b"b", &mut []).map(<[u8]>::len));
-    assert_eq!(no_relative_path, Err(Error::NoRelativePath));
+fn it_is_an_error() {
+    macro_rules! of_one {
+        ($($name:ident;)*) => {$(is_an_error(
+            |out| calls::$name(b"a\0", out).is_ok(),
+            |out| calls::$name(b"a\0", out).err(),
+        );)*};
+    }
+    make!(of_one);
+    macro_rules! of_two {
+        ($($name:ident;)*) => {$(is_an_error(
+            |out| calls::$name(b"a/b", b"c", out).is_ok(),
+            |out| calls::$name(b"a/b", b"c", out).err(),
+        );)*};
+    }
+    make_of_two!(of_two);
+}
+
+#[test]
+fn empty_results_need_none() {
+    let mut out = vec![];
+    let made = without_memory(|| calls::canonical(b"", &mut out).map(<[u8]>::len));
+    assert_eq!(made, Ok(0));
+    let made = without_memory(|| calls::resolved(b"", &mut out).map(<[u8]>::len));
+    assert_eq!(made, Ok(0));
+    let way = without_memory(|| calls::relative_path(b"/a", b"b", &mut []).map(<[u8]>::len));
+    assert_eq!(way, Err(Error::NoRelativePath));
 }
 
 #[test]
@@ -85,10 +99,13 @@ fn requests_are_joined_without() {
 /// An edit that adds something to the path.
 type Edit = fn(&mut Vec<u8>, &[u8]) -> Result<(), Error>;
 
-/// The edits that may allocate. The last one drops the truth value that `set_extension` returns.
-const EDITS: [Edit; 3] = [edits::push, edits::set_file_name, |path, extension| {
-    edits::set_extension(path, extension).map(|_| ())
-}];
+/// The edits that may allocate. The last two drop the truth value of the edit.
+const EDITS: [Edit; 4] = [
+    calls::push,
+    calls::set_file_name,
+    |path, extension| calls::set_extension(path, extension).map(|_| ()),
+    |path, extension| calls::add_extension(path, extension).map(|_| ()),
+];
 
 #[test]
 fn edits_leave_the_path() {
@@ -103,7 +120,7 @@ fn edits_leave_the_path() {
     }
     let mut path = b"/a/b".to_vec();
     path.shrink_to_fit();
-    let failed = without_memory(|| edits::push(&mut path, b"/a/b/c/d/e/f"));
+    let failed = without_memory(|| calls::push(&mut path, b"/a/b/c/d/e/f"));
     assert_eq!((failed, &path[..]), (Err(Error::NoMemory), &b"/a/b"[..]));
 }
 
@@ -116,6 +133,52 @@ fn edits_in_room_need_none() {
         assert!(path.ends_with(b"cde"));
     }
     let mut path = b"/a/b".to_vec();
-    let pushed = without_memory(|| edits::push(&mut path, b"/cd"));
+    let pushed = without_memory(|| calls::push(&mut path, b"/cd"));
     assert_eq!((pushed, &path[..]), (Ok(()), &b"/cd"[..]));
+}
+
+/// The methods that allocate.
+const METHODS: [fn(&mut PathBuf); 12] = [
+    |path| path.push("c"),
+    |path| path.set_file_name("long"),
+    |path| assert!(path.set_extension("long")),
+    |path| assert!(path.add_extension("long")),
+    |path| drop(path.join("c")),
+    |path| drop(path.canonical()),
+    |path| drop(path.resolved()),
+    |path| drop(path.join_beneath("c")),
+    |path| drop(path.relative_path("c")),
+    |path| drop(path.key()),
+    |_| drop(PathBuf::from_key(b"a\0")),
+    |_| drop(Path::new(b"\xFF").to_string_lossy()),
+];
+
+/// Calls the method that a variable names while allocations fail. The test below runs this in
+/// programs of their own.
+#[test]
+fn method() {
+    let number = std::env::var("UNIX_PATH_METHOD").unwrap_or_default();
+    let Ok(number) = number.parse::<usize>() else {
+        return;
+    };
+    let mut path = PathBuf::from("a/b");
+    path.shrink_to_fit();
+    IS_REFUSED.set(true);
+    METHODS[number](&mut path);
+    IS_REFUSED.set(false);
+}
+
+#[test]
+fn methods_end_the_program() {
+    for number in 0..METHODS.len() {
+        let mut program = Command::new(std::env::current_exe().unwrap());
+        let ended = program
+            .args(["--exact", "method", "--nocapture"])
+            .env("UNIX_PATH_METHOD", number.to_string())
+            .output()
+            .unwrap();
+        let said = String::from_utf8_lossy(&ended.stderr);
+        assert!(said.contains("memory allocation of"), "{number}: {said}");
+        assert!(!ended.status.success(), "{number}");
+    }
 }

@@ -125,8 +125,7 @@ pub mod entries {
 }
 
 #[rustfmt::skip]
-#[allow(dead_code)]
-extern "C" {
+super::code::declare! {
     pub fn unix_path_version() -> u32;
     pub fn unix_path_components(path: Start, path_length: usize, walk: *mut Walk);
     pub fn unix_path_next(path: Start, path_length: usize, walk: *mut Walk, part: *mut Part)
