@@ -9,7 +9,7 @@ use unix_path::Path;
 const STRINGS: usize = 1555;
 
 // The number of strings of at most 3 letters over an alphabet of six.
-const SHORTER_STRINGS: usize = 259;
+const SHORT_STRING_COUNT: usize = 259;
 
 // A path and its key.
 #[derive(Drop)]
@@ -46,7 +46,7 @@ fn prefixes_match(a: &KeyedPath<'_>, b: &KeyedPath<'_>) -> bool {
         && key_starts_with(a.key.as_bytes(), b.key.as_bytes()) == begins
 }
 
-// Returns true if the orders and the prefixes match.
+// Returns true if the keys compare, and are prefixes of each other, as their paths do.
 fn keys_match_paths(a: &KeyedPath<'_>, b: &KeyedPath<'_>) -> bool {
     orders_match(a, b) && prefixes_match(a, b)
 }
@@ -64,7 +64,7 @@ fn count_matching(a: &KeyedPath<'_>, paths: &[KeyedPath<'_>]) -> usize {
 
 #[test]
 fn all_short_pairs(rt: HostRuntime) -> Result<(), Fail> {
-    let strings = strings_over(rt.alloc(), b"/.a\x000\xFF", SHORTER_STRINGS)?;
+    let strings = strings_over(rt.alloc(), b"/.a\x000\xFF", SHORT_STRING_COUNT)?;
     let paths = keyed_paths(rt.alloc(), &strings)?;
     assert!(rt; paths.len() == STRINGS);
     for first in paths.iter() {

@@ -7,10 +7,10 @@ use test_inputs::{Random, strings_over};
 use unix_path::Path;
 
 // The number of strings of at most 4 letters over an alphabet of six.
-const SHORTER_PATHS: usize = 1555;
+const SHORT_PATH_COUNT: usize = 1555;
 
 // The number of strings of at most 3 letters over an alphabet of eight.
-const SHORTER_KEYS: usize = 585;
+const SHORT_KEY_COUNT: usize = 585;
 
 const RANDOM_STRINGS: u32 = 10_000;
 
@@ -98,7 +98,7 @@ fn is_keyed(alloc: Global, bytes: &[u8]) -> Result<bool, AllocError> {
 
 #[test]
 fn all_short_paths(rt: HostRuntime) -> Result<(), Fail> {
-    for string in strings_over(rt.alloc(), b"/.a\x000\xFF", SHORTER_PATHS)?.iter() {
+    for string in strings_over(rt.alloc(), b"/.a\x000\xFF", SHORT_PATH_COUNT)?.iter() {
         assert!(rt; is_keyed(rt.alloc(), string)?, "{string:?}");
     }
     Ok(())
@@ -106,7 +106,7 @@ fn all_short_paths(rt: HostRuntime) -> Result<(), Fail> {
 
 #[test]
 fn all_short_keys(rt: HostRuntime) -> Result<(), Fail> {
-    for string in strings_over(rt.alloc(), b"\x00\x01\x02\x03/0a\xFF", SHORTER_KEYS)?.iter() {
+    for string in strings_over(rt.alloc(), b"\x00\x01\x02\x03/0a\xFF", SHORT_KEY_COUNT)?.iter() {
         assert!(rt; is_read(rt.alloc(), string), "{string:?}");
     }
     Ok(())

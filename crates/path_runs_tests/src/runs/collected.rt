@@ -6,10 +6,10 @@ use test_inputs::{Random, strings_over};
 use unix_path::{Components, Path};
 
 // The number of strings of at most 5 letters over an alphabet of three.
-const SHORTER_STRINGS: usize = 364;
+const SHORT_STRING_COUNT: usize = 364;
 
 // The number of lists of at most 3 turns. `LISTS` is the number of lists of at most 4 turns.
-const SHORTER_LISTS: usize = 15;
+const SHORT_LIST_COUNT: usize = 15;
 
 const LISTS: usize = 31;
 
@@ -55,9 +55,9 @@ fn count_collected(alloc: Global, path: &[u8], lists: &[Vec<u8>]) -> Result<usiz
 #[test]
 fn all_short_paths_are_collected(rt: HostRuntime) -> Result<(), Fail> {
     let alloc = rt.alloc();
-    let lists = strings_over(alloc, b"fb", SHORTER_LISTS)?;
+    let lists = strings_over(alloc, b"fb", SHORT_LIST_COUNT)?;
     assert!(rt; lists.len() == LISTS);
-    for path in strings_over(alloc, b"/.a", SHORTER_STRINGS)?.iter() {
+    for path in strings_over(alloc, b"/.a", SHORT_STRING_COUNT)?.iter() {
         let count = count_collected(alloc, path.as_slice(), &lists)?;
         assert!(rt; count == LISTS, "{path:?}, {count} lists");
     }
@@ -67,7 +67,7 @@ fn all_short_paths_are_collected(rt: HostRuntime) -> Result<(), Fail> {
 #[test]
 fn random_paths_are_collected(rt: HostRuntime) -> Result<(), Fail> {
     let alloc = rt.alloc();
-    let lists = strings_over(alloc, b"fb", SHORTER_LISTS)?;
+    let lists = strings_over(alloc, b"fb", SHORT_LIST_COUNT)?;
     let mut random = Random::new(21);
     for _ in 0..RANDOM_STRINGS {
         let bytes = random.string(alloc)?;

@@ -39,7 +39,7 @@ fn extend_in_spare_capacity(buffer: &mut PathBuf, paths: &[Path<'_>]) -> Result<
     buffer.extend(paths.iter().copied())
 }
 
-fn path_of_none(alloc: Global) -> Result<PathBuf, AllocError>
+fn path_from_empty_iter(alloc: Global) -> Result<PathBuf, AllocError>
     ensures { IsOk result }
 {
     PathBuf::from_iter(alloc, std::iter::empty())
@@ -63,7 +63,7 @@ fn what_fits_is_joined(rt: HostRuntime) -> Result<(), Fail> {
 
 #[test]
 fn what_fits_the_room_is_joined(rt: HostRuntime) -> Result<(), Fail> {
-    let mut buffer = path_of_none(rt.alloc())?;
+    let mut buffer = path_from_empty_iter(rt.alloc())?;
     buffer.reserve(7)?;
     let paths = [Path::from_text("/a"), Path::from_text("bcd")];
     extend_in_spare_capacity(&mut buffer, paths.as_slice())?;

@@ -9,7 +9,7 @@ use unix_path::{Component, Path};
 const STRINGS: usize = 341;
 
 // The number of strings of at most 3 letters over an alphabet of four.
-const SHORTER_STRINGS: usize = 85;
+const SHORT_STRING_COUNT: usize = 85;
 
 // Returns the components of the path with these bytes.
 fn list_of<'a>(alloc: Global, bytes: &'a [u8]) -> Result<Vec<Component<'a>>, AllocError> {
@@ -75,7 +75,7 @@ fn all_pairs_match(alloc: Global, strings: &[Vec<u8>]) -> bool {
 
 #[test]
 fn all_pairs_of_short_paths(rt: HostRuntime) -> Result<(), Fail> {
-    let strings = strings_over(rt.alloc(), b"/.ab", SHORTER_STRINGS)?;
+    let strings = strings_over(rt.alloc(), b"/.ab", SHORT_STRING_COUNT)?;
     assert!(rt; strings.len() == STRINGS && all_pairs_match(rt.alloc(), &strings));
     Ok(())
 }

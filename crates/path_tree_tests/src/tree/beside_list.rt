@@ -153,9 +153,9 @@ fn moves_alike(
                     file.0 = path;
                 }
             }
-            Ok(is_alike && has_all(tree, listed)?)
+            Ok(is_alike && has_exactly(tree, listed)?)
         }
-        Err(_) => Ok(is_refused && has_all(tree, listed)?),
+        Err(_) => Ok(is_refused && has_exactly(tree, listed)?),
     }
 }
 
@@ -168,7 +168,7 @@ fn are_alike(found: Option<(Path<'_>, &u32)>, want: Option<(Path<'_>, u32)>) -> 
 }
 
 // Returns true if the tree has exactly the files of the list.
-fn has_all(tree: &PathTree<u32>, listed: &Listed) -> Result<bool, AllocError> {
+fn has_exactly(tree: &PathTree<u32>, listed: &Listed) -> Result<bool, AllocError> {
     for (path, value) in &listed.files {
         if tree.get_path(path.as_path())? != Some(value) {
             return Ok(false);
@@ -190,7 +190,7 @@ fn extends_alike(
     let files = [file, (other.as_path(), file.1.wrapping_add(CALLS)), file];
     tree.extend(files.iter().copied())?;
     listed.insert_all(alloc, files.as_slice())?;
-    has_all(tree, listed)
+    has_exactly(tree, listed)
 }
 
 // Compares the tree with a tree of three random paths. Returns true if `difference` returns as many
@@ -297,7 +297,7 @@ fn answers_alike(
         11 => lacks_alike(alloc, random, tree, listed)?,
         12 | 13 => has_children(alloc, tree, listed, path)?,
         14 | 15 => moves_alike(alloc, random, tree, listed, path)?,
-        10 => tree.remove_under(&key) == listed.remove_under(path) && has_all(tree, listed)?,
+        10 => tree.remove_under(&key) == listed.remove_under(path) && has_exactly(tree, listed)?,
         _ => are_alike(tree.longest_prefix(path)?, listed.longest_prefix(path)),
     })
 }

@@ -10,13 +10,13 @@ use test_inputs::{Random, strings_over};
 use unix_path::Path;
 
 // The number of strings of at most 5 letters over an alphabet of three.
-const SHORTER_PATHS: usize = 364;
+const SHORT_PATH_COUNT: usize = 364;
 
 // The number of strings of at most 4 letters over an alphabet of three.
-const SHORTER_STRINGS: usize = 121;
+const SHORT_STRING_COUNT: usize = 121;
 
 // The number of strings of at most 3 letters over an alphabet of four.
-const SHORTER_WITH_NULS: usize = 85;
+const SHORT_NUL_COUNT: usize = 85;
 
 const RANDOM_PAIRS: u32 = 10_000;
 
@@ -125,7 +125,7 @@ fn count_made(alloc: Global, first: &[u8], strings: &[Vec<u8>]) -> Result<usize,
 
 #[test]
 fn all_short_paths(rt: HostRuntime) -> Result<(), Fail> {
-    for path in strings_over(rt.alloc(), b"/.a", SHORTER_PATHS)?.iter() {
+    for path in strings_over(rt.alloc(), b"/.a", SHORT_PATH_COUNT)?.iter() {
         assert!(rt; is_resolved(rt.alloc(), path)?, "{path:?}");
     }
     Ok(())
@@ -133,8 +133,8 @@ fn all_short_paths(rt: HostRuntime) -> Result<(), Fail> {
 
 #[test]
 fn all_short_pairs(rt: HostRuntime) -> Result<(), Fail> {
-    let strings = strings_over(rt.alloc(), b"/.a", SHORTER_STRINGS)?;
-    let with_nuls = strings_over(rt.alloc(), b"/.a\0", SHORTER_WITH_NULS)?;
+    let strings = strings_over(rt.alloc(), b"/.a", SHORT_STRING_COUNT)?;
+    let with_nuls = strings_over(rt.alloc(), b"/.a\0", SHORT_NUL_COUNT)?;
     for first in strings.iter() {
         let count = count_made(rt.alloc(), first, &strings)?;
         let others = count_made(rt.alloc(), first, &with_nuls)?;

@@ -8,7 +8,7 @@ use test_inputs::{Random, strings_over};
 use unix_path::{Path, PathBuf};
 
 // The number of strings of at most 5 letters over an alphabet of four.
-const SHORTER_STRINGS: usize = 1365;
+const SHORT_STRING_COUNT: usize = 1365;
 
 const RANDOM_STRINGS: u32 = 2_000;
 
@@ -153,7 +153,7 @@ fn first_wrong<'a>(
 
 #[test]
 fn requests_below_roots(rt: HostRuntime) -> Result<(), Fail> {
-    let mut strings = strings_over(rt.alloc(), b"/.a\0", SHORTER_STRINGS)?;
+    let mut strings = strings_over(rt.alloc(), b"/.a\0", SHORT_STRING_COUNT)?;
     let mut random = Random::new(27);
     for _ in 0..RANDOM_STRINGS {
         strings.push(random.string(rt.alloc())?)?;
