@@ -587,6 +587,18 @@ class Rust(Cargo):
     def test_pages(self):
         self.cargo("doc", "--no-deps", RUSTDOCFLAGS="-D warnings")
 
+    def test_unsafe(self):
+        """The crate's page lists each function that has `unsafe` code, which is in one module."""
+        found, listed = set(), set()
+        for path in glob.glob(f"{ROOT}/bindings/rust/src/**/*.rs", recursive=True):
+            pieces = re.split(r"\bfn (\w+)", re.sub("//.*", "", read(path).decode()))
+            found |= {(path.partition("/src/")[2][:3], name) for name, body in
+                      zip(pieces[1::2], pieces[2::2]) if re.search(r"\bunsafe \{", body)}
+        page = read("bindings/rust/README.md").decode().partition("\n| Where | `unsafe` |")[2]
+        for row in re.findall(r"^\| (`.*?) \|", page, re.M):
+            listed |= {("ffi", it) for it in re.findall(r"(\w+)`", row)}
+        self.assertEqual(found, listed)
+
     def test_levels(self):
         """Asks the rows without optimization, with it, and with fat LTO in one codegen unit."""
         for level, lto, units in ("0", "off", "16"), ("3", "off", "16"), ("3", "fat", "1"):

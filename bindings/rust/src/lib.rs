@@ -41,9 +41,10 @@
 //! # fn main() -> std::io::Result<()> {
 //! use unix_path_proved::Path;
 //!
-//! let path = Path::new(b"/etc").join_beneath("../..");
-//! assert!(std::fs::metadata(Path::new("/")).is_ok() && path.is_err());
-//! assert!(std::path::Path::new("/etc").starts_with(Path::new(std::ffi::OsStr::new("/"))));
+//! let name = std::ffi::OsString::from("no-such-file");
+//! let path = Path::new(b"/srv").join(name);
+//! assert!(std::fs::read(&path).is_err());
+//! assert_eq!(std::path::PathBuf::from(path), std::path::Path::new("/srv/no-such-file"));
 //! # Ok(())
 //! # }
 //! # #[cfg(not(unix))]

@@ -10,7 +10,7 @@ use std::process::ExitCode;
 use std::{env, fs};
 use unix_path_proved::{Path, PathBuf};
 
-/// What the service is told.
+/// The configuration.
 #[derive(Deserialize)]
 struct Config {
     /// The directory of the files.

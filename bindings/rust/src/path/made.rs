@@ -112,7 +112,7 @@ impl Path {
     /// Fails with `Escapes` if and only if the request [`escapes`](Path::escapes): it has a root, or
     /// its `..` lead above where it starts. Otherwise fails with `Nul` if and only if the request
     /// has a NUL byte, at which a system call would cut the result.
-    /// [`check_request`](Path::check_request) tells a root from a `..`.
+    /// [`check_request`](Path::check_request) distinguishes a root from a `..`.
     ///
     /// The request is resolved lexically: if a component below this path may be a link, let the
     /// system refuse links. This path is not resolved. To resolve its `..` too, call
