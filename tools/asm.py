@@ -25,7 +25,7 @@ DIGEST = re.compile("[0-9a-f]{64}  (.*)")
 MAIN = "program_main"
 PREFIX = "unix_path_"
 # The most bytes of all files together.
-MOST_BYTES = 4_000_000
+MOST_BYTES = 4_500_000
 # DROPPED has the directives that only clang reads, or that name the compiled file. FEATURES matches
 # the label that clang adds for Windows, which rustc's module also has. BYTES has the directives
 # whose quoted bytes are not names.
