@@ -5,10 +5,10 @@ bench/python.py [COUNT]     COUNT paths, by default 200,000
 
 The package has to be installed for the Python that runs this. Each job starts from fresh paths,
 since pathlib keeps results in them. Times are the least processor seconds of seven turns, which
-alternate between both. Fails if a job takes more than its share of pathlib's time, half or a fifth.
+alternate between both. Fails if a job takes more than its share of pathlib's time: half, or a fifth
+for sorting by keys.
 """
 import gc
-import operator
 import random
 import sys
 import time
@@ -28,37 +28,32 @@ def names():
     return found
 
 
-def each(call):
-    """Returns a job that makes a call with each path."""
-    def job(paths):
-        for path in paths:
-            call(path)
-    return job
-
-
-def pairs(call):
-    """Returns a job that makes a call with each path and the next one."""
-    return lambda paths: [*map(call, paths, paths[1:])]
+def each(statement):
+    """Returns a job that runs a statement with each path `p` and the last one, `q`."""
+    found = {}
+    text = f"def job(paths):\n q = paths[-1]\n for p in paths: {statement}"
+    exec(text, found)  # pylint: disable=exec-used
+    return found["job"]
 
 
 # Each job, the same in pathlib if that is different, and its share of pathlib's time.
 JOBS = {
     "make": (None, None, 0.5),
-    "hash": (each(hash), None, 0.5),
-    "compare `==`": (pairs(operator.eq), None, 0.5),
-    "compare `<`": (pairs(operator.lt), None, 0.5),
+    "hash": (each("hash(p)"), None, 0.5),
+    "compare `==`": (each("p == q"), None, 0.5),
+    "compare `<`": (each("p < q"), None, 0.5),
     "sort": (sorted, None, 0.5),
     "sort by `key`": (lambda paths: sorted(paths, key=UnixPath.key), sorted, 0.2),
     "put into a set": (set, None, 0.5),
-    "`parent`": (each(operator.attrgetter("parent")), None, 0.5),
-    "`name`": (each(operator.attrgetter("name")), None, 0.5),
-    "`suffix`": (each(operator.attrgetter("suffix")), None, 0.5),
-    "`parts`": (each(operator.attrgetter("parts")), None, None),
-    "`str`": (each(str), None, None),
-    "join by `/`": (each(lambda path: path / "a"), None, 0.5),
-    "`relative_to`": (each(operator.methodcaller("relative_to", "/srv/www")), None, 0.5),
-    "`is_relative_to`": (each(operator.methodcaller("is_relative_to", "/srv/www")), None, 0.5),
-    "`with_suffix`": (each(operator.methodcaller("with_suffix", ".xz")), None, 0.5),
+    "`parent`": (each("p.parent"), None, 0.5),
+    "`name`": (each("p.name"), None, 0.5),
+    "join by `/`": (each("p / 'a'"), None, 0.5),
+    "`suffix`": (each("p.suffix"), None, None),
+    "`parts`": (each("p.parts"), None, None),
+    "`str`": (each("str(p)"), None, None),
+    "`relative_to`": (each("p.relative_to('/srv/www')"), None, None),
+    "`is_relative_to`": (each("p.is_relative_to('/srv/www')"), None, None),
+    "`with_suffix`": (each("p.with_suffix('.xz')"), None, None),
 }
 
 

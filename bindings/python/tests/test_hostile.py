@@ -54,7 +54,8 @@ OF_TEXT = ("with_segments", "joinpath", "join_beneath", "join_in_root", "join_ve
            "with_suffix", "match", "full_match")
 OF_BYTES = ("from_bytes", "from_key")
 OF_NOTHING = ("__str__", "__bytes__", "__repr__", "__hash__", "__fspath__", "__reduce__",
-              "as_posix", "as_uri", "canonical", "escapes", "is_absolute", "is_reserved", "key", "resolved")
+              "as_posix", "as_uri", "canonical", "escapes", "is_absolute", "is_reserved", "key",
+              "resolved")
 PROPERTIES = ("anchor", "drive", "name", "parent", "parents", "parts", "root", "stem", "suffix",
               "suffixes")
 # Members that don't allocate, or whose results are kept.
