@@ -133,8 +133,8 @@ class Compiled(CTest):
         return program
 
     def try_head(self, build, header):
-        """Builds and runs the example at the head of a header, which has to print what the text after
-        it says, and those that say before them what they print."""
+        """Builds and runs the example at the head of a header. It has to print what the text after
+        it says, and a later one what the text before it says."""
         ending, *includes = {"unix_path.h": ("c", "stdio.h", "string.h"), "unix_path.hpp": (
             "cpp", "cstdio", "map", "string", "string_view")}[header]
         head = re.sub(r"(?m)^( \*|//) ?", "", read(f"include/{header}").decode())
