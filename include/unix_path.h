@@ -491,8 +491,8 @@ size_t unix_path_key_range_end(const void *key, size_t key_length, void *out, si
  * An extractor uses the path of each entry, and the target of each hard link. Entries are accepted
  * if none of these holds:
  *
- *     UNIX_PATH_REFUSED_NAME               a path that is used has a root, a `..` or a NUL, or ends
- *                                          in `/` or `/.` though it is not a directory's
+ *     UNIX_PATH_REFUSED_NAME               a path that is used has a root or a `..`; or it is not a
+ *                                          directory's and is empty, is `.`, or ends in `/` or `/.`
  *     UNIX_PATH_REFUSED_KIND               an entry is of another kind
  *     UNIX_PATH_REFUSED_BELOW_LEAF         a path that is used is below a file's or a link's
  *     UNIX_PATH_REFUSED_LINK_USED_TWICE    the path of a symbolic link is used twice

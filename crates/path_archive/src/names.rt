@@ -1,6 +1,8 @@
 //! Tests of one path by itself.
-ghost use Rattle.std.specs.Prelude.{◌≡◌, ◌↔◌, true};
-ghost use Rattle.unix_path.specs.Parts.{counts};
+ghost use Rattle.std.specs.Prelude.{◌≡◌, ◌↔◌, ◌&&◌, not, true};
+ghost use Rattle.unix_path.specs.Parts.{counts, values};
+ghost use Rattle.path_within.specs.Below.{has_nul};
+ghost use Rattle.path_within.specs.Escapes.{has_root_or_parent_dir};
 ghost use Rattle.path_archive.specs.Entries.{use_as};
 ghost use Rattle.path_archive.specs.Rule.{IsNamed, ends_in_name};
 ghost use Rattle.path_archive.specs.Slots.{used_as_of};
@@ -25,15 +27,19 @@ fn ends_in_name(path: &[u8]) -> bool
     counts(&path[after_last(path, b'/')..])
 }
 
+// Returns true if the path has no root, no `..` and no NUL.
+fn goes_down(path: &[u8]) -> bool
+    ensures { result ≡ (not (has_root_or_parent_dir (values path.now)) && not (has_nul path.now)) }
+{
+    !has_root_or_parent_dir(Path::from_bytes(path)) && !has_nul(path)
+}
+
 // Returns true if the path has only names and no NUL, and ends in a name unless its rank is a
 // directory's.
 pub(crate) fn is_named(path: &[u8], rank: usize) -> bool
     ensures { (result ≡ true) ↔ IsNamed (use_as (used_as_of rank) path.now) }
 {
-    if has_root_or_parent_dir(Path::from_bytes(path)) {
-        return false;
-    }
-    if has_nul(path) {
+    if !goes_down(path) {
         return false;
     }
     is_directory(rank) || ends_in_name(path)

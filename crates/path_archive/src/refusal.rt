@@ -5,7 +5,7 @@
 /// For a symbolic link `x` and a file `x/new`, the file is refused as `BelowLeaf`.
 #[derive(Clone, Copy, Debug, PartialEq, Eq)]
 pub enum Reason {
-    /// A path that is used has a root, a `..` or a NUL, or ends in a slash or `.` though it is no
+    /// A path that is used has a root, a `..` or a NUL, or ends in no name though it is no
     /// directory's.
     Name,
     /// The entry is neither a directory, a file nor a link.

@@ -21,8 +21,7 @@ returns-clause-refusals c =
     Decides c.args.level (numbered_from 0 entries) list.items))
     (λ list h. decided_entries c.args.level c.args.records.now c.args.slots.now
     c.sort_slots.new.slots c.mark_clashes.new.slots list.items c.requires
-    c.sort_slots.ensures.permutation
-    c.mark_clashes.ensures.same h) c.collect.ensures
+    c.sort_slots.ensures.permutation c.mark_clashes.ensures.same h) c.collect.ensures
 
 pub returns-clause-accepted : goal.returns-clause-accepted
 returns-clause-accepted c =
@@ -32,5 +31,4 @@ returns-clause-accepted c =
     (list.items ≡ []) ↔ AcceptedAt c.args.level entries))
     (λ list h. accepted_entries c.args.level c.args.records.now c.args.slots.now
     c.sort_slots.new.slots c.mark_clashes.new.slots list.items c.requires
-    c.sort_slots.ensures.permutation
-    c.mark_clashes.ensures.same h) c.collect.ensures
+    c.sort_slots.ensures.permutation c.mark_clashes.ensures.same h) c.collect.ensures

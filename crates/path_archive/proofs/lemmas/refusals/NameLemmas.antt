@@ -1,6 +1,7 @@
 -- Paths of names, and the last piece of a path.
 use Rattle.std.proofs.Common.{◌≡◌, ◌≤◌, ◌<◌, ◌-◌, ◌+◌, ◌==◌, ℕ, true, false, not, List, [], ◌∷◌}
-use Rattle.std.proofs.Common.{refl, sym, ap, ◌∙◌, arith, length, drop, slice_index}
+use Rattle.std.proofs.Common.{refl, sym, ap, ap₂, ◌∙◌, arith, length, drop, slice_index, Bool}
+use Rattle.std.proofs.Common.{◌&&◌, true≢false}
 use Rattle.std.specs.List.{after_last, position_or_len, suffix_len}
 use Rattle.std.proofs.lemmas.List.{get_or-drop, length-drop}
 use Rattle.std.proofs.lemmas.List.Sums.{fails_before_first, suffix_len_is}
@@ -41,10 +42,21 @@ dot_down (ParentDir ∷ vs) h = absurd h
 dot_down (Normal n ∷ vs) h = names_down (Normal n ∷ vs) h
 
 -- a path of names has no root and no `..`
-pub named_down : (path : List ℕ) (kind : UsedAs) → IsNamed (use_as kind path)
+named_down : (path : List ℕ) (kind : UsedAs) → IsNamed (use_as kind path)
     → has_root_or_parent_dir (values path) ≡ false
 unfolding components
 named_down path kind h = dot_down (values path) h.names
+
+-- a path of names passes the test
+pub named_goes_down : (path : List ℕ) (kind : UsedAs) → IsNamed (use_as kind path)
+    → (not (has_root_or_parent_dir (values path)) && not (has_nul path)) ≡ true
+named_goes_down path kind h = ap₂ (λ a b. not a && not b) (named_down path kind h) h.no_nul
+
+-- what a test that is passed says
+pub goes_down_if : (a b : Bool) → (not a && not b) ≡ true → (a ≡ false) × (b ≡ false)
+goes_down_if true b h = absurd (true≢false (sym h))
+goes_down_if false true h = absurd (true≢false (sym h))
+goes_down_if false false h = (refl, refl)
 
 -- what is tested makes a path of names
 pub named_if : (path : List ℕ) (kind : UsedAs) → has_root_or_parent_dir (values path) ≡ false
