@@ -89,6 +89,10 @@ class Package(Python):
     def test_documentation(self):
         self.python("test_documentation.py")
 
+    def test_archive(self):
+        """Checks the rows of tests/entries.txt, and unpacks what is accepted."""
+        self.python("-W", "ignore", "-m", "unittest", "test_archive")
+
     def test_cpython(self):
         if lacks("import sys, test.test_pathlib; assert sys.version_info[:2] == (3, 11)"):
             self.leave_out("CPython's tests of pure paths",
@@ -176,6 +180,7 @@ class Sanitized(Python):
         sanitized = self.build(f"asm/{TARGET}/unix_path.s")
         self.python("test_hostile.py", "8000", **sanitized)
         self.python("test_rows.py", **sanitized)
+        self.python("-W", "ignore", "-m", "unittest", "test_archive", **sanitized)
         self.python("-m", "unittest", "test_pathlib.Recorded", **sanitized)
 
     def test_untrusted(self):

@@ -30,7 +30,7 @@ class Build(build_ext):
 setup(
     version=VERSION,
     ext_modules=[Extension(
-        "unix_path._unix_path", ["src/calls.c", "src/path.c"], ["include"],
+        "unix_path._unix_path", ["src/calls.c", "src/entries.c", "src/path.c"], ["include"],
         depends=["src/calls.h", HEADER], py_limited_api=True,
         define_macros=[("Py_LIMITED_API", "0x03080000")],
         extra_compile_args=["-std=c11", "-g0", "-fvisibility=hidden"],

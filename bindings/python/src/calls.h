@@ -50,4 +50,8 @@ PyObject *make_of_two(MakeOfTwo *call, View a, View b, size_t size, PyObject *gi
  * may be NULL for an exception that is already set. */
 PyObject *canonical_of(PyObject *raw);
 
+/* A function of the module: takes the records of unix_path_check_entries as a `bytes`, and whether
+ * the level is UNIX_PATH_CLOSED. Returns None, or for a refusal a tuple of its three numbers. */
+PyObject *check_entries(PyObject *module, PyObject *args);
+
 #endif

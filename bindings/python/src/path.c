@@ -9,6 +9,7 @@
 typedef struct {
     PyObject_HEAD
     PyObject *bytes; /* NULL until __init__ has been called, which means the empty path */
+    View view;       /* what view_of(bytes) returns, which takes longer */
 } UnixPath;
 
 static PyTypeObject *path_type;
@@ -21,8 +22,16 @@ static bool is_path(PyObject *object)
 /* Returns the bytes of a path. */
 static View view(PyObject *self)
 {
-    PyObject *bytes = ((UnixPath *)self)->bytes;
-    return bytes == NULL ? (View){"", 0} : view_of(bytes);
+    UnixPath *path = (UnixPath *)self;
+    return path->bytes == NULL ? (View){"", 0} : path->view;
+}
+
+/* Sets the bytes of a path. Takes the reference. */
+static void set_bytes(PyObject *self, PyObject *bytes)
+{
+    UnixPath *path = (UnixPath *)self;
+    path->bytes = bytes;
+    path->view = view_of(bytes);
 }
 
 /* Returns the bytes of a path as they are printed: the empty path is `.`. */
@@ -104,7 +113,7 @@ static PyObject *plain(PyObject *bytes)
     if (made == NULL) {
         Py_XDECREF(bytes);
     } else {
-        ((UnixPath *)made)->bytes = bytes;
+        set_bytes(made, bytes);
     }
     return made;
 }
@@ -150,8 +159,8 @@ static int path_init(PyObject *self, PyObject *args, PyObject *kwargs)
     }
     UnixPath *path = (UnixPath *)self;
     PyObject *bytes = path->bytes == NULL ? path_of(args) : NULL;
-    if (path->bytes == NULL) {
-        path->bytes = bytes;
+    if (path->bytes == NULL && bytes != NULL) {
+        set_bytes(self, bytes);
     } else {
         Py_XDECREF(bytes);
     }
@@ -776,8 +785,13 @@ static PyType_Spec specification = {
     "unix_path.UnixPath", sizeof(UnixPath), 0, Py_TPFLAGS_DEFAULT | Py_TPFLAGS_BASETYPE, slots,
 };
 
+static PyMethodDef functions[] = {
+    {"check_entries", check_entries, METH_VARARGS, NULL},
+    {NULL, NULL, 0, NULL},
+};
+
 static struct PyModuleDef definition = {
-    PyModuleDef_HEAD_INIT, "unix_path._unix_path", NULL, -1, NULL, NULL, NULL, NULL, NULL,
+    PyModuleDef_HEAD_INIT, "unix_path._unix_path", NULL, -1, functions, NULL, NULL, NULL, NULL,
 };
 
 /* Adds an object to the module, which takes a reference of its own. */

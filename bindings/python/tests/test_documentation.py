@@ -3,11 +3,13 @@ import doctest
 import sys
 from typing import Any, Dict
 
-import unix_path
+import unix_path.archive
 from unix_path import EscapesError, UnixPath
 
 PUBLIC: Dict[str, Any] = {
     "unix_path": unix_path, "UnixPath": UnixPath, "EscapesError": EscapesError,
+    "archive": unix_path.archive, "check": unix_path.archive.check,
+    "EntryError": unix_path.archive.EntryError,
     **{name: it for name, it in vars(UnixPath).items() if name[:1] != "_" and name != "parser"}}
 
 

@@ -7,6 +7,7 @@ import sys
 
 from test_hostile import CALLS, Derived
 from unix_path import UnixPath
+from unix_path._unix_path import check_entries
 
 ROUNDS = 3000
 
@@ -16,6 +17,7 @@ def main() -> None:
     for number in range(ROUNDS):
         for name, call in CALLS.items():
             try:
+                check_entries(b"f\0a\0\0" * (number % 99), number % 2 == 0)
                 path = (Derived if number % 2 else UnixPath).from_bytes(b"/a//b.c/" * (number % 99))
                 call(path)
             except (ValueError, TypeError, SystemError, MemoryError) as error:

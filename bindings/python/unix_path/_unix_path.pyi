@@ -7,6 +7,8 @@ from _typeshed import ReadableBuffer
 _P = TypeVar("_P", bound=UnixPath)
 _Segment = Union[str, os.PathLike[str]]
 
+def check_entries(records: bytes, is_closed: bool) -> tuple[int, int, int] | None: ...
+
 class EscapesError(ValueError):
     path: Any
 
