@@ -58,6 +58,26 @@ export interface Chunk {
  */
 export type Reason = "root" | "escapes" | "parent" | "nul";
 
+/**
+ * An entry of an archive. A link's target is what it has in the archive. Entries of any other kind
+ * are refused.
+ */
+export interface Entry {
+    readonly kind: "directory" | "file" | "symlink" | "hardlink" | "other";
+    readonly path: Path;
+    readonly target?: Path;
+}
+
+/**
+ * Why an entry is refused: its index, that of the entry that it clashes with or its own, and the
+ * reason. unix_path.h says what each reason means, above unix_path_check_entries.
+ */
+export interface Refusal {
+    readonly entry: number;
+    readonly cause: number;
+    readonly reason: "name" | "kind" | "belowLeaf" | "linkUsedTwice" | "targetIsLink" | "leadsOut";
+}
+
 /** The error of a join that refuses its request. */
 export class EscapesError extends Error {
     constructor(reason: Reason);
@@ -301,6 +321,18 @@ export interface UnixPath {
      * @example endsInSlash("a/..") // false
      */
     endsInSlash(request: Path): boolean;
+
+    /**
+     * Returns null if the entries of an archive, links among them, may be extracted to a new, empty
+     * directory: no extractor then writes outside of it, in any order, unless it follows a symbolic
+     * link when it works on the link's own path. With `closed`, not even such an extractor does.
+     * Otherwise returns the refusal of the first entry that is refused. The entries before it are
+     * accepted. List the entries with the program that extracts them, and with its options.
+     * @example checkEntries([{kind: "directory", path: "a/"}, {kind: "file", path: "a/b"}]) // null
+     * @example checkEntries([{kind: "file", path: "/etc/passwd"}]).reason // "name"
+     * @example checkEntries([{kind: "symlink", path: "x", target: "/etc"}]) // null
+     */
+    checkEntries(entries: Iterable<Entry>, options?: {readonly closed?: boolean}): Refusal | null;
 
     /**
      * Returns the key of the path, for a store that compares keys byte by byte. Keys sort as

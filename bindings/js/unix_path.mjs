@@ -13,6 +13,10 @@ const ESCAPES = -2n, NUL_IN_REQUEST = -4n, NOT_A_KEY = -5n, NO_END = -6n, SEPARA
     NO_RELATIVE_PATH = -8n;
 const KINDS = ["rootDir", "curDir", "parentDir", "normal"];
 const CHECKS = [null, "root", "escapes", "nul"];
+// The size of the memory for one use of a path by checkEntries.
+const SLOT = 40;
+const ENTRY_KINDS = {directory: "d", file: "f", symlink: "l", hardlink: "h"};
+const ENTRY_REFUSALS = ["name", "kind", "belowLeaf", "linkUsedTwice", "targetIsLink", "leadsOut"];
 const REFUSALS = {
     root: "the request has a root",
     escapes: "the request leads out of its root",
@@ -60,6 +64,23 @@ function textOf(bytes) {
 function piece(path, bytes, [start, length]) {
     const found = bytes.subarray(Number(start), Number(start + length));
     return isText(path) ? textOf(found) : found;
+}
+
+// Returns the fields of an entry's record.
+function fieldsOf({kind, path, target = ""}) {
+    const isLink = kind === "symlink" || kind === "hardlink";
+    return [ENTRY_KINDS[kind] ?? "other", path, isLink ? target : ""].map(bytesOf);
+}
+
+// Returns the fields with a NUL after each.
+function recordsOf(fields) {
+    const records = new Uint8Array(fields.reduce((sum, it) => sum + it.length + 1, 0));
+    let end = 0;
+    for (const field of fields) {
+        records.set(field, end);
+        end += field.length + 1;
+    }
+    return records;
 }
 
 // Returns the type of a memory's numbers of pages: BigInt if its addresses have 64 bits.
@@ -125,12 +146,20 @@ class Instance {
         return this.calls[`unix_path_${name}`](...words);
     }
 
-    // Returns the numbers of the record that a call writes, or null if it returns false.
-    find(name, words, ...state) {
+    // Returns the numbers of the record that a call writes, or null if it returns 0.
+    find(name, words, ...others) {
         const record = this.base + RECORD;
-        const found = this.call(name, ...words, ...state, BigInt(record));
+        const found = this.call(name, ...words, ...others, BigInt(record));
         return found === 0 ? null : [record, record + 8, record + 16].map((at) => (
             this.numbers.getBigUint64(at, true)));
+    }
+
+    // Returns the refusal of an archive's entries, or null. The slots are after the records.
+    checkEntries(records, level) {
+        const {words} = this.place([records]);
+        const count = this.call("entries_scratch", ...words);
+        const {end} = this.place([records], SLOT * (Number(count) + 1));
+        return this.find("check_entries", words, BigInt(end + 8 - end % 8), count, level);
     }
 
     // Makes a call that reads and writes these two numbers, the state of a walk.
@@ -301,6 +330,19 @@ class Library {
         }
         return [root, request].every(isText) ? textOf(answer) : answer;
     }
+
+    // A record has no field with a NUL. An entry with one is refused if none before it is.
+    checkEntries(entries, {closed = false} = {}) {
+        const list = Array.from(entries, fieldsOf);
+        const wrong = list.findIndex((it) => it.some((field) => field.includes(0)));
+        const records = recordsOf((wrong < 0 ? list : list.slice(0, wrong)).flat());
+        const found = this.#use((it) => it.checkEntries(records, closed ? 1 : 0));
+        if (found === null) {
+            return wrong < 0 ? null : {entry: wrong, cause: wrong, reason: "name"};
+        }
+        const [entry, cause, reason] = found.map((it) => Number(BigInt.asUintN(32, it)));
+        return {entry, cause, reason: ENTRY_REFUSALS[reason]};
+    }
 }
 
 // Returns the functions of unix_path.d.ts.
@@ -348,6 +390,8 @@ function functionsOf(library) {
         escapes: (request) => isTrue("escapes", request),
         requestIsRoot: (request) => isTrue("request_is_root", request),
         endsInSlash: (request) => isTrue("ends_in_slash", request),
+
+        checkEntries: (entries, options) => library.checkEntries(entries, options),
 
         key: (path) => library.write("key", path),
         fromKey: (key) => make("from_key", key),

@@ -9,6 +9,7 @@ const FLAGS = ["--headless", "--no-sandbox", "--disable-gpu", "--disable-dev-shm
 
 export class Chromium {
     #process; #folder; #asked = new Map(); #listeners = new Set(); #count = 0; #rest = "";
+    #ended;
 
     constructor() {
         this.#folder = mkdtempSync(`${tmpdir()}/chromium`);
@@ -16,7 +17,16 @@ export class Chromium {
             stdio: ["ignore", "ignore", "ignore", "pipe", "pipe"],
             env: {...process.env, HOME: this.#folder},
         });
-        this.#process.stdio[4].on("data", (it) => this.#read(it.toString("utf8")));
+        this.#process.stdio[4].setEncoding("utf8").on("data", (it) => this.#read(it));
+        this.#ended = once(this.#process, "exit").then(([code, signal]) => {
+            throw new Error(`Chromium ended with ${code ?? signal}`);
+        });
+        this.#ended.catch(() => {});
+    }
+
+    // Waits for something that doesn't come if Chromium has ended.
+    wait(promise) {
+        return Promise.race([promise, this.#ended]);
     }
 
     #read(text) {
@@ -35,7 +45,9 @@ export class Chromium {
     send(method, params = {}, sessionId = undefined) {
         const id = ++this.#count;
         this.#process.stdio[3].write(`${JSON.stringify({id, method, params, sessionId})}\0`);
-        return new Promise((resolve, reject) => this.#asked.set(id, {resolve, reject}));
+        return this.wait(new Promise((resolve, reject) => {
+            this.#asked.set(id, {resolve, reject});
+        }));
     }
 
     // Calls `work` with each event of a page.
@@ -55,9 +67,8 @@ export class Chromium {
     }
 
     async close() {
-        const ended = once(this.#process, "exit");
-        await this.send("Browser.close").catch(() => {});
-        await ended;
+        this.send("Browser.close").catch(() => {});
+        await this.#ended.catch(() => {});
         rmSync(this.#folder, {recursive: true, force: true});
     }
 }
@@ -91,7 +102,7 @@ class Page {
     async go(url) {
         const loaded = new Promise((resolve) => { this.#loaded = resolve; });
         await this.send("Page.navigate", {url});
-        await loaded;
+        await this.#chromium.wait(loaded);
     }
 
     // Returns the value of a function of no or of one argument, called in the page.

@@ -71,6 +71,18 @@ function fieldsOf(paths, call, given, back) {
     }
 }
 
+const ENTRY_KINDS = {d: "directory", f: "file", l: "symlink", h: "hardlink"};
+
+// Returns the answer of entries.txt for these entries, each a kind, a path and a target.
+export function entriesAnswer(paths, entries, closed) {
+    const list = entries.map(([kind, path, target]) => ({
+        kind: ENTRY_KINDS[kind] ?? "other", path: toBytes(path), target: toBytes(target)}));
+    const found = paths.checkEntries(list, {closed});
+    return found === null ? "accepted"
+        : [found.reason.replace(/[A-Z]/g, (it) => `_${it.toLowerCase()}`), found.entry, found.cause]
+            .join(" ");
+}
+
 const encoder = new TextEncoder();
 // Returns the bytes of an answer. `key` returns bytes for text too, and toStringLossy always text.
 const fromText = (answer) => fromBytes(

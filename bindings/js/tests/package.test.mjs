@@ -86,6 +86,29 @@ test("walks from both ends, in turn with other calls", () => {
     assert.equal(paths.components("a/b")[Symbol.iterator]().next().value.value, "a");
 });
 
+test("entries of an archive", () => {
+    const {checkEntries} = paths, link = {kind: "symlink", path: "x", target: "/etc"};
+    const files = (...list) => list.map((path) => ({kind: "file", path}));
+    assert.equal(checkEntries([]), null);
+    assert.equal(checkEntries(new Set([link]).values()), null);
+    assert.deepEqual(checkEntries([link, ...files("x/passwd")]),
+                     {entry: 1, cause: 0, reason: "belowLeaf"});
+    assert.deepEqual(checkEntries([link], {closed: true}),
+                     {entry: 0, cause: 0, reason: "leadsOut"});
+    assert.deepEqual(checkEntries(files("a", "b\0", "../c")),
+                     {entry: 1, cause: 1, reason: "name"});
+    assert.deepEqual(checkEntries([...files("/a"), {...link, target: "a\0"}]),
+                     {entry: 0, cause: 0, reason: "name"});
+    assert.equal(checkEntries([{...files("a")[0], target: "\0"}]), null);
+    assert.deepEqual(checkEntries([{kind: "fifo", path: "a"}]),
+                     {entry: 0, cause: 0, reason: "kind"});
+    assert.throws(() => checkEntries([{kind: "file"}]), TypeError);
+    const many = Array.from({length: 20_000}, (_, it) => `d${it % 100}/f${it}`);
+    assert.equal(checkEntries(files(...many)), null);
+    assert.deepEqual(checkEntries(files(...many, "d7")), {entry: 7, cause: 20_000,
+                                                           reason: "belowLeaf"});
+});
+
 test("answers that are longer than the paths", () => {
     for (let count = 1; count < 50; count++) {
         const up = new Array(count).fill("..").join("/");

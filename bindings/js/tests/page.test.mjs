@@ -60,6 +60,28 @@ const TESTS = {
             + "outside of the root");
     },
 
+    async "says which entries of an archive are refused"(page) {
+        assert.match(await shown(page, "verdict"), /^Refused/);
+        await type(page, "entries", "l x -> /etc");
+        assert.match(await shown(page, "verdict"), /^Accepted/);
+        await page.ask(() => document.getElementById("closed").focus());
+        await page.press("ArrowDown", 40);
+        assert.equal(await shown(page, "checked"), "l x -> /etc refused: its target has a root, "
+            + "too many .., or a .. after a name");
+        await page.ask(() => {
+            document.getElementById("closed").value = "";
+            document.getElementById("entries").value = "l x -> /etc\nf x/a\nf /b\np c\nl x -> y\n"
+                + "h d -> x\n<b> -> \nf ok";
+            dispatchEvent(new Event("input"));
+        });
+        assert.equal(await shown(page, "checked"), "l x -> /etc accepted f x/a refused: a path "
+            + "that it uses is below entry 0, which is no directory f /b refused: a path that it "
+            + "uses has a root, a .. or a NUL, or ends in a slash p c refused: it is neither a "
+            + "directory, a file nor a link l x -> y refused: it uses the same path as entry 0, "
+            + "and that is a link's h d -> x refused: a hard link's target is a link: see entry 0 "
+            + "<b> -> refused: it is neither a directory, a file nor a link f ok accepted");
+    },
+
     async "answers why a.b sorts after a/b"(page) {
         await click(page, "Why does a.b sort after a/b?");
         assert.equal(await shown(page, "by-components"), "a/b key 61 00 62 00 a.b key 61 2F 62 00");
@@ -135,7 +157,7 @@ const TESTS = {
     },
 
     async "shows text as text"(page, chromium) {
-        const fields = ["path", "other", "root", "requests", "list"];
+        const fields = ["path", "other", "root", "requests", "entries", "list"];
         for (const id of fields) {
             await type(page, id, MARKUP);
         }
@@ -178,7 +200,7 @@ const TESTS = {
 
     async "can be used by keyboard"(page) {
         const count = await page.ask(() => (
-            document.querySelectorAll("button, input, textarea").length));
+            document.querySelectorAll("button, input, textarea, select").length));
         const reached = new Set();
         for (let at = 0; at < count; at++) {
             await page.press("Tab", 9);
@@ -206,7 +228,7 @@ const TESTS = {
     async "fits into 360 pixels"(page) {
         for (const scheme of ["light", "dark"]) {
             await page.look(360, scheme);
-            for (const id of ["path", "other", "root", "requests", "list"]) {
+            for (const id of ["path", "other", "root", "requests", "entries", "list"]) {
                 await type(page, id, `/${"long".repeat(60)}/x`);
             }
             assert.equal(await page.ask(() => document.documentElement.scrollWidth), 360);

@@ -7,6 +7,10 @@ const FILLER = 0xA5;
 // The size of the memory for each record, which is at its start.
 const RECORD = 64;
 const PAGES = 64;
+// The size of a slot of check_entries, and what the call returns if there are too few.
+const SLOT = 40, NO_ROOM = 3;
+// The words of entries.txt for reasons.
+const REASONS = ["name", "kind", "below_leaf", "link_used_twice", "target_is_link", "leads_out"];
 const KINDS = ["/", ".", ".."];
 // The words of rows.txt for error codes.
 const ERRORS = new Map([[7n, "!separator"], [2n, "!escapes"], [4n, "!nul_in_request"],
@@ -176,6 +180,28 @@ export class Raw {
         }
         check(!["equal", "common_dir"].includes(name) || back === there, "from the other side");
         return this.ask(name, [a, b], type);
+    }
+
+    // Returns the answer of entries.txt for these records. Checks that one slot less is too few,
+    // that nothing after the slots is written, and the refusal only if there is one.
+    askEntries(records, level) {
+        const count = this.call("entries_scratch", [records]), slots = this.records + RECORD;
+        const ask = (most) => {
+            this.fill(this.records, RECORD + SLOT * Number(count) + RECORD);
+            const answer = this.call("check_entries", [records], BigInt(slots), most, level,
+                                     this.record(0));
+            check(this.isFiller(slots + SLOT * Number(most), RECORD), "wrote after the slots");
+            check(answer === 1 || this.isFiller(this.records, RECORD), "wrote a refusal");
+            return answer;
+        };
+        check(count === 0n || ask(count - 1n) === NO_ROOM, "too few slots");
+        const answer = ask(count);
+        if (answer === 0) {
+            return "accepted";
+        }
+        check(answer === 1, "refused");
+        const reason = this.memory.getUint32(this.records + 16, true);
+        return [REASONS[reason], this.field(0, 0), this.field(0, 1)].join(" ");
     }
 
     askWrite(name, paths) {

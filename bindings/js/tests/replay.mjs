@@ -1,7 +1,7 @@
 // Replays rows.txt and vectors of pathtool by a module, in Node and in browsers.
 import {load} from "../unix_path.mjs";
 import {check, fromBytes} from "./bytes.mjs";
-import {answer, nameOf} from "./functions.mjs";
+import {answer, entriesAnswer, nameOf} from "./functions.mjs";
 import {pathtool} from "./pathtool.mjs";
 import {Raw, rawAnswer} from "./raw.mjs";
 
@@ -23,6 +23,18 @@ export function rowsOf(rows, calls) {
         const count = known.get(call).shape.endsWith("TWO") ? 2 : 1;
         return {line, call, ...known.get(call), paths: fields.slice(0, count),
                 wanted: fields.slice(count)};
+    });
+}
+
+// Returns the rows of entries.txt: each with its line, whether the level is `closed`, the answer
+// and the entries, each a kind, a path and a target.
+function entriesOf(text) {
+    return text.split("\n").filter((it) => it && !it.startsWith("#")).map((line) => {
+        const [level, wanted, ...fields] = line.split("|").map((it) => (
+            unescaped(it.replace(/^ | $/g, ""))));
+        const entries = Array.from({length: fields.length / 3},
+                                   (_, at) => fields.slice(3 * at, 3 * at + 3));
+        return {line, closed: level === "closed", wanted: [wanted], entries};
     });
 }
 
@@ -53,18 +65,23 @@ function wrongRows(rows, ask) {
 const withoutIndex = (row) => (row.shape.startsWith("FIND") && row.wanted.length === 2
                                ? {...row, wanted: row.wanted.slice(0, 1)} : row);
 
-// Replays everything. `given` has the texts of rows.txt, calls.inc and commands.txt, and vectors,
-// each a name, lines and answers. All are strings of bytes. Returns names with what is wrong, or
-// null.
+// Replays everything. `given` has the texts of rows.txt, entries.txt, calls.inc and commands.txt,
+// and vectors, each a name, lines and answers. All are strings of bytes. Returns names with what is
+// wrong, or null.
 export async function replay(bytes, given) {
     const module = await WebAssembly.compile(bytes), paths = await load(module);
     const rows = rowsOf(given.rows, given.calls), raw = new Raw(module);
     const missing = rows.filter((it) => typeof paths[nameOf(it.call)] !== "function");
-    const answerLine = pathtool(paths, given.commands);
+    const answerLine = pathtool(paths, given.commands), entries = entriesOf(given.entries);
     check(rows.length > 1000 && missing.length === 0, `no function for ${missing[0]?.call}`);
     const found = [["rows by calls", wrongRows(rows, (row) => rawAnswer(raw, row))],
                    ["rows by functions",
-                    wrongRows(rows.map(withoutIndex), (row) => answer(paths, row))]];
+                    wrongRows(rows.map(withoutIndex), (row) => answer(paths, row))],
+                   ["entries by calls", wrongRows(entries, (row) => [
+                       raw.askEntries(row.entries.flat().map((it) => `${it}\0`).join(""),
+                                      Number(row.closed))])],
+                   ["entries by functions", wrongRows(entries, (row) => [
+                       entriesAnswer(paths, row.entries, row.closed)])]];
     for (const [name, lines, answers] of given.vectors) {
         const asked = lines.replace(/\n$/, "").split("\n").slice(0, lines ? undefined : 0);
         found.push([name, difference(asked.map(answerLine), answers.split("\n").slice(0, -1))]);
@@ -79,6 +96,7 @@ export async function readAll(read, rows, names) {
     const vectors = names.map(async (name) => [
         name.replace(/.*\//, ""), await text(`${name}.in`), await text(`${name}.out`)]);
     return {rows: (await Promise.all(rows.map(text))).join(""),
+            entries: await text("tests/entries.txt"),
             calls: await text("tests/calls.inc"), commands: await text("tests/commands.txt"),
             vectors: await Promise.all(vectors)};
 }

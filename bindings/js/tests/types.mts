@@ -23,7 +23,10 @@ const p: Reason = new EscapesError("nul").reason;
 for (const {kind, value, start} of paths.components(any)) {
     const q: [string, Path, number] = [kind, value, start];
 }
+const u: number | undefined = paths.checkEntries([{kind: "file", path: bytes}])?.cause;
 
+// @ts-expect-error: no kind
+paths.checkEntries([{kind: "fifo", path: text}]);
 // @ts-expect-error: it may be null
 const r: string = paths.parent(text);
 // @ts-expect-error: bytes of bytes
