@@ -517,19 +517,22 @@ class Uses(Packages):
                       "[patch.crates-io]", "serde = { path = 'serde' }")
         self.enter("cargo run --offline --quiet")
 
-    @needs("rustc", "cargo")
+
+class Service(Packages):
+    @needs("cargo")
     def test_service(self):
-        """The example with serde in its configuration is built in an empty directory, and answers
-        requests."""
+        """The example with serde in its configuration is built in an empty directory from the crate
+        and from those of Debian, and answers requests."""
         if not glob.glob(f"{REGISTRY}/serde_json-*"):
             self.leave_out("the service with serde", "librust-serde-json-dev is missing")
-        shutil.copytree(f"{ROOT}/examples/lookup", f"{self.top}/try/lookup", ignore=(
+        top = shutil.copytree(f"{ROOT}/examples/lookup", f"{self.folder}/lookup", ignore=(
             shutil.ignore_patterns("target", "Cargo.lock", "unix_path_proved-*")))
-        self.unpack(f"{CRATE}.crate", f"{self.top}/try/lookup")
-        write(f"{self.top}/try/lookup/.cargo/config.toml", OF_DEBIAN)
-        self.enter("cd lookup\ncargo build --offline --quiet\n"
-                   "target/debug/lookup site.json < requests.in > answers\n"
-                   "cmp answers requests.out")
+        self.unpack(f"{CRATE}.crate", top)
+        write(f"{top}/.cargo/config.toml", OF_DEBIAN)
+        self.ran(["cargo", "build", "--offline"], top, CARGO_TARGET_DIR=f"{top}/target")
+        found = self.ran(["target/debug/lookup", "site.json"], top,
+                         given=read("examples/lookup/requests.in"))
+        self.same_lines(found.stdout, read("examples/lookup/requests.out"))
 
 
 class Windows(Packages):

@@ -33,8 +33,8 @@
 //!   links;
 //! - [`Path::join`]: trusted paths.
 //!
-//! Bytes and strings are accepted as paths, and on Unix also the paths and strings of std. Our paths
-//! are accepted by the functions of std:
+//! Bytes and strings are accepted as paths, and on Unix also the paths and strings of std. Our
+//! paths are accepted by the functions of std:
 //!
 //! ```
 //! # #[cfg(unix)]
@@ -64,8 +64,8 @@
 //! # Features
 //!
 //! Without features the crate has the views and iterators, and [`calls`] that write to slices.
-//! `alloc` adds `PathBuf`, `UnixString` and what else allocates. `std`, the default, adds conversions
-//! of errors to `io::Error` and, on Unix, to and from the paths and strings of std.
+//! `alloc` adds `PathBuf`, `UnixString` and what else allocates. `std`, the default, adds
+//! conversions of errors to `io::Error` and, on Unix, to and from the paths and strings of std.
 //!
 //! # Targets
 //!
@@ -79,10 +79,10 @@
 //! | `aarch64-unknown-linux-gnu`, `aarch64-unknown-linux-musl` | only assembled |
 //! | `x86_64-pc-windows-gnu`, `x86_64-pc-windows-msvc`; experimental | only assembled |
 //!
-//! For any other target, and in Miri, `cargo check` and `cargo doc` work, and the linker reports that
-//! there is no assembly. The feature `system` links an installed `libunix_path` instead, on any
-//! target with pointers of 64 bits for which that library was built. If the linker does not search
-//! its directory, name the directory, for example with `RUSTFLAGS='-L /opt/lib'`.
+//! For any other target, and in Miri, `cargo check` and `cargo doc` work, and the linker reports
+//! that there is no assembly. The feature `system` links an installed `libunix_path` instead, on
+//! any target with pointers of 64 bits for which that library was built. If the linker does not
+//! search its directory, name the directory, for example with `RUSTFLAGS='-L /opt/lib'`.
 //!
 //! Cargo refuses to build a program with two versions of this crate, since both define the same
 //! symbols. For the same reason, use the feature `system` in a program whose C or C++ code also
@@ -119,6 +119,8 @@ pub mod archive;
 #[cfg(feature = "alloc")]
 mod boxes;
 pub mod calls;
+#[cfg(feature = "alloc")]
+mod capacity;
 mod compare;
 mod component;
 mod convert;

@@ -143,9 +143,9 @@ impl Ord for Path {
 }
 
 /// Feeds the hasher the canonical form, in blocks, and then an end mark: two slashes and a NUL. No
-/// canonical form has two slashes in a row. So equal paths feed the same bytes, and different paths,
-/// or different lists of paths, feed different bytes: if the hasher is keyed, its key determines
-/// which of them collide.
+/// canonical form has two slashes in a row. So equal paths feed the same bytes, and different
+/// paths, or different lists of paths, feed different bytes: if the hasher is keyed, its key
+/// determines which of them collide.
 impl Hash for Path {
     #[inline]
     fn hash<H: Hasher>(&self, state: &mut H) {

@@ -8,7 +8,6 @@ use crate::unix_string::UnixString;
 use crate::walks::Iter;
 use alloc::borrow::{Borrow, Cow};
 use alloc::boxed::Box;
-use alloc::collections::TryReserveError;
 use alloc::vec::Vec;
 use core::cmp::Ordering;
 use core::convert::Infallible;
@@ -32,7 +31,7 @@ use core::str::FromStr;
 /// ```
 #[derive(Clone, Default)]
 pub struct PathBuf {
-    text: UnixString,
+    pub(crate) text: UnixString,
 }
 
 impl PathBuf {
@@ -54,20 +53,6 @@ impl PathBuf {
     #[inline]
     pub const fn new() -> PathBuf {
         PathBuf::of(Vec::new())
-    }
-
-    /// Creates an empty path with at least this capacity.
-    ///
-    /// ```
-    /// let mut path = unix_path_proved::PathBuf::with_capacity(10);
-    /// let capacity = path.capacity();
-    /// path.push("/tmp");
-    /// assert_eq!(path.capacity(), capacity);
-    /// ```
-    #[must_use]
-    #[inline]
-    pub fn with_capacity(capacity: usize) -> PathBuf {
-        PathBuf::of(Vec::with_capacity(capacity))
     }
 
     /// Returns the path.
@@ -247,103 +232,6 @@ impl PathBuf {
     #[inline]
     pub fn into_boxed_path(self) -> Box<Path> {
         Path::in_box(self.text.into_vec().into_boxed_slice())
-    }
-
-    /// Returns the capacity.
-    ///
-    /// ```
-    /// assert_eq!(unix_path_proved::PathBuf::new().capacity(), 0);
-    /// ```
-    #[must_use]
-    #[inline]
-    pub fn capacity(&self) -> usize {
-        self.text.capacity()
-    }
-
-    /// Makes the path empty, and keeps its capacity.
-    ///
-    /// ```
-    /// use unix_path_proved::PathBuf;
-    /// let mut path = PathBuf::from("a");
-    /// path.clear();
-    /// assert!(path == PathBuf::new() && path.capacity() > 0);
-    /// ```
-    #[inline]
-    pub fn clear(&mut self) {
-        self.text.clear();
-    }
-
-    /// Reserves capacity for at least this many more bytes.
-    ///
-    /// ```
-    /// let mut path = unix_path_proved::PathBuf::from("a");
-    /// path.reserve(10);
-    /// assert!(path.capacity() >= 11);
-    /// ```
-    #[inline]
-    pub fn reserve(&mut self, additional: usize) {
-        self.text.reserve(additional);
-    }
-
-    /// Reserves capacity for this many more bytes, without asking for more than that.
-    ///
-    /// ```
-    /// let mut path = unix_path_proved::PathBuf::from("a");
-    /// path.reserve_exact(10);
-    /// assert!(path.capacity() >= 11);
-    /// ```
-    #[inline]
-    pub fn reserve_exact(&mut self, additional: usize) {
-        self.text.reserve_exact(additional);
-    }
-
-    /// Reserves capacity for at least this many more bytes. If an allocation fails, it is an error,
-    /// and nothing changes.
-    ///
-    /// ```
-    /// let mut path = unix_path_proved::PathBuf::from("a");
-    /// assert!(path.try_reserve(10).is_ok() && path.capacity() >= 11);
-    /// assert!(path.try_reserve(usize::MAX).is_err());
-    /// ```
-    #[inline]
-    pub fn try_reserve(&mut self, additional: usize) -> Result<(), TryReserveError> {
-        self.text.try_reserve(additional)
-    }
-
-    /// Reserves capacity for this many more bytes, without asking for more than that. If an
-    /// allocation fails, it is an error, and nothing changes.
-    ///
-    /// ```
-    /// let mut path = unix_path_proved::PathBuf::from("a");
-    /// assert!(path.try_reserve_exact(10).is_ok() && path.capacity() >= 11);
-    /// ```
-    #[inline]
-    pub fn try_reserve_exact(&mut self, additional: usize) -> Result<(), TryReserveError> {
-        self.text.try_reserve_exact(additional)
-    }
-
-    /// Releases spare capacity.
-    ///
-    /// ```
-    /// let mut path = unix_path_proved::PathBuf::with_capacity(100);
-    /// path.shrink_to_fit();
-    /// assert!(path.capacity() < 100);
-    /// ```
-    #[inline]
-    pub fn shrink_to_fit(&mut self) {
-        self.text.shrink_to_fit();
-    }
-
-    /// Releases spare capacity, down to this capacity.
-    ///
-    /// ```
-    /// let mut path = unix_path_proved::PathBuf::with_capacity(100);
-    /// path.shrink_to(20);
-    /// assert!(path.capacity() < 100);
-    /// ```
-    #[inline]
-    pub fn shrink_to(&mut self, min_capacity: usize) {
-        self.text.shrink_to(min_capacity);
     }
 }
 

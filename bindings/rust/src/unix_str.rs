@@ -97,15 +97,16 @@ impl UnixStr {
         self.0.len()
     }
 
-    /// Returns an iterator over the chunks of the text. A chunk is the longest run of valid UTF-8 and
-    /// the invalid bytes after it, for which `to_string_lossy` has one U+FFFD.
+    /// Returns an iterator over the chunks of the text. A chunk is the longest run of valid UTF-8
+    /// and the invalid bytes after it, for which `to_string_lossy` has one U+FFFD.
     ///
     /// Equivalent to `<[u8]>::utf8_chunks` in Rust.
     ///
     /// ```
     /// use unix_path_proved::{Chunk, UnixStr};
-    /// let (first, last) = (Chunk { valid: b"a", broken: b"\xFF" }, Chunk { valid: b"b", broken: b"" });
-    /// assert!(UnixStr::from_bytes(b"a\xFFb").chunks().eq([first, last]));
+    /// let mut chunks = UnixStr::from_bytes(b"a\xFFb").chunks();
+    /// assert_eq!(chunks.next(), Some(Chunk { valid: b"a", broken: b"\xFF" }));
+    /// assert_eq!(chunks.next(), Some(Chunk { valid: b"b", broken: b"" }));
     /// ```
     #[must_use]
     #[inline]

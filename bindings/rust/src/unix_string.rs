@@ -2,7 +2,6 @@
 use crate::unix_str::UnixStr;
 use alloc::borrow::{Borrow, Cow};
 use alloc::boxed::Box;
-use alloc::collections::TryReserveError;
 use alloc::string::String;
 use alloc::vec::Vec;
 use core::convert::Infallible;
@@ -36,17 +35,6 @@ impl UnixString {
     #[inline]
     pub const fn new() -> UnixString {
         UnixString { bytes: Vec::new() }
-    }
-
-    /// Creates an empty string with at least this capacity.
-    ///
-    /// ```
-    /// assert!(unix_path_proved::UnixString::with_capacity(10).capacity() >= 10);
-    /// ```
-    #[must_use]
-    #[inline]
-    pub fn with_capacity(capacity: usize) -> UnixString {
-        UnixString::from_vec(Vec::with_capacity(capacity))
     }
 
     /// Creates a string from these bytes, in the same memory. Like `OsStringExt::from_vec` of Rust.
@@ -108,102 +96,6 @@ impl UnixString {
     #[inline]
     pub fn push<S: AsRef<UnixStr>>(&mut self, s: S) {
         self.bytes.extend_from_slice(s.as_ref().as_bytes());
-    }
-
-    /// Returns the capacity.
-    ///
-    /// ```
-    /// assert_eq!(unix_path_proved::UnixString::new().capacity(), 0);
-    /// ```
-    #[must_use]
-    #[inline]
-    pub fn capacity(&self) -> usize {
-        self.bytes.capacity()
-    }
-
-    /// Removes all bytes, and keeps the capacity.
-    ///
-    /// ```
-    /// let mut text = unix_path_proved::UnixString::from("a");
-    /// text.clear();
-    /// assert!(text.is_empty() && text.capacity() > 0);
-    /// ```
-    #[inline]
-    pub fn clear(&mut self) {
-        self.bytes.clear();
-    }
-
-    /// Reserves capacity for at least this many more bytes.
-    ///
-    /// ```
-    /// let mut text = unix_path_proved::UnixString::from("a");
-    /// text.reserve(10);
-    /// assert!(text.capacity() >= 11);
-    /// ```
-    #[inline]
-    pub fn reserve(&mut self, additional: usize) {
-        self.bytes.reserve(additional);
-    }
-
-    /// Reserves capacity for this many more bytes, without asking for more than that.
-    ///
-    /// ```
-    /// let mut text = unix_path_proved::UnixString::from("a");
-    /// text.reserve_exact(10);
-    /// assert!(text.capacity() >= 11);
-    /// ```
-    #[inline]
-    pub fn reserve_exact(&mut self, additional: usize) {
-        self.bytes.reserve_exact(additional);
-    }
-
-    /// Reserves capacity for at least this many more bytes. If an allocation fails, it is an error,
-    /// and nothing changes.
-    ///
-    /// ```
-    /// let mut text = unix_path_proved::UnixString::from("a");
-    /// assert!(text.try_reserve(10).is_ok() && text.capacity() >= 11);
-    /// assert!(text.try_reserve(usize::MAX).is_err());
-    /// ```
-    #[inline]
-    pub fn try_reserve(&mut self, additional: usize) -> Result<(), TryReserveError> {
-        self.bytes.try_reserve(additional)
-    }
-
-    /// Reserves capacity for this many more bytes, without asking for more than that. If an
-    /// allocation fails, it is an error, and nothing changes.
-    ///
-    /// ```
-    /// let mut text = unix_path_proved::UnixString::from("a");
-    /// assert!(text.try_reserve_exact(10).is_ok() && text.capacity() >= 11);
-    /// ```
-    #[inline]
-    pub fn try_reserve_exact(&mut self, additional: usize) -> Result<(), TryReserveError> {
-        self.bytes.try_reserve_exact(additional)
-    }
-
-    /// Releases spare capacity.
-    ///
-    /// ```
-    /// let mut text = unix_path_proved::UnixString::with_capacity(100);
-    /// text.shrink_to_fit();
-    /// assert!(text.capacity() < 100);
-    /// ```
-    #[inline]
-    pub fn shrink_to_fit(&mut self) {
-        self.bytes.shrink_to_fit();
-    }
-
-    /// Releases spare capacity, down to this capacity.
-    ///
-    /// ```
-    /// let mut text = unix_path_proved::UnixString::with_capacity(100);
-    /// text.shrink_to(20);
-    /// assert!(text.capacity() < 100);
-    /// ```
-    #[inline]
-    pub fn shrink_to(&mut self, min_capacity: usize) {
-        self.bytes.shrink_to(min_capacity);
     }
 
     /// Converts to boxed text, without spare capacity.

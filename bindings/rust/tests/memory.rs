@@ -1,5 +1,5 @@
-//! Out of memory: each call that writes to a vector returns an error, and a method of the types ends
-//! the program.
+//! Out of memory: each call that writes to a vector returns an error, and a method of the types
+//! ends the program.
 #[macro_use]
 #[path = "../src/ffi/calls.rs"]
 mod shapes;

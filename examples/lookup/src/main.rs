@@ -1,9 +1,10 @@
-//! A service that maps the paths of requests to files below a directory, which no request can leave.
+//! A service that maps the paths of requests to files below a directory, which no request can
+//! leave.
 //!
-//! `lookup CONFIG` reads its configuration, which is JSON such as `site.json`, and then requests from
-//! standard input, one per line, such as `/files/docs/guide.txt`. It prints each request and then the
-//! file that it names, that there is no such file, or why it is refused. Requests are resolved
-//! lexically, so make sure that no link below the directory leads out of it.
+//! `lookup CONFIG` reads its configuration, which is JSON such as `site.json`, and then requests
+//! from standard input, one per line, such as `/files/docs/guide.txt`. It prints each request and
+//! then the file that it names, that there is no such file, or why it is refused. Requests are
+//! resolved lexically, so make sure that no link below the directory leads out of it.
 use serde::Deserialize;
 use std::io::{self, BufRead, Write};
 use std::process::ExitCode;

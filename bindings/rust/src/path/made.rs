@@ -63,8 +63,8 @@ impl Path {
     /// Resolves each `..` lexically: it is dropped together with the name before it.
     ///
     /// The result is in canonical form: each `.` is dropped too, and so is a `..` after the root.
-    /// Without a root, a `..` with no name before it stays, at the beginning of the result. An empty
-    /// result means the current directory.
+    /// Without a root, a `..` with no name before it stays, at the beginning of the result. An
+    /// empty result means the current directory.
     ///
     /// Symbolic links are not followed: if a component before a `..` is one, the result may name
     /// another file.
@@ -103,15 +103,15 @@ impl Path {
 
     /// Joins a request that must stay beneath this path, such as an entry of an archive.
     ///
-    /// The result is this path verbatim, and after it the names that the request resolves to, with a
-    /// slash between two of them and, where one is needed, after this path. After this path there is
-    /// no `..`, no `.`, no NUL and no trailing slash. If the request has no name, the result is this
-    /// path itself; [`request_is_root`](Path::request_is_root) checks for this. If this path is
-    /// empty too, the result is empty and means the current directory.
+    /// The result is this path verbatim, and after it the names that the request resolves to, with
+    /// a slash between two of them and, where one is needed, after this path. After this path there
+    /// is no `..`, no `.`, no NUL and no trailing slash. If the request has no name, the result is
+    /// this path itself; [`request_is_root`](Path::request_is_root) checks for this. If this path
+    /// is empty too, the result is empty and means the current directory.
     ///
-    /// Fails with `Escapes` if and only if the request [`escapes`](Path::escapes): it has a root, or
-    /// its `..` lead above where it starts. Otherwise fails with `Nul` if and only if the request
-    /// has a NUL byte, at which a system call would cut the result.
+    /// Fails with `Escapes` if and only if the request [`escapes`](Path::escapes): it has a root,
+    /// or its `..` lead above where it starts. Otherwise fails with `Nul` if and only if the
+    /// request has a NUL byte, at which a system call would cut the result.
     /// [`check_request`](Path::check_request) distinguishes a root from a `..`.
     ///
     /// The request is resolved lexically: if a component below this path may be a link, let the
@@ -158,7 +158,8 @@ impl Path {
     /// The system follows links below this path wherever they lead. Each `..` in this path stays.
     ///
     /// Fails with `Escapes` if and only if the request has a root or a `..`. Otherwise fails with
-    /// `Nul` if and only if the request has a NUL byte, at which a system call would cut the result.
+    /// `Nul` if and only if the request has a NUL byte, at which a system call would cut the
+    /// result.
     ///
     /// ```
     /// use unix_path_proved::{Error, Path};
@@ -177,9 +178,9 @@ impl Path {
 
     /// Finds the relative path from this path to another, lexically. It may allocate twice.
     ///
-    /// Both paths are resolved, and the components that both then start with are dropped. The result
-    /// is a `..` for each name in the rest of this path, followed by the rest of the other. An empty
-    /// result means the current directory.
+    /// Both paths are resolved, and the components that both then start with are dropped. The
+    /// result is a `..` for each name in the rest of this path, followed by the rest of the other.
+    /// An empty result means the current directory.
     ///
     /// Symbolic links are not followed: if a component is one, the result may lead elsewhere.
     ///
@@ -239,8 +240,8 @@ impl Path {
         }))
     }
 
-    /// Returns the path with a dot and the extension appended to its file name. An empty `extension`
-    /// changes nothing. A path without a file name is unchanged.
+    /// Returns the path with a dot and the extension appended to its file name. An empty
+    /// `extension` changes nothing. A path without a file name is unchanged.
     ///
     /// ```
     /// use unix_path_proved::{Path, PathBuf};
@@ -263,8 +264,8 @@ impl Path {
     ///
     /// Keys compare as the paths do, and are identical if and only if the paths are equal. The key
     /// contains the components in order, as these bytes (in hexadecimal): the root as 00 01, a
-    /// leading `.` as 00 02, and each `..` as 00 03. A name is written as its bytes and then 00; each
-    /// of its bytes that is less than 2F is incremented by one.
+    /// leading `.` as 00 02, and each `..` as 00 03. A name is written as its bytes and then 00;
+    /// each of its bytes that is less than 2F is incremented by one.
     ///
     /// ```
     /// use unix_path_proved::{Path, PathBuf};
@@ -286,7 +287,8 @@ impl Path {
     /// use unix_path_proved::Path;
     /// let paths = ["a.c", "a/b", "a//c/d", "b"].map(|path| (Path::new(path).key(), path));
     /// let sorted = BTreeMap::from(paths);
-    /// assert!(sorted.range(Path::new("a").key_range()).map(|(_, path)| *path).eq(["a/b", "a//c/d"]));
+    /// let below = sorted.range(Path::new("a").key_range());
+    /// assert!(below.map(|(_, path)| *path).eq(["a/b", "a//c/d"]));
     /// ```
     #[must_use]
     pub fn key_range(&self) -> (Bound<Vec<u8>>, Bound<Vec<u8>>) {
