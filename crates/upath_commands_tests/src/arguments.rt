@@ -260,7 +260,7 @@ fn wrong_usage(rt: HostRuntime) {
         ("canon a b\nc", "NewlineInOperand b\nc"),
         ("strip b\nc", "NewlineInOperand b\nc"),
         ("canon a --help", "MisplacedRequest --help"),
-        ("cannon --help", "MisplacedRequest --help"),
+        ("cannon --help", "UnknownCommand cannon"),
         ("join r -h", "MisplacedRequest -h"),
     ] {
         assert!(rt; means(rt.alloc(), line, want), "at {line}");
