@@ -34,8 +34,7 @@
 // calls, their error codes, and their use by threads and signal handlers. The calls are proved.
 // This file is not: only tests check that it passes on arguments and results.
 //
-// Of the decision on archives there are the calls of C, unix_path_entries_scratch and
-// unix_path_check_entries.
+// unix_path_archive.hpp has the decision on archives.
 //
 // Nothing here throws by itself. A function that is `noexcept` does not allocate. A function that
 // returns a std::string, or a result with one, throws std::bad_alloc if an allocation fails, and
