@@ -45,7 +45,7 @@
  *    pass no null pointer at all.
  *  - The memory to which a call writes (walk, part, span, next, ancestor, chunk, out, slots,
  *    refusal) must not overlap the other memory that is passed to the call.
- *  - If it returns false, the records that it writes otherwise are unchanged.
+ *  - A call that returns false leaves its output records unchanged.
  *
  * A call with `out` returns the length of its result. If that is at most out_length, the result is
  * at the beginning of out, and the bytes after it are unchanged. Otherwise nothing is written, and
@@ -70,8 +70,10 @@
  *                                  path to the second
  *     UNIX_PATH_NOT_A_KEY          _from_key, _key_range_end: no path has this key
  *     UNIX_PATH_NO_END             _key_range_end: the key is empty
- *     UNIX_PATH_TOO_LONG           _to_string_lossy, and all calls above except _key_range_end:
- *                                  the result has more than PTRDIFF_MAX bytes, which no buffer has
+ *     UNIX_PATH_TOO_LONG           _join_beneath, _join_in_root, _join_verbatim, _with_extension,
+ *                                  _with_added_extension, _relative_path, _from_key and
+ *                                  _to_string_lossy: the result has more than PTRDIFF_MAX bytes,
+ *                                  which no buffer has
  *
  * All error codes are greater than the length of any buffer. None is SIZE_MAX, so that a program
  * that adds 1 to an error code by mistake does not call malloc with 0.
