@@ -103,8 +103,9 @@ class Archives(unittest.TestCase):
         self.assertGreater(tried, 10)
 
     def test_random(self) -> None:
-        """What is accepted writes nothing outside when it is unpacked."""
-        counts: Dict[Tuple[bool, bool], int] = collections.Counter()
+        """What is accepted writes nothing outside when it is unpacked. What is refused is unpacked
+        only in a sandbox (tests/test_archives.py), since it can change any place of the system."""
+        counts: Dict[bool, int] = collections.Counter()
         numbers = random.Random("entries")
         for _ in range(1000):
             entries = [(numbers.choice("dffllh"), numbers.choice(["a", "b", "a/b", "a/../c", "b/a",
@@ -112,11 +113,10 @@ class Archives(unittest.TestCase):
                         numbers.choice(["..", "../..", "a", "b", "a/..", "../../out", "."]))
                        for _ in range(numbers.randrange(1, 6))]
             accepted = is_accepted(tar_of(entries), numbers.random() < 0.5)
-            is_inside = unpacks_inside(tar_of(entries))
-            counts[accepted, is_inside] += 1
-            self.assertTrue(is_inside or not accepted, entries)
-        self.assertGreater(counts[True, True], 100)
-        self.assertGreater(counts[False, False], 3)
+            counts[accepted] += 1
+            self.assertTrue(not accepted or unpacks_inside(tar_of(entries)), entries)
+        self.assertGreater(counts[True], 100)
+        self.assertGreater(counts[False], 100)
 
     def test_long_links(self) -> None:
         """CVE-2025-4517: links whose resolved path is too long for the system's realpath."""
