@@ -149,7 +149,7 @@ class Archives(unittest.TestCase):
         self.assertEqual(check(tar_of([])), [])
         for wrong in None, 1, ["a"], [None]:
             with self.subTest(wrong), self.assertRaises(TypeError):
-                check(wrong)  # type: ignore[type-var, arg-type]
+                check(wrong)  # type: ignore[arg-type]
 
 
 if __name__ == "__main__":

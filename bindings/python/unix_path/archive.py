@@ -15,14 +15,13 @@ from __future__ import annotations
 import stat
 import tarfile
 import zipfile
-from typing import Any, Iterable, List, TypeVar, Union
+from typing import Any, Iterable, List, Union, overload
 
 from unix_path._unix_path import EscapesError, check_entries
 
 __all__ = ["EntryError", "check"]
 
 Member = Union[tarfile.TarInfo, zipfile.ZipInfo]
-_M = TypeVar("_M", tarfile.TarInfo, zipfile.ZipInfo)
 # Why an entry is refused, by the numbers of the library.
 _REASONS = (
     "a path has a root, a '..' or a NUL, or ends in a slash",
@@ -41,8 +40,12 @@ class EntryError(EscapesError):
     member: Member
 
 
-def check(members: tarfile.TarFile | zipfile.ZipFile | Iterable[_M], *,
-          closed: bool = True) -> List[_M]:
+@overload
+def check(members: Iterable[tarfile.TarInfo], *, closed: bool = True) -> List[tarfile.TarInfo]: ...
+@overload
+def check(members: zipfile.ZipFile | Iterable[zipfile.ZipInfo], *,
+          closed: bool = True) -> List[zipfile.ZipInfo]: ...
+def check(members: Any, *, closed: bool = True) -> List[Any]:
     """Returns the entries, in a list for `extractall(members=...)`, if no extractor can write
     outside of its new, empty directory. Raises EntryError for the first entry that is refused.
 
@@ -52,8 +55,7 @@ def check(members: tarfile.TarFile | zipfile.ZipFile | Iterable[_M], *,
     its target is in the archive.
     """
     archive = members if isinstance(members, zipfile.ZipFile) else None
-    entries: Iterable[Any] = members.infolist() if isinstance(members, zipfile.ZipFile) else members
-    listed: List[_M] = list(entries)
+    listed = list(archive.infolist() if archive else members)
     records = b"".join(_record(it, archive) for it in listed)
     refusal = check_entries(records, closed)
     if refusal:
