@@ -1,5 +1,5 @@
-//! Functions that search, compare and write bytes, for the crates of this repository. Programs don't
-//! use them: what is here may change.
+//! Functions that search, compare and write bytes, for the crates of this repository. Programs
+//! don't use them: what is here may change.
 
 pub use crate::buffers::write_at;
 pub use crate::order::compare_bytes;

@@ -1,5 +1,5 @@
-//! Functions on the single bytes of a path, for the crates of this repository. Programs use `Path` and
-//! `Components` instead: what is here may change.
+//! Functions on the single bytes of a path, for the crates of this repository. Programs use `Path`
+//! and `Components` instead: what is here may change.
 
 pub use crate::filler::{after_filler, filler_len, is_filler, is_trailing, trimmed_len};
 pub use crate::first_component::{name_step, parent_dir_step, starts_with_parent_dir};

@@ -24,8 +24,8 @@ use Rattle.unix_bytes.proofs.lemmas.lossy.BrokenLemmas.{broken_len_within}
 use Rattle.unix_bytes.proofs.lemmas.prefixes.TextPrefixLemmas.{ascii_is_text, sequence_within}
 use Rattle.unix_bytes.proofs.lemmas.lossy.LawLemmas.{replacement_is_sequence}
 
--- if `new` is `old` with `bytes` written over it from index `at` on, the first bytes of `new`, up to
--- the end of `bytes`, are the first `at` bytes of `old` and then `bytes`
+-- if `new` is `old` with `bytes` written over it from index `at` on, the first bytes of `new`, up
+-- to the end of `bytes`, are the first `at` bytes of `old` and then `bytes`
 pub take_written : (at : ℕ) (bytes old new : List ℕ) → at + length bytes ≤ length old
     → new ≡ (take at old ++ bytes) ++ drop (at + length bytes) old
     → take (at + length bytes) new ≡ take at old ++ bytes
