@@ -26,7 +26,7 @@ pub returns-clause-covers : goal.returns-clause-covers
 returns-clause-covers c =
     let key = key_bytes c.args.self.now in
     let same : c.in_ok-end.end.items ≡ key =
-        c.in_ok-end.ensures.items ∙ c.as_bytes-first.ensures.bytes in
+    c.in_ok-end.ensures.items ∙ c.as_bytes-first.ensures.bytes in
     let some : 0 < length key = grind (arith, nat_tests) in
     let long : c.len-last.result ≡ length key =
     c.len-last.ensures ∙ c.in_ok-end.ensures.len ∙ ap length c.as_bytes-first.ensures.bytes in
