@@ -254,7 +254,7 @@ class Contents(Packages):
                           if missing[0] != "-" or it != TARGET]
                 printed = said(self.ran(["tools/dist"], top, path))
                 self.assertEqual(re.findall("^left out: (.*), since", printed, re.M),
-                                 [*wanted, "the zip for Windows", "the crates", *wheels])
+                                 [*wanted, "the zip for Windows", *wheels])
 
     def test_sums(self):
         """The digests in each archive are those of all its files, and of asm/."""
