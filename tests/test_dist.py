@@ -240,7 +240,7 @@ class Contents(Packages):
         self.assertEqual(os.listdir(f"{top}/dist"), ["kept"])
 
     def test_lacking(self):
-        """A line names each part that is left out for want of a command."""
+        """A line names each part that is left out for want of a command. The crate needs none."""
         top, names = copy_repository(self.folder), {
             it for place in os.get_exec_path() if os.path.isdir(place) for it in os.listdir(place)}
         others = [f"the packages for {it}" for it in SYSTEMS if it != TARGET]
@@ -255,6 +255,7 @@ class Contents(Packages):
                 printed = said(self.ran(["tools/dist"], top, path))
                 self.assertEqual(re.findall("^left out: (.*), since", printed, re.M),
                                  [*wanted, "the zip for Windows", *wheels])
+                self.assertIn(f"{CRATE}.crate", os.listdir(f"{top}/dist"))
 
     def test_sums(self):
         """The digests in each archive are those of all its files, and of asm/."""
