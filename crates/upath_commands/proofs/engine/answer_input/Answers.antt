@@ -110,7 +110,8 @@ loop-preserved g c =
           (Reading-block _ _ _ _ _ _ c.loop.selection _ _ _ _
           c.as_slice-in-loop.result.now c.after_last-len.result
           (omega (arith, c.if-len-eq0.false)) c.after_last-len.ensures.in_range
-          (c.after_last-len.ensures.after (omega (arith, c.if-len-eq0.false)) ∙ c.end_of-end.ensures)
+          (c.after_last-len.ensures.after (omega (arith, c.if-len-eq0.false))
+          ∙ c.end_of-end.ensures)
           (c.as_slice-in-loop.ensures.value ∙ c.in_ok-extend_from_slice-2.ensures.items)
           c.in_ok-count.ensures.bytes.0 _ _
           (Reading-wait _ _ _ _ _ _ c.loop.selection _ _ _ c.loop.invariant.2
