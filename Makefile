@@ -1,7 +1,7 @@
 # GNU make builds, installs and tests by these targets; `make help` lists them.
 #
 # The SHA-256 of asm/PROVED.txt, which tools/generate writes here.
-PROVED = 9165891bee1e1f304948301db827e63384e356a199633e137fac77fb48e8f010
+PROVED = 27209305c2c2d4d9402fb4dbefdc5d0f16691348cf98645fbc0eb315562cab5e
 PREFIX ?= /usr/local
 LIBDIR ?= $(PREFIX)/lib
 INCLUDEDIR ?= $(PREFIX)/include
