@@ -18,7 +18,7 @@ import tempfile
 import unittest
 
 import tables
-from support import LIBRARY, PROGRAM, ROOT, SONAME, Case, main, needs, read, run, said, write
+from support import PROGRAM, ROOT, Case, main, needs, read, run, said, write
 from test_differential import ROWS, Lines
 
 COUNT = int(os.environ.get("LINES") or 100_000)
@@ -48,9 +48,7 @@ def write_random(folder):
 
 def write_random_rows(folder):
     """Writes random rows, with the answers of the shared library."""
-    os.environ["UNIX_PATH_SO"] = f"{os.path.dirname(LIBRARY)}/{SONAME}"
-    sys.path.append(f"{ROOT}/examples/python")
-    calls = list(importlib.import_module("test_rows").CALLS.items())
+    calls = list(importlib.import_module("shared_calls").CALLS.items())
     maker = Lines(SEED, "rows")
     with open(f"{folder}/random-{SEED}.rows", "w", encoding="ascii") as file:
         for at in range(COUNT // 4):
