@@ -1,4 +1,4 @@
-"""The crates of the repository, what make builds, and the Rattle toolchain."""
+"""For the other tools: the crates, the files that make builds, and the toolchain's version."""
 import collections
 import os
 import re

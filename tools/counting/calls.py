@@ -1,4 +1,4 @@
-"""The calls from C that tools/count counts, each on the families of paths that suit it.
+"""For tools/count: the calls that calls.c makes, and the paths on which it makes each.
 
 A family is a shape of paths: it makes two paths from a size, and lists the calls that are counted
 on it. A call with one path uses the first. A row is a call, a family and a size. A family is here

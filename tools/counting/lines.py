@@ -1,4 +1,4 @@
-"""Random lines for every command of pathtool, whose instructions tools/count counts.
+"""For tools/count: random lines of input for each command of pathtool.
 
 The generator of random numbers is defined here, so that the lines are the same with every Python.
 """
