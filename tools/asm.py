@@ -1,4 +1,4 @@
-"""For tools/generate and the tests: how clang's assembly becomes the files of asm/, and their rules.
+"""For tools/generate and tests: how clang's assembly becomes the files of asm/, and their rules.
 
 clang quotes a name with other characters than letters, digits and _, and GNU as for Windows rejects
 quoted names. In the rewritten text a dot replaces each run of these characters. Each local label
