@@ -1,7 +1,7 @@
 # GNU make builds, installs and tests by these targets; `make help` lists them.
 #
 # The SHA-256 of asm/PROVED.txt, which tools/generate writes here.
-PROVED = 27209305c2c2d4d9402fb4dbefdc5d0f16691348cf98645fbc0eb315562cab5e
+PROVED = eccb2bbef1ba86385eda050441b3e00fa0e49aa605d4d26f5e6a58ee4febbdde
 PREFIX ?= /usr/local
 LIBDIR ?= $(PREFIX)/lib
 INCLUDEDIR ?= $(PREFIX)/include

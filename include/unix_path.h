@@ -478,13 +478,16 @@ size_t unix_path_key_range_end(const void *key, size_t key_length, void *out, si
  *
  * Each entry is a record: its kind, its path and a link's target, with a NUL after each of the
  * three. The kind is `d` for a directory, `f` for a file, `l` for a symbolic link and `h` for a
- * hard link, and anything else for other entries, which are refused. List the entries with the
- * program that extracts them, and with its options. This prints `entry 1 is below entry 0`:
+ * hard link, and anything else for other entries, which are refused. The names have to be those
+ * that the extractor writes: list them with that program, and with its options.
  *
- *     static const char records[] = "l\0x\0/etc\0" "f\0x/passwd\0";
+ * This prints `entry 1 is below entry 0`:
+ *
+ *     static const char records[] = "l\0x\0/etc\0" "f\0x/passwd\0\0";
  *     unix_path_slot slots[8];
  *     unix_path_refusal why;
- *     if (unix_path_check_entries(records, sizeof records, slots, 8, UNIX_PATH_INSIDE, &why)
+ *     if (unix_path_check_entries(records, sizeof records - 1, slots, 8, UNIX_PATH_INSIDE,
+ *                                 &why)
  *             == UNIX_PATH_ENTRIES_REFUSED
  *         && why.reason == UNIX_PATH_REFUSED_BELOW_LEAF) {
  *         printf("entry %zu is below entry %zu\n", why.entry, why.cause);
@@ -498,15 +501,17 @@ size_t unix_path_key_range_end(const void *key, size_t key_length, void *out, si
  *     UNIX_PATH_REFUSED_KIND               an entry is of another kind
  *     UNIX_PATH_REFUSED_BELOW_LEAF         a path that is used is below a file's or a link's
  *     UNIX_PATH_REFUSED_LINK_USED_TWICE    the path of a symbolic link is used twice
- *     UNIX_PATH_REFUSED_TARGET_IS_LINK     the target of a hard link is a link
+ *     UNIX_PATH_REFUSED_TARGET_IS_LINK     the target of a hard link is a link, symbolic or hard
  *     UNIX_PATH_REFUSED_LEADS_OUT          at the level UNIX_PATH_CLOSED: the target of a symbolic
  *                                          link has a root, more `..` than directories above the
  *                                          link, or a `..` after a name
  *
- * What is accepted is safe in any order, for every extractor that does not follow a symbolic link
- * when it works on the link's own path; at the level UNIX_PATH_CLOSED also for those that do, as
- * unzip and 7z can. It is not safe for names that the file system takes for equal though they
- * differ, for options that change names, or in a directory that others change meanwhile. */
+ * Through what is accepted, no extractor writes outside, in any order, if it does not follow a
+ * symbolic link when it works on the link's own path; at the level UNIX_PATH_CLOSED also if it
+ * does, as unzip and 7z can. In doubt use UNIX_PATH_CLOSED: at UNIX_PATH_INSIDE the directory may contain
+ * links to anywhere afterwards. This does not hold for names that the file system takes for equal
+ * though they differ, for programs and options that change names (unzip takes `\` for `/` in
+ * archives made on Windows), or in a directory that others change meanwhile. */
 
 /* Returns how many slots unix_path_check_entries needs for these records: one for each entry, and
  * one more for each hard link. Returns 0 if the last record is cut off. */

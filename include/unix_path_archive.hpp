@@ -12,7 +12,7 @@
 //         std::cout << list[why.entry].path << ": " << why.reason << '\n';
 //     }
 //
-// It prints `x/passwd: below_leaf`. The example needs <iostream>.
+// It prints `x: leads_out`. The example needs <iostream>.
 //
 // unix_path.h has the rule, above unix_path_check_entries, and what it promises. The list has to
 // come from the program that extracts, with the same options, and the directory has to be new.
@@ -44,9 +44,10 @@ struct entry {
     std::string_view target = {};
 };
 
-/// Which extractors an accepted list is safe for.
+/// Which extractors write nothing outside for an accepted list. In doubt, take `closed`.
 enum class entry_level : std::uint32_t {
-    /// Those that don't follow a symbolic link when they work on the link's own path.
+    /// Those that don't follow a symbolic link when they work on the link's own path. Links may
+    /// lead anywhere afterwards.
     inside = UNIX_PATH_INSIDE,
     /// Also those that do. No link that they make leads out.
     closed = UNIX_PATH_CLOSED,
@@ -187,7 +188,7 @@ class entry_records {
 /// The range is of what converts to `entry`. Allocates the records, and 40 bytes for each entry and
 /// each hard link. A list without entries is accepted: refuse it if the listing may have failed.
 template <typename Range>
-decision check_entries(Range &&entries, entry_level level = entry_level::inside) {
+decision check_entries(Range &&entries, entry_level level = entry_level::closed) {
     detail::entry_records records;
     for (const entry it : entries) {
         if (!records.add(it)) {
@@ -199,7 +200,7 @@ decision check_entries(Range &&entries, entry_level level = entry_level::inside)
     return records.check(level);
 }
 inline decision check_entries(std::initializer_list<entry> entries,
-                              entry_level level = entry_level::inside) {
+                              entry_level level = entry_level::closed) {
     return check_entries<const std::initializer_list<entry> &>(entries, level);
 }
 

@@ -62,11 +62,9 @@ export type Reason = "root" | "escapes" | "parent" | "nul";
  * An entry of an archive. A link's target is what it has in the archive. Entries of any other kind
  * are refused.
  */
-export interface Entry {
-    readonly kind: "directory" | "file" | "symlink" | "hardlink" | "other";
-    readonly path: Path;
-    readonly target?: Path;
-}
+export type Entry =
+    | {readonly kind: "directory" | "file" | "other", readonly path: Path}
+    | {readonly kind: "symlink" | "hardlink", readonly path: Path, readonly target: Path};
 
 /**
  * Why an entry is refused: its index, that of the entry that it clashes with or its own, and the
@@ -184,7 +182,8 @@ export interface UnixPath {
 
     /**
      * Returns -1, 0 or 1 if a is less than, equal to or greater than b, by components: the root is
-     * less than `.`, `.` than `..`, and `..` than a name. Pass it to `sort`.
+     * less than `.`, `.` than `..`, and `..` than a name. Pass it to `sort`; many paths are sorted
+     * faster by `key`.
      * @example ["a.b", "a/b"].sort(compare) // ["a/b", "a.b"]
      */
     compare(a: Path, b: Path): -1 | 0 | 1;
@@ -324,13 +323,14 @@ export interface UnixPath {
 
     /**
      * Returns null if the entries of an archive, links among them, may be extracted to a new, empty
-     * directory: no extractor then writes outside of it, in any order, unless it follows a symbolic
-     * link when it works on the link's own path. With `closed`, not even such an extractor does.
-     * Otherwise returns the refusal of the first entry that is refused. The entries before it are
-     * accepted. List the entries with the program that extracts them, and with its options.
+     * directory: no extractor then writes outside of it, in any order, and no link leads out. With
+     * `closed: false`, links may lead anywhere, and an extractor that follows a link when it works
+     * on the link's own path may write outside. Otherwise returns the refusal of the first entry
+     * that is refused. The entries before it are accepted. List the entries with the program that
+     * extracts them, and with its options.
      * @example checkEntries([{kind: "directory", path: "a/"}, {kind: "file", path: "a/b"}]) // null
      * @example checkEntries([{kind: "file", path: "/etc/passwd"}]).reason // "name"
-     * @example checkEntries([{kind: "symlink", path: "x", target: "/etc"}]) // null
+     * @example checkEntries([{kind: "symlink", path: "x", target: "/etc"}]).reason // "leadsOut"
      */
     checkEntries(entries: Iterable<Entry>, options?: {readonly closed?: boolean}): Refusal | null;
 

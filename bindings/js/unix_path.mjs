@@ -67,7 +67,7 @@ function piece(path, bytes, [start, length]) {
 }
 
 // Returns the fields of an entry's record.
-function fieldsOf({kind, path, target = ""}) {
+function fieldsOf({kind, path, target}) {
     const isLink = kind === "symlink" || kind === "hardlink";
     return [ENTRY_KINDS[kind] ?? "other", path, isLink ? target : ""].map(bytesOf);
 }
@@ -332,7 +332,7 @@ class Library {
     }
 
     // A record has no field with a NUL. An entry with one is refused if none before it is.
-    checkEntries(entries, {closed = false} = {}) {
+    checkEntries(entries, {closed = true} = {}) {
         const list = Array.from(entries, fieldsOf);
         const wrong = list.findIndex((it) => it.some((field) => field.includes(0)));
         const records = recordsOf((wrong < 0 ? list : list.slice(0, wrong)).flat());

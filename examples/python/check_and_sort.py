@@ -21,7 +21,7 @@ def made(*entries: str) -> tarfile.TarFile:
 def main() -> None:
     for archive in made("docs/a.html", "a -> docs/a.html"), made("docs -> /etc", "docs/passwd"):
         try:
-            members = check(archive)  # Then call archive.extractall("/srv", members).
+            members = check(archive)  # Extract these, to a new directory.
             print("accepted:", *(member.name for member in members))
         except EscapesError as error:
             print(f"refused: {error}")

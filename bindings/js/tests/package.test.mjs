@@ -90,11 +90,10 @@ test("entries of an archive", () => {
     const {checkEntries} = paths, link = {kind: "symlink", path: "x", target: "/etc"};
     const files = (...list) => list.map((path) => ({kind: "file", path}));
     assert.equal(checkEntries([]), null);
-    assert.equal(checkEntries(new Set([link]).values()), null);
-    assert.deepEqual(checkEntries([link, ...files("x/passwd")]),
+    assert.equal(checkEntries(new Set([link]).values(), {closed: false}), null);
+    assert.deepEqual(checkEntries([link, ...files("x/passwd")], {closed: false}),
                      {entry: 1, cause: 0, reason: "belowLeaf"});
-    assert.deepEqual(checkEntries([link], {closed: true}),
-                     {entry: 0, cause: 0, reason: "leadsOut"});
+    assert.deepEqual(checkEntries([link]), {entry: 0, cause: 0, reason: "leadsOut"});
     assert.deepEqual(checkEntries(files("a", "b\0", "../c")),
                      {entry: 1, cause: 1, reason: "name"});
     assert.deepEqual(checkEntries([...files("/a"), {...link, target: "a\0"}]),
@@ -103,6 +102,7 @@ test("entries of an archive", () => {
     assert.deepEqual(checkEntries([{kind: "fifo", path: "a"}]),
                      {entry: 0, cause: 0, reason: "kind"});
     assert.throws(() => checkEntries([{kind: "file"}]), TypeError);
+    assert.throws(() => checkEntries([{kind: "symlink", path: "x"}]), TypeError);
     const many = Array.from({length: 20_000}, (_, it) => `d${it % 100}/f${it}`);
     assert.equal(checkEntries(files(...many)), null);
     assert.deepEqual(checkEntries(files(...many, "d7")), {entry: 7, cause: 20_000,

@@ -56,8 +56,8 @@ const TESTS = {
         const above = "refused: the .. at byte 5 leads above the root, since no name is left before"
             + " it";
         assert.equal(await shown(page, "joined"), `a/../../b join_beneath ${above} join_in_root `
-            + `ends at /srv/b join_verbatim ${above} join not safe: /srv/a/../../b, which is /b, `
-            + "outside of the root");
+            + "ends at /srv/b join_verbatim refused: it has a .. at byte 2 join not safe: "
+            + "/srv/a/../../b, which is /b, outside of the root");
     },
 
     async "says which entries of an archive are refused"(page) {
