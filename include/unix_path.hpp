@@ -663,6 +663,9 @@ class view : public detail::calls<view, view, std::string> {
     explicit operator std::string() const { return std::string(bytes_); }
     /// A system call needs a NUL after the path, which a view doesn't have.
     void c_str() const UNIX_PATH_REFUSED("call path(view).c_str(): a view has no NUL after it");
+    void native() const UNIX_PATH_REFUSED("call bytes(): a view has no string");
+    void string() const UNIX_PATH_REFUSED("call std::string(view): a view has no string");
+    bool pop() const UNIX_PATH_REFUSED("call parent(): a view doesn't change");
 
     // Slices of the path. The parent, and the rest after a base, are views. A name, or a part of
     // one, is a std::string_view.

@@ -54,7 +54,8 @@ REFUSALS = {3: LACKING, 4: LACKING, **{
     it: rf"(?s)error.* deleted .*{re.escape(why)}" for it, why in {
         5: "pass native() of", 10: "call resolved()", 11: "call file_name()",
         12: "call set_extension(", 13: "loop over components()", 14: "call strip_prefix(",
-        15: "a view has no NUL after it"}.items()}}
+        15: "a view has no NUL after it", 16: "call bytes()", 17: "call std::string(view)",
+        18: "a view doesn't change"}.items()}}
 HEADERS = {"c": ["unix_path.h"], "c++": ["unix_path.h", "unix_path.hpp", "unix_path_archive.hpp",
                                          "unix_path_owned.hpp"]}
 # An expression of the table of docs/CPP.md, how it is tested with a type, and what it needs.

@@ -58,6 +58,12 @@ std::size_t misuse(const std::string &name) {
     count += owned.relative_path().size();
 #elif MISUSE == 15  // a view has no NUL after it
     std::fputs(it.c_str(), stdout);
+#elif MISUSE == 16  // nor a string
+    count += it.native().size();
+#elif MISUSE == 17
+    count += it.string().size();
+#elif MISUSE == 18  // nor does it change
+    it.pop();
 #endif
     return count + it.relative_path("b").has_value();
 }

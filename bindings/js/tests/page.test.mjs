@@ -46,7 +46,7 @@ const TESTS = {
     async "answers why ./a is not a"(page) {
         await click(page, "Why is ./a not a?");
         assert.match(await shown(page, "compared"), new RegExp("^first path ./a equal No. "
-            + "Component 1 is the leading . in the first path, and the name a in the second. order "
+            + "Component 0 is the leading . in the first path, and the name a in the second. order "
             + "./a is before a:"));
         assert.equal(await page.ask(() => document.activeElement.id), "other");
     },
@@ -86,13 +86,13 @@ const TESTS = {
         await click(page, "Why does a.b sort after a/b?");
         assert.equal(await shown(page, "by-components"), "a/b key 61 00 62 00 a.b key 61 2F 62 00");
         assert.equal(await shown(page, "by-bytes"), "a.b a/b");
-        assert.equal(await shown(page, "why"), "By components, a/b is before a.b: component 1 is "
+        assert.equal(await shown(page, "why"), "By components, a/b is before a.b: component 0 is "
             + "the name a, which is before the name a.b. By bytes it is after it: byte 1 is 2F, "
             + "/, in the one, and 2E, ., in the other.");
     },
 
     async "answers the three questions before anything is typed"(page) {
-        assert.match(await shown(page, "compared"), /Component 1 is the leading \. in the first/);
+        assert.match(await shown(page, "compared"), /Component 0 is the leading \. in the first/);
         assert.match(await shown(page, "joined"), /a\/\.\.\/\.\.\/b join_beneath refused/);
         assert.match(await shown(page, "why"), /a\/b is before a\.b/);
     },

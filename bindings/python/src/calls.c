@@ -74,13 +74,21 @@ static bool open_room(Room *room, size_t size)
     return room->data != NULL;
 }
 
-/* Sets the exception for an error code. */
-static void refuse(size_t code, PyObject *given)
+/* Says why a join returns UNIX_PATH_ESCAPES for a request. Only join_verbatim does so for a request
+ * that doesn't escape. */
+static const char *why_escapes(View request)
 {
-    bool escapes = code == UNIX_PATH_ESCAPES;
+    return unix_path_escapes(request.data, request.length) ? "leaves its root" : "has a '..'";
+}
+
+/* Sets the exception for an error code. `why` is the reason for UNIX_PATH_ESCAPES, or NULL for a
+ * call that isn't a join. */
+static void refuse(size_t code, PyObject *given, const char *why)
+{
+    bool escapes = code == UNIX_PATH_ESCAPES && why != NULL;
     if (escapes || code == UNIX_PATH_NUL_IN_REQUEST) {
         PyObject *error = PyObject_CallFunction(escapes_error, "N", PyUnicode_FromFormat(
-            "%R %s", given, escapes ? "leaves its root" : "has a NUL byte"));
+            "%R %s", given, escapes ? why : "has a NUL byte"));
         if (error != NULL && PyObject_SetAttrString(error, "path", given) == 0) {
             PyErr_SetObject(escapes_error, error);
         }
@@ -96,14 +104,15 @@ static void refuse(size_t code, PyObject *given)
     }
 }
 
-/* Returns what a call has written, if its answer is a length, and frees the memory. */
-static PyObject *close_room(Room *room, size_t answer, PyObject *given)
+/* Returns what a call has written, if its answer is a length, and frees the memory. `why` is that
+ * of refuse(). */
+static PyObject *close_room(Room *room, size_t answer, PyObject *given, const char *why)
 {
     PyObject *made = NULL;
     if (answer <= room->size) {
         made = bytes_from((View){room->data, answer});
     } else {
-        refuse(answer, given);
+        refuse(answer, given, why);
     }
     if (room->data != room->small) {
         PyMem_Free(room->data);
@@ -117,7 +126,7 @@ PyObject *make(Make *call, View path, size_t size, PyObject *given)
     if (!open_room(&room, size)) {
         return NULL;
     }
-    return close_room(&room, call(path.data, path.length, room.data, size), given);
+    return close_room(&room, call(path.data, path.length, room.data, size), given, NULL);
 }
 
 PyObject *make_of_two(MakeOfTwo *call, View a, View b, size_t size, PyObject *given)
@@ -126,7 +135,9 @@ PyObject *make_of_two(MakeOfTwo *call, View a, View b, size_t size, PyObject *gi
     if (!open_room(&room, size)) {
         return NULL;
     }
-    return close_room(&room, call(a.data, a.length, b.data, b.length, room.data, size), given);
+    size_t answer = call(a.data, a.length, b.data, b.length, room.data, size);
+    const char *why = answer == UNIX_PATH_ESCAPES ? why_escapes(b) : NULL;
+    return close_room(&room, answer, given, why);
 }
 
 /* Returns a canonical path without its leading `.`. Takes the reference. */

@@ -681,7 +681,7 @@ static PyMethodDef methods[] = {
         "EscapesError if the request has a root, any `..`, or a NUL.\n\n"
         ">>> UnixPath('/srv').join_verbatim('a/../b')\n"
         "Traceback (most recent call last):\n"
-        "unix_path.EscapesError: 'a/../b' leaves its root")},
+        "unix_path.EscapesError: 'a/../b' has a '..'")},
     {"joinpath", path_joinpath, METH_VARARGS, PyDoc_STR(
         "joinpath($self, /, *segments)\n--\n\n"
         "Joins trusted paths, as `/` does. A path with a root replaces what is before it.\n\n"
@@ -811,7 +811,8 @@ PyMODINIT_FUNC PyInit__unix_path(void)
     path_type = module == NULL ? NULL : (PyTypeObject *)PyType_FromSpec(&specification);
     escapes_error = path_type == NULL ? NULL : PyErr_NewExceptionWithDoc(
         "unix_path.EscapesError",
-        "A request is refused: it leaves its root, or has a NUL. `path` is the request.",
+        "A request is refused: it leaves its root, has a NUL, or for join_verbatim a `..`.\n"
+        "`path` is the request.",
         PyExc_ValueError, NULL);
     if (escapes_error == NULL || !add(module, "UnixPath", (PyObject *)path_type)
         || !add(module, "EscapesError", escapes_error)) {

@@ -21,6 +21,10 @@ from unix_path.archive import EntryError, check
 Entry = Tuple[str, str, str]
 TYPES = {"d": tarfile.DIRTYPE, "f": tarfile.REGTYPE, "l": tarfile.SYMTYPE, "h": tarfile.LNKTYPE}
 
+# Names of files, and whether they are accepted. Only a slash separates components.
+BACKSLASHES = [("..\\..\\out", True), ("a\\..\\..\\out", True), ("C:\\out", True), ("a\\", True),
+               ("..\\a/../out", False), ("a\\/..", False)]
+
 
 def lists() -> Iterator[Tuple[bool, bool, List[Entry]]]:
     """Yields the rows of tests/entries.txt: whether the level is closed, whether the entries are
@@ -144,6 +148,25 @@ class Archives(unittest.TestCase):
         self.assertFalse(is_accepted(archive.infolist()))
         for target in "", "a" * 4096:
             self.assertFalse(is_accepted(zip_of([("l", "b", target)])))
+
+    def test_zip_backslashes(self) -> None:
+        """A backslash is part of a name, also in an archive that Windows made, and zipfile writes
+        a file of that name."""
+        for name, wanted in BACKSLASHES:
+            info = zipfile.ZipInfo(name)
+            info.create_system = 0
+            file = io.BytesIO()
+            with zipfile.ZipFile(file, "w") as archive:
+                archive.writestr(info, "")
+            read = zipfile.ZipFile(file)
+            with self.subTest(name), tempfile.TemporaryDirectory() as top:
+                self.assertEqual((read.infolist()[0].create_system, is_accepted(read)),
+                                 (0, wanted))
+                if wanted:
+                    os.mkdir(f"{top}/place")
+                    read.extractall(f"{top}/place")
+                    self.assertEqual((os.listdir(top), os.listdir(f"{top}/place")),
+                                     (["place"], [name]))
 
     def test_types(self) -> None:
         self.assertEqual(check(tar_of([])), [])

@@ -152,6 +152,19 @@ class Wrong(unittest.TestCase):
                 getattr(UnixPath("/srv"), name)("a\0b")
             self.assertEqual(found.exception.path, "a\0b")
 
+    def test_reasons(self) -> None:
+        """The message says why a request is refused: join_verbatim refuses each `..`."""
+        rows = [("join_beneath", "/a", "leaves its root"),
+                ("join_beneath", "a/../..", "leaves its root"),
+                ("join_verbatim", "/a", "leaves its root"),
+                ("join_verbatim", "../b", "leaves its root"),
+                ("join_verbatim", "a/../b", "has a '..'"),
+                ("join_verbatim", "a\0b", "has a NUL byte")]
+        for name, request, reason in rows:
+            with self.subTest(name, request=request), self.assertRaises(EscapesError) as found:
+                getattr(UnixPath("/srv"), name)(request)
+            self.assertEqual(str(found.exception), f"{request!r} {reason}")
+
     def test_changing_buffer(self) -> None:
         """A buffer that another thread changes is copied before it is read."""
         buffer, is_done = bytearray(b"a//./b/" * 4000), threading.Event()
