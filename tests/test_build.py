@@ -328,6 +328,26 @@ FetchContent_Declare(unix_path URL file://{})
 FetchContent_MakeAvailable(unix_path)"""
 
 
+def for_macos(processor):
+    """Returns what cmake needs on Linux to build an archive for macOS."""
+    words = [f"{it.upper()}={shutil.which(f'llvm-{it}')}" for it in ("ar", "ranlib")]
+    words += [f"{it}_COMPILER_TARGET={processor}-apple-macos11" for it in ("C", "ASM")]
+    words += ["INSTALL_NAME_TOOL=true", "TRY_COMPILE_TARGET_TYPE=STATIC_LIBRARY"]
+    return [f"-DCMAKE_{it}" for it in words]
+
+
+# What cmake builds the archive for: the system and the processor by its names, the nm that reads
+# the archive, the compiler, and more words.
+ELSEWHERE = [
+    ("Linux", "aarch64", "nm", "aarch64-linux-gnu-gcc"),
+    ("Linux", "arm64", "nm", "aarch64-linux-gnu-gcc"),
+    ("Windows", "AMD64", "nm", "x86_64-w64-mingw32-gcc"),
+    ("Darwin", "x86_64", "llvm-nm", "clang", *for_macos("x86_64")),
+    ("Darwin", "arm64", "llvm-nm", "clang", *for_macos("arm64")),
+    ("Darwin", "arm64", "llvm-nm", "clang", "-DCMAKE_OSX_ARCHITECTURES=x86_64",
+     *for_macos("x86_64"))]
+
+
 @needs("cmake")
 class CMake(BuildCase):
     """Projects that include the library."""
@@ -367,18 +387,17 @@ class CMake(BuildCase):
 
     def test_elsewhere(self):
         """The archive is built for other systems, however CMake names their processors."""
-        for system, processor, compiler in [("Linux", "aarch64", "aarch64-linux-gnu-gcc"),
-                                            ("Linux", "arm64", "aarch64-linux-gnu-gcc"),
-                                            ("Windows", "AMD64", "x86_64-w64-mingw32-gcc")]:
-            with self.row(system, processor):
-                if not shutil.which(compiler):
-                    self.leave_out(f"what {compiler} builds by cmake", "it is not on the path")
-                top = f"{self.folder}/{processor}"
+        for number, (system, processor, nm, compiler, *words) in enumerate(ELSEWHERE):
+            with self.row(number, system, processor):
+                for it in nm, compiler:
+                    if not shutil.which(it):
+                        self.leave_out(f"what cmake builds for {system}", f"{it} is missing")
+                top = f"{self.folder}/{number}"
                 self.ran(["cmake", "-S", ROOT, "-B", top, f"-DCMAKE_SYSTEM_NAME={system}",
                           f"-DCMAKE_SYSTEM_PROCESSOR={processor}",
-                          f"-DCMAKE_C_COMPILER={shutil.which(compiler)}"])
+                          f"-DCMAKE_C_COMPILER={shutil.which(compiler)}", *words])
                 self.ran(["cmake", "--build", top, "--target", "unix_path_static"])
-                self.assertIn(" T unix_path_equal\n", said(run(["nm", f"{top}/libunix_path.a"])))
+                self.assertRegex(said(run([nm, f"{top}/libunix_path.a"])), " T _?unix_path_equal\n")
 
     def test_refused(self):
         """Another machine and a damaged file are each refused with one sentence."""
@@ -404,10 +423,11 @@ PROFILES = [("0", "off", "16"), ("3", "off", "16"), ("3", "fat", "1")]
 TARGETS = {"x86_64-unknown-linux-gnu": "x86_64-linux", "x86_64-unknown-linux-musl": "x86_64-linux",
            "aarch64-unknown-linux-gnu": "aarch64-linux",
            "aarch64-unknown-linux-musl": "aarch64-linux",
-           "x86_64-pc-windows-gnu": "x86_64-windows", "x86_64-pc-windows-msvc": "x86_64-windows"}
+           "x86_64-pc-windows-gnu": "x86_64-windows", "x86_64-pc-windows-msvc": "x86_64-windows",
+           "x86_64-apple-darwin": "x86_64-macos", "aarch64-apple-darwin": "aarch64-macos"}
 OTHER_TARGETS = """i686-unknown-linux-gnu x86_64-unknown-linux-gnux32 armv7-unknown-linux-gnueabihf
     aarch64_be-unknown-linux-gnu aarch64-unknown-linux-gnu_ilp32 riscv64gc-unknown-linux-gnu
-    aarch64-linux-android x86_64-apple-darwin aarch64-apple-darwin x86_64-unknown-freebsd
+    aarch64-linux-android aarch64-apple-ios aarch64-apple-ios-sim x86_64-unknown-freebsd
     i686-pc-windows-msvc aarch64-pc-windows-msvc x86_64-unknown-uefi x86_64-unknown-none
     wasm32-unknown-unknown""".split()
 # A program with no_core.rs that contains only the file with the assembly.
@@ -470,15 +490,20 @@ class Rust(BuildCase):
             [*words, "--crate-type", "lib", "--emit", "obj", "--extern",
              "no_core=libno_core.rlib", "code.rs"], **how)
 
-    def check_calls(self, file):
-        """Checks that an object has each call, and exports nothing else."""
-        shown = self.symbols(file, "-g")
-        self.assertEqual({name for kind, name in shown if kind == "T"}, CALLS)
+    def check_calls(self, target, file):
+        """Checks that an object for a target has each call, and exports nothing else. For macOS
+        each name begins with `_`."""
+        nm, mark = ("llvm-nm", "_") if "apple" in target else ("nm", "")
+        if not shutil.which(nm):
+            self.leave_out(f"the names of what is assembled for {target}", f"{nm} is missing")
+        shown = self.symbols(file, "-g", nm=nm)
+        self.assertEqual({name for kind, name in shown if kind == "T"},
+                         {f"{mark}{it}" for it in CALLS})
 
     def try_target(self, target):
         found = self.rustc(target)
         self.assertEqual(found.returncode, 0, said(found))
-        self.check_calls(f"{self.folder}/{target}/code.o")
+        self.check_calls(target, f"{self.folder}/{target}/code.o")
 
     def try_other_target(self, target):
         """For another target, a program can be compiled, but has no code of the calls."""
@@ -487,11 +512,13 @@ class Rust(BuildCase):
         self.assertNotIn(b"unix_path_", read(f"{self.folder}/{target}/code.o"))
 
     def try_clang(self, target):
+        # Without a version, clang warns of instructions that processors before the M1 run slowly.
+        versioned = target.replace("apple-darwin", "apple-macos11")
         file = f"{self.folder}/{target}.o"
-        found = self.ran(["clang", f"--target={target}", "-c",
+        found = self.ran(["clang", f"--target={versioned}", "-c",
                           f"{ROOT}/asm/{TARGETS[target]}/unix_path.s", "-o", file])
         self.assertEqual(said(found), "")
-        self.check_calls(file)
+        self.check_calls(target, file)
 
     def test_targets(self):
         """rustc assembles each file of asm/ for its targets, and none for other targets."""

@@ -21,16 +21,21 @@ LINKED = ["-shared", "-Wl,-z,defs", "-Wl,-z,text"]
 FATAL = ["-Wall", "-Werror", "-Wl,--fatal-warnings"]
 # How the files of a directory of asm/ are assembled: with which compilers, without extra flags; and
 # the nm that reads their output. With the option GNU as rejects instructions that not every x86-64
-# processor has. Objects for Windows aren't linked.
+# processor has. Only objects for Linux are linked here.
 SYSTEMS = {
     "x86_64-linux": ("nm", [["gcc"], ["gcc", "-Wa,-march=generic64"], ["clang"]]),
     "aarch64-linux": ("aarch64-linux-gnu-nm", [["aarch64-linux-gnu-gcc"]]),
     "x86_64-windows": ("x86_64-w64-mingw32-nm", [["x86_64-w64-mingw32-gcc"],
                                                  ["clang", "--target=x86_64-pc-windows-msvc"]]),
+    "x86_64-macos": ("llvm-nm", [["clang", "--target=x86_64-apple-macos11"]]),
+    "aarch64-macos": ("llvm-nm", [["clang", "--target=arm64-apple-macos11"]]),
 }
 # Assembly that breaks a rule, and the message that it has to cause.
 WRONG = [("\tjmp\t.LBB0_1\n", ".LBB0_1: a local label without prefix"),
          (".LBB0_1:\n", ".LBB0_1: a local label without prefix"),
+         ("\tjmp\tLBB0_1\n", "LBB0_1: a local label without prefix"),
+         ("lCPI0_0:\n", "lCPI0_0: a local label without prefix"),
+         ("\tadrp\tx1, l_static.0@PAGE\n", "l_static: a local label without prefix"),
          ("memchr:\n", "memchr: a local name that C or Rust may have"),
          ("core.a:\ncore.a:\n", "core.a: defined twice"),
          ("\t.globl\tmemchr\n", "memchr: exported, or not, by mistake"),
@@ -161,7 +166,7 @@ class Assemblers(Case):
     def check_names(self, name, nm, made):
         """Checks which names an object exports and needs, according to this nm."""
         shown = self.symbols(made, "-g", nm=nm)
-        needed = {it for kind, it in shown if kind == "U"}
+        needed = {it[1:] if "-macos/" in name else it for kind, it in shown if kind == "U"}
         self.assertEqual({it for kind, it in shown if kind != "U"}, exports_of(name))
         self.assertFalse(exports_of(name) != {MAIN} and needed - NEEDED, needed)
 
@@ -173,7 +178,7 @@ class Assemblers(Case):
             made, linked = f"{folder}/it.o", f"{folder}/it.so"
             self.assertEqual(self.call(*words, "-c", name, "-o", made), b"")
             self.check_names(name, nm, made)
-            if "windows" in name:
+            if "-linux/" not in name:
                 return
             more = ["asm/support.c"] if exports_of(name) == {MAIN} else LINKED
             self.assertEqual(self.call(*words, *FATAL, made, *more, "-o", linked), b"")

@@ -4,21 +4,24 @@
 aarch64    C tests and vectors with the library, and vectors through pathtool, with qemu-aarch64
 core2duo   the same for x86-64, with qemu-x86_64 as a processor without SSE4 and POPCNT
 windows    C tests and vectors with the library, under Wine
+macos      the library is linked for macOS, and its bytes are a part of programs for Linux, in which
+           C tests and vectors run them, as aarch64 and core2duo do. Nothing runs on macOS
 
 The C tests are those of tests/c that test_bindings also runs. Vectors are those of tables.vectors,
 replayed through the pathtool of tests/c. upath makes random runs under QEMU. It needs Debian's
 qemu-user, gcc-aarch64-linux-gnu and libc6-dev-arm64-cross; gcc and libc6-dev for x86-64;
-gcc-mingw-w64-x86-64 and wine64. test_js.py tests the module for wasm64.
+gcc-mingw-w64-x86-64 and wine64; clang, llvm and lld. test_js.py tests the module for wasm64.
 """
 import collections
 import contextlib
 import os
+import re
 import shutil
 import subprocess
 import tempfile
 
 from c_tests import CALL_TESTS, STRICT, Build, CTest
-from support import main, needs, run, write
+from support import ROOT, main, needs, run, write
 
 # A system: the directory of asm/, the compiler for it with its flags, and the words that run a
 # program there.
@@ -28,6 +31,23 @@ CORE2DUO = System("core2duo", "x86_64-linux", ["x86_64-linux-gnu-gcc", "-static"
                   ["qemu-x86_64", "-cpu", "core2duo"])
 MINGW = System("windows", "x86_64-windows",
                ["x86_64-w64-mingw32-gcc", "-static", "-D__USE_MINGW_ANSI_STDIO=1"], [])
+# The systems of macOS: clang's target, and the processor with the directory of asm/.
+MACS = [("x86_64-apple-macos11", CORE2DUO._replace(label="macos x86-64", folder="x86_64-macos")),
+        ("arm64-apple-macos11", ARM._replace(label="macos aarch64", folder="aarch64-macos"))]
+# Links a library for macOS, in which all addresses are offsets in its file.
+LINK_MAC = ["clang", "-fuse-ld=lld", "-dynamiclib", "-nostdlib", "-fno-builtin", "-O1",
+            "tests/c/memory.c"]
+# A library for Linux that contains such a file, and defines a call of it.
+IMAGE = """.section .note.GNU-stack, "", %progbits
+.text
+.p2align 14
+image:
+.incbin "{}"
+"""
+CALL = """.globl {1}
+.type {1}, %function
+.set {1}, image + 0x{0}
+"""
 # Ends a program after two minutes, since a wrong library may not return.
 LIMIT = ["timeout", "-k", "5", "120"]
 # The directory of Debian's Wine.
@@ -78,11 +98,13 @@ class Processors(CTest):
         return Build(system.label, [*system.compiler, "-std=c11", "-O2", *STRICT], list(linked),
                      [*LIMIT, *system.runner])
 
-    def try_library(self, system):
-        """Tests the library with the C tests and the vectors."""
+    def try_library(self, system, assembly=None):
+        """Tests the library with the C tests and the vectors. Its assembly is in asm/, unless it is
+        in a file of this name."""
         library = f"{self.folder}/unix_path.o"
         with self.row(system.label, "assembles"):
-            self.call(system.compiler[0], "-c", f"asm/{system.folder}/unix_path.s", "-o", library)
+            self.call(system.compiler[0], "-c",
+                      assembly or f"asm/{system.folder}/unix_path.s", "-o", library)
         build = self.build_of(system, library)
         self.together({f"{system.label}: {it}": (self.try_test, build, it) for it in CALL_TESTS})
         self.try_pathtool(build)
@@ -121,6 +143,25 @@ class Processors(CTest):
         self.check_links(MINGW)
         with running_wine() as wine:
             self.try_library(MINGW._replace(runner=wine))
+
+    def image_of(self, target, folder):
+        """Links the library for macOS. Returns a file of assembly for Linux that contains it."""
+        library, file = f"{self.folder}/it.dylib", f"{self.folder}/image.s"
+        self.call(*LINK_MAC, f"--target={target}", f"asm/{folder}/unix_path.s", "-o", library)
+        shown = self.call("llvm-nm", "-g", library).decode()
+        self.assertEqual(re.findall(r"^ +U (.*)$", shown, re.M), [])
+        calls = re.findall(r"^(\w+) T _(unix_path_\w+)$", shown, re.M)
+        write(file, IMAGE.format(library) + "".join(CALL.format(*it) for it in calls))
+        return file
+
+    @needs("clang", "llvm-nm", "qemu-aarch64", "aarch64-linux-gnu-gcc", "qemu-x86_64",
+           "x86_64-linux-gnu-gcc")
+    def test_macos(self):
+        for target, system in MACS:
+            if run([*LINK_MAC, f"--target={target}", "-o", f"{self.folder}/it"], ROOT).returncode:
+                self.leave_out("the tests of macos", "clang links nothing for it without lld")
+            self.check_links(system)
+            self.try_library(system, self.image_of(target, system.folder))
 
 
 if __name__ == "__main__":

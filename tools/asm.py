@@ -5,6 +5,9 @@ quoted names. In the rewritten text a dot replaces each run of these characters.
 has a prefix: with fat LTO rustc puts the text into a module that has the same labels, and without
 the prefix the caller's program would compute wrong numbers. The only comments that are kept are the
 names of functions.
+
+For macOS a local label begins with `L`, or with `l` if the linker sees it, and all other names with
+`_`. There are no other names that begin like that, so one rule matches the labels of all systems.
 """
 import collections
 import hashlib
@@ -25,21 +28,25 @@ DIGEST = re.compile("[0-9a-f]{64}  (.*)")
 MAIN = "program_main"
 PREFIX = "unix_path_"
 # The most bytes of all files together.
-MOST_BYTES = 4_500_000
-# DROPPED has the directives that only clang reads, or that name the compiled file. FEATURES matches
-# the label that clang adds for Windows, which rustc's module also has. BYTES has the directives
-# whose quoted bytes are not names.
-DROPPED = (".file", ".ident", ".addrsig", ".addrsig_sym")
+MOST_BYTES = 5_500_000
+# DROPPED has the directives that only clang reads, that name the compiled file, or that name the
+# version of macOS, which the user's compiler writes. FEATURES matches the label that clang adds for
+# Windows, which rustc's module also has. BYTES has the directives whose quoted bytes are not names.
+DROPPED = (".file", ".ident", ".addrsig", ".addrsig_sym", ".build_version")
 FEATURES = re.compile(r"^(\t\.def\t@feat\.00;\n(\t.*\n)+)?@feat\.00 = \d+\n", re.M)
 BYTES = (".ascii", ".asciz", ".string")
 SECTION = re.compile(r'^(\t\.section\t)"([^"]*)"')
 STACK = ".note.GNU-stack"
-# LOCAL matches a local label or a use of one, which may also occur inside another name. LABEL
+# LOCAL matches the start of a local label or of a use of one, which may also occur inside another
+# name. UNPREFIXED matches a label without the prefix, and PREFIXED the start of one with it. LABEL
 # matches a label at the start of a line, or a name that a directive defines. GLOBAL matches an
-# exported name.
-LOCAL = re.compile(r"(?<![\w.])\.L(?=\w)")
+# exported name. A line that begins with one of MARKS is a comment.
+LOCAL = re.compile(r"(?<![\w.])(\.?L(?=\w)|l(?=[A-Z_]))")
+UNPREFIXED = re.compile(fr"{LOCAL.pattern}(?!{PREFIX})\w+")
+PREFIXED = re.compile(fr"(?:\.?L|l){PREFIX}")
 LABEL = re.compile(r"^([^\s:#]+):|^\t\.set\t([^\s,]+),", re.M)
 GLOBAL = re.compile(r"^\t\.globl\t(.+)$", re.M)
+MARKS = ("#", "//", ";")
 
 
 def plain(name):
@@ -65,7 +72,7 @@ def plain_line(line):
         line = SECTION.sub(lambda it: it[1] + (it[2] if it[2] == STACK else plain(it[2])), line)
     else:
         line = re.sub(r'"([^"]*)"', lambda it: plain(it[1]), line)
-    return LOCAL.sub(".L" + PREFIX, line)
+    return LOCAL.sub(fr"\1{PREFIX}", line)
 
 
 def rewritten(text, mark):
@@ -74,31 +81,32 @@ def rewritten(text, mark):
     lines = []
     for line in FEATURES.sub("", text).splitlines():
         line = without_comment(line, mark)
-        if line.startswith('"') and not line.startswith('".L'):
-            lines.append(f"{mark} {line[1:-2]}")
+        if line.startswith('"') and not LOCAL.match(line, 1):
+            lines.append(f"{mark} {line[1:-2].lstrip('_')}")
         if line and line.split()[0] not in DROPPED:
             lines.append(plain_line(line))
     return "\n".join(lines) + "\n"
 
 
 def exports_of(name):
-    """Returns the names that a file of assembly has to export: the library's calls, or MAIN."""
+    """Returns the names that a file of assembly has to export: the library's calls, or MAIN. For
+    macOS each name begins with `_`."""
     if os.path.basename(name)[:-len(".s")] in read_programs():
         return {MAIN}
-    return set(re.findall(r"\bunix_path_\w+(?=;)", pathlib.Path(ROOT, MAP).read_text("utf-8")))
+    calls = re.findall(r"\bunix_path_\w+(?=;)", pathlib.Path(ROOT, MAP).read_text("utf-8"))
+    return {f"_{it}" if "-macos/" in name else it for it in calls}
 
 
 def faults_of(text, exports):
     """Returns what is wrong with a rewritten text. It has to export exactly the names `exports`."""
     names = [label or alias for label, alias in LABEL.findall(text)]
     found = set(GLOBAL.findall(text))
-    own = [it for it in names if it not in found]
-    quoted = [line for line in text.splitlines()
-              if '"' in line and line.split()[0] not in (*BYTES, ".section", "#", "//")]
+    own = [it for it in names if it not in found and not PREFIXED.match(it)]
+    code = [it for it in text.splitlines() if not it.strip().startswith((*MARKS, *BYTES))]
+    quoted = [it for it in code if '"' in it and it.split()[0] != ".section"]
     twice = [name for name, count in collections.Counter(names).items() if count > 1]
-    unmarked = [it for it in own if it.startswith(".L") and not it.startswith(".L" + PREFIX)]
-    uses = re.findall(r"(?<![\w.])\.L(?!%s)\w+" % PREFIX, text)
-    return [*(f"{it}: a local label without prefix" for it in dict.fromkeys(unmarked + uses)),
+    labels = [it[0] for line in code for it in UNPREFIXED.finditer(line)]
+    return [*(f"{it}: a local label without prefix" for it in dict.fromkeys(labels)),
             *(f"{it}: a local name that C or Rust may have" for it in own if "." not in it),
             *(f"{it}: defined twice" for it in twice),
             *(f"{it}: exported, or not, by mistake" for it in sorted(found ^ set(exports))),

@@ -78,6 +78,7 @@
 //! | `x86_64-unknown-linux-musl` | only assembled |
 //! | `aarch64-unknown-linux-gnu`, `aarch64-unknown-linux-musl` | only assembled |
 //! | `x86_64-pc-windows-gnu`, `x86_64-pc-windows-msvc`; experimental | only assembled |
+//! | `x86_64-apple-darwin`, `aarch64-apple-darwin`; experimental, not run | only assembled |
 //!
 //! For any other target, and in Miri, `cargo check` and `cargo doc` work, and the linker reports
 //! that there is no assembly. The feature `system` links an installed `libunix_path` instead, on

@@ -57,4 +57,8 @@ assembly! {
         => "../../asm/aarch64-linux/unix_path.s" (raw)
     all(target_os = "windows", target_arch = "x86_64")
         => "../../asm/x86_64-windows/unix_path.s" (att_syntax, raw)
+    all(target_os = "macos", target_arch = "x86_64")
+        => "../../asm/x86_64-macos/unix_path.s" (att_syntax, raw)
+    all(target_os = "macos", target_arch = "aarch64")
+        => "../../asm/aarch64-macos/unix_path.s" (raw)
 }
