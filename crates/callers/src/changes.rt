@@ -1,7 +1,8 @@
 //! The changes from one manifest to another.
 ghost use Rattle.std.specs.Prelude.{◌≡◌, IfOk, map};
+ghost use Rattle.std.specs.Map.Iter.{deref_pair};
 ghost use Rattle.path_tree.specs.Changed.{borrowed_both, entries_changed};
-ghost use Rattle.path_tree.specs.Difference.{borrowed_entry, entries_lacking};
+ghost use Rattle.path_tree.specs.Difference.{entries_lacking};
 ghost use Rattle.path_tree.specs.Tree.{entries_of};
 
 use path_tree::PathTree;
@@ -32,9 +33,9 @@ pub fn changes_from<'a, 'b, V: PartialEq>(
     before: &'b PathTree<V>,
     after: &'a PathTree<V>,
 ) -> Result<Changes<'a, 'b, V>, AllocError>
-    ensures new { IfOk result (λ changes. map borrowed_entry changes.new.items
+    ensures new { IfOk result (λ changes. map deref_pair changes.new.items
         ≡ entries_lacking (entries_of before.entry.now) (entries_of after.entry.now)) }
-    ensures gone { IfOk result (λ changes. map borrowed_entry changes.gone.items
+    ensures gone { IfOk result (λ changes. map deref_pair changes.gone.items
         ≡ entries_lacking (entries_of after.entry.now) (entries_of before.entry.now)) }
     ensures different { IfOk result (λ changes. map borrowed_both changes.different.items
         ≡ entries_changed V.eq (entries_of before.entry.now) (entries_of after.entry.now)) }

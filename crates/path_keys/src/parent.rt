@@ -5,7 +5,7 @@ ghost use Rattle.unix_path.specs.Names.{file_name_of};
 ghost use Rattle.unix_path.specs.Parents.{parent_of};
 ghost use Rattle.unix_path.specs.Parts.{values};
 ghost use Rattle.unix_path.specs.Prefixes.{IsPrefixOf};
-ghost use Rattle.unix_path.specs.Slices.{BeginsAt, LiesIn};
+ghost use Rattle.unix_path.specs.Slices.{LiesIn, memory_offset};
 ghost use Rattle.path_keys.specs.Keys.{key_of, raised, IsKey};
 ghost use Rattle.path_keys.specs.Codes.{code_value, IsRaised};
 ghost use Rattle.path_keys.specs.Lasts.{EndsIn};
@@ -59,7 +59,7 @@ pub fn key_parent(key: &[u8]) -> Option<&[u8]>
         ≡ option_map (λ parent. key_of (values parent)) (parent_of s) }
     ensures not_a_key { (IsKey key.now → ⊥) → result ≡ None }
     ensures place { IfSome result (λ parent. LiesIn parent key.entry) }
-    ensures start { IfSome result (λ parent. BeginsAt parent key.entry 0) }
+    ensures start { IfSome result (λ parent. memory_offset parent ≡ memory_offset key.entry) }
 {
     let Some(last) = last_code(key) else {
         return None;

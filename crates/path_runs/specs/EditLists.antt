@@ -1,6 +1,6 @@
 -- Edits of a path and lists of edits (Rust's `PathBuf::push`, `PathBuf::pop`,
 -- `PathBuf::set_file_name`, `PathBuf::set_extension`, `PathBuf::add_extension`, `PathBuf::clear`).
-use Rattle.std.specs.Prelude.{ℕ, List, [], ◌∷◌, Bool, true, false, not, is_some, if◌then◌else◌}
+use Rattle.std.specs.Prelude.{ℕ, List, [], ◌∷◌, is_some, if◌then◌else◌}
 use Rattle.unix_path.specs.Parts.{values}
 use Rattle.unix_path.specs.Joins.{join_of}
 use Rattle.unix_path.specs.Parents.{parent_of}
@@ -40,12 +40,3 @@ edits_of s (e ∷ es) =
     let one = edit_of s e in
     let more = edits_of one.0 es in
     (more.0, one.1 ∷ more.1)
-
--- the edit may allocate: it is a push, a new file name, or an extension that isn't empty and
--- contains no slash
-abbrev pub may_allocate : EditValue → Bool
-may_allocate (Push b) = true
-may_allocate (SetFileName name) = true
-may_allocate (SetExtension (b ∷ bs)) = not (has_slash (b ∷ bs))
-may_allocate (AddExtension (b ∷ bs)) = not (has_slash (b ∷ bs))
-may_allocate _ = false

@@ -5,7 +5,6 @@ pub mod Spelling
 pub mod SpellingLaws
 pub mod EditLists
 pub mod EditViews
-pub mod EditErrors
 pub mod ScanCache
 pub mod JoinLaws
 pub mod EditLaws

@@ -1,6 +1,6 @@
 -- Laws of the canonical form. Not in Rust's std.
-use Rattle.std.specs.Prelude.{◌≡◌, ◌↔◌, ◌⊎◌, ◌<◌, ◌≤◌, ℕ, List, [], length, map}
-use Rattle.unix_path.specs.Joins.{join_all_of}
+use Rattle.std.specs.Prelude.{◌≡◌, ◌↔◌, ◌⊎◌, ◌<◌, ℕ, List, [], length, map, fold}
+use Rattle.unix_path.specs.Joins.{join_of}
 use Rattle.unix_path.specs.Parts.{value_bytes, values, SameValues}
 use Rattle.path_runs.specs.Spelling.{spelling_of}
 
@@ -14,10 +14,6 @@ SpellingIsShortest =
     (s t : List ℕ) → SameValues t s
     → (t ≡ spelling_of (values s)) ⊎ (length (spelling_of (values s)) < length t)
 
--- the canonical form of a path has at most as many bytes as the path
-abbrev pub SpellingFits : Type 0
-SpellingFits = (s : List ℕ) → length (spelling_of (values s)) ≤ length s
-
 -- two paths have the same components if and only if their canonical forms have the same bytes
 abbrev pub SpellingDeterminesValues : Type 0
 SpellingDeterminesValues =
@@ -27,4 +23,4 @@ SpellingDeterminesValues =
 -- canonical form of s
 abbrev pub JoinsAreSpelling : Type 0
 JoinsAreSpelling =
-    (s : List ℕ) → join_all_of [] (map value_bytes (values s)) ≡ spelling_of (values s)
+    (s : List ℕ) → fold join_of [] (map value_bytes (values s)) ≡ spelling_of (values s)

@@ -1,8 +1,8 @@
 //! Edits of a path as values, and two functions: `apply` makes a list of edits, and `rejoin` joins
 //! a base with what follows it in a path.
-ghost use Rattle.std.specs.Prelude.{◌≡◌, ◌↔◌, ◌<◌, ◌≤◌, [], true, length, take, slice_get};
+ghost use Rattle.std.specs.Prelude.{◌≡◌, ◌↔◌, ◌<◌, ◌≤◌, [], length, take, slice_get};
 ghost use Rattle.std.specs.Prelude.{map, Some, IsSome, IsOk, IfOk, IfErr, IfSome, OnOk, OnErr};
-ghost use Rattle.std.specs.Prelude.{MatchOption};
+ghost use Rattle.std.specs.Prelude.{codes, MatchOption};
 ghost use Rattle.std.specs.Fmt.{padded};
 ghost use Rattle.std.specs.Result.{result_ok};
 ghost use Rattle.unix_path.specs.Buffers.{capacity, path_bytes};
@@ -10,7 +10,7 @@ ghost use Rattle.unix_path.specs.Joins.{join_of};
 ghost use Rattle.unix_path.specs.Prefixes.{IsPrefixOf, stripped_of};
 ghost use Rattle.unix_path.specs.Parts.{values, SameValues};
 ghost use Rattle.path_runs.specs.EditViews.{edit_value, extension_answer};
-ghost use Rattle.path_runs.specs.EditLists.{edit_of, edits_of, may_allocate};
+ghost use Rattle.path_runs.specs.EditLists.{edit_of, edits_of};
 ghost use Rattle.path_runs.specs.ScanCache.{IsCacheOf};
 
 mod cache;
@@ -77,11 +77,9 @@ pub struct ApplyError {
 
 /// Writes `out of memory`, formatted like a `str` (width, precision, fill and alignment).
 impl fmt::Display for ApplyError {
-    ghost use Rattle.path_runs.specs.EditErrors.{apply_error_text};
+    ghost output = { λ error. Some (codes "out of memory") };
 
-    ghost output = { λ error. Some (apply_error_text error) };
-
-    ghost styled_output = { λ error spec. Some (padded spec (apply_error_text error)) };
+    ghost styled_output = { λ error spec. Some (padded spec (codes "out of memory")) };
 
     fn fmt<W: fmt::Write>(&self, f: &mut fmt::Formatter<W>) -> fmt::Result {
         f.pad("out of memory")
@@ -115,7 +113,6 @@ fn apply_one(
     ensures value { IfOk result
         (λ answer. answer ≡ (edit_of (path_bytes path.old) (edit_value edit.now)).1) }
     ensures err { OnErr result (path_bytes path.new ≡ path_bytes path.old) }
-    ensures refused { OnErr result (may_allocate (edit_value edit.now) ≡ true) }
     ensures too_long { OnErr result (capacity path.old
         < length (edit_of (path_bytes path.old) (edit_value edit.now)).0) }
     ensures capacity { capacity path.old ≤ capacity path.new }
@@ -150,9 +147,9 @@ fn apply_one(
 /// `PathBuf` method of the same name, except that an edit of the extension may leave spare
 /// capacity. An empty list allocates nothing, and succeeds. If an allocation fails, the edits
 /// before the failing one have been made, and the error contains their number: 0 if the answers
-/// could not be allocated, or if the first edit failed. An edit after the first fails only if its
-/// result is longer than the capacity that the path had at the call, which never shrinks. An edit
-/// whose extension contains a `/` does not fail: it leaves the bytes unchanged, its answer is
+/// could not be allocated, or if the first edit failed. An edit after the first fails only if it
+/// makes the path longer, and longer than the capacity that the path had at the call, which never
+/// shrinks. An edit whose extension contains a `/` does not fail: it leaves the bytes unchanged, its answer is
 /// `Separator`, and the next edit is made. The time is linear in the number of edits plus the
 /// lengths of their bytes, of the path and of the result.
 ///
@@ -174,7 +171,8 @@ pub fn apply(
     ensures succeeds { edits.now ≡ [] → IsOk result }
     ensures refused { IfErr result
         (λ e. 0 < e.done → MatchOption (slice_get edits.now e.done) ⊥
-        (λ edit. may_allocate (edit_value edit) ≡ true)) }
+        (λ edit. length (path_bytes path.new)
+        < length (edit_of (path_bytes path.new) (edit_value edit)).0)) }
     ensures too_long { IfErr result
         (λ e. 0 < e.done → MatchOption (slice_get edits.now e.done) ⊥
         (λ edit. capacity path.old

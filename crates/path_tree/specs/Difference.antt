@@ -1,11 +1,6 @@
 -- The entries of one tree that another tree lacks (Rust's `BTreeSet::difference`, with values).
 use Rattle.std.specs.Prelude.{ℕ, List, filter, is_some, not}
-use Rattle.std.specs.Borrow.{Bor}
 use Rattle.path_tree.specs.Rows.{entry_at}
-
--- the bytes of a borrowed key, with the value that is borrowed with it
-abbrev pub borrowed_entry : {V : Type 0} → Bor (List ℕ) × Bor V → List ℕ × V
-borrowed_entry entry = (entry.0.now, entry.1.now)
 
 -- the entries whose keys the other entries do not have, in their order
 abbrev pub entries_lacking : {V W : Type 0} → List (List ℕ × W) → List (List ℕ × V)

@@ -1,10 +1,10 @@
 -- Names that go down from a root: the names of a path that is resolved after `/`, so that a `..` at
 -- the top stays at the top (POSIX.1-2017 section 4.13: `..` in the root directory is that
 -- directory).
-use Rattle.std.specs.Prelude.{◌≡◌, ℕ, Bool, false, ◌==◌, ◌&&◌, not, nat_lt, is_some}
+use Rattle.std.specs.Prelude.{◌≡◌, ℕ, Bool, false, ◌==◌, ◌&&◌, not, nat_lt, is_some, fold}
 use Rattle.std.specs.Prelude.{List, ◌∷◌, length, drop, map}
 use Rattle.std.specs.List.{list_any, position_or_len}
-use Rattle.unix_path.specs.Joins.{join_all_of}
+use Rattle.unix_path.specs.Joins.{join_of}
 use Rattle.unix_path.specs.Names.{file_name_of}
 use Rattle.unix_path.specs.Parts.{Value, RootDir, is_slash, value_bytes, values}
 use Rattle.unix_path.specs.Prefixes.{IsPrefixOf, stripped_of}
@@ -31,7 +31,7 @@ ends_in_slash s =
 
 -- the root's bytes, with each name joined to them, one after the other
 unfoldable pub below_of : List ℕ → List Value → List ℕ
-below_of root names = join_all_of root (map value_bytes names)
+below_of root names = fold join_of root (map value_bytes names)
 
 -- `path` starts with the components of `root`, and the rest of `path` after them has neither a root
 -- nor a `..`

@@ -2,8 +2,7 @@
 use Rattle.std.specs.Prelude.{◌≡◌, ◌≤◌, ◌+◌, ◌++◌, ◌∷◌, ℕ, List, length, false}
 use Rattle.unix_path.specs.Joins.{join_of}
 use Rattle.unix_path.specs.Parts.{Value, RootDir, CurDir, ParentDir, Normal, values, SameValues}
-use Rattle.unix_path.specs.Prefixes.{IsPrefixOf, stripped_of}
-use Rattle.path_runs.specs.JoinLaws.{drop_dot, values_added}
+use Rattle.path_runs.specs.JoinLaws.{drop_dot}
 use Rattle.path_within.specs.Resolved.{resolved_of, resolved_bytes_of, AllNames, IsNormal}
 use Rattle.path_within.specs.Escapes.{Escapes, has_root_or_parent_dir}
 
@@ -67,20 +66,6 @@ WithinAddsNames =
 abbrev pub WithinHasNames : Type 0
 WithinHasNames = (b : List ℕ) → (Escapes (values b) → ⊥) → AllNames (resolved_of (values b))
 
--- the resolved join with a request that does not escape starts with the resolved root
-abbrev pub WithinHasPrefix : Type 0
-WithinHasPrefix =
-    (a b : List ℕ) → (Escapes (values b) → ⊥)
-    → IsPrefixOf (values (resolved_bytes_of a)) (values (resolved_bytes_of (join_of a b)))
-
--- without the resolved root, the resolved join with a request that does not escape is equal to the
--- resolved request
-abbrev pub WithinStripped : Type 0
-WithinStripped =
-    (a b : List ℕ) → (Escapes (values b) → ⊥)
-    → SameValues (stripped_of (resolved_bytes_of (join_of a b)) (resolved_bytes_of a))
-    (resolved_bytes_of b)
-
 -- a request with neither a root nor a `..` does not escape
 abbrev pub VerbatimStays : Type 0
 VerbatimStays = (b : List ℕ) → has_root_or_parent_dir (values b) ≡ false → Escapes (values b) → ⊥
@@ -89,23 +74,3 @@ VerbatimStays = (b : List ℕ) → has_root_or_parent_dir (values b) ≡ false �
 abbrev pub VerbatimHasNames : Type 0
 VerbatimHasNames =
     (b : List ℕ) → has_root_or_parent_dir (values b) ≡ false → AllNames (drop_dot (values b))
-
--- the components of a join with a request that has neither a root nor a `..` are the root's own
--- components and then those that the request adds
-abbrev pub VerbatimAddsValues : Type 0
-VerbatimAddsValues =
-    (a b : List ℕ) → has_root_or_parent_dir (values b) ≡ false
-    → values (join_of a b) ≡ values a ++ values_added a b
-
--- a join with a request that has neither a root nor a `..` starts with the root
-abbrev pub VerbatimHasPrefix : Type 0
-VerbatimHasPrefix =
-    (a b : List ℕ) → has_root_or_parent_dir (values b) ≡ false
-    → IsPrefixOf (values a) (values (join_of a b))
-
--- without the root, a join with a request that has neither a root nor a `..` has the components
--- that the request added
-abbrev pub VerbatimStripped : Type 0
-VerbatimStripped =
-    (a b : List ℕ) → has_root_or_parent_dir (values b) ≡ false
-    → values (stripped_of (join_of a b) a) ≡ values_added a b

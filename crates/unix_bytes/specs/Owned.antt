@@ -6,10 +6,6 @@ use Rattle.unix_bytes.specs.declared.bytes.owned.UnixString.{UnixString}
 abbrev pub owned_bytes : UnixString → List ℕ
 owned_bytes s = s.bytes.items
 
--- the spare capacity of a `UnixString`: how many more bytes it can hold before it grows
-abbrev pub owned_spare_capacity : UnixString → ℕ
-owned_spare_capacity s = vec_capacity s.bytes - vec_len s.bytes
-
 -- the capacity of a `UnixString`: how many bytes it can hold before it grows
 abbrev pub owned_capacity : UnixString → ℕ
-owned_capacity s = length (owned_bytes s) + owned_spare_capacity s
+owned_capacity s = length (owned_bytes s) + (vec_capacity s.bytes - vec_len s.bytes)

@@ -29,51 +29,42 @@ cursor_start c = memory_offset c.source + c.start
 abbrev pub cursor_values : Components → List Value
 cursor_values c = values (cursor_rest c)
 
--- the bytes that an `Iter` represents
-abbrev pub iter_rest : Iter → List ℕ
-iter_rest it = cursor_rest it.components
-
--- the slice that an `Iter` walks over
-abbrev pub iter_source : Iter → Bor (List ℕ)
-iter_source it = cursor_source it.components
-
--- the index in memory where the bytes that an `Iter` represents begin
-abbrev pub iter_start : Iter → ℕ
-iter_start it = cursor_start it.components
+-- the cursor whose components an `Iter` yields, as byte strings
+abbrev pub iter_cursor : Iter → Components
+iter_cursor it = it.components
 
 -- the bytes of each value that an `Iter` has yet to yield
 abbrev pub iter_bytes : Iter → List (List ℕ)
-iter_bytes it = map value_bytes (cursor_values it.components)
+iter_bytes it = map value_bytes (cursor_values (iter_cursor it))
 
--- a call yields the item that `shows` maps to the first value of `pending old`, if there is one,
--- and leaves the rest of `bytes old` after the first component, in the same memory and with the
--- same end
-pub record GivesFirst {S A V : Type 0} (shows : A → V) (pending : S → List V) (bytes : S → List ℕ)
-    (source : S → Bor (List ℕ)) (start : S → ℕ) (old : S) (item : Option A) (new : S)
-    : Type 0 where
+-- a call of a walk yields the item that `shows` maps to the first value of `pending old`, if there
+-- is one, and its cursor has left the rest after the first component, in the same memory and with
+-- the same end
+pub record GivesFirst {S A V : Type 0} (shows : A → V) (pending : S → List V)
+    (cursor : S → Components) (old : S) (item : Option A) (new : S) : Type 0 where
   pub item_is : YieldsFirstBy shows pending old item new
-  pub rest_is : bytes new ≡ rest (bytes old) 1 0
-  pub place_is : LiesIn (source new) (source old)
-  pub end_is : start new + length (bytes new) ≡ start old + length (bytes old)
+  pub rest_is : cursor_rest (cursor new) ≡ rest (cursor_rest (cursor old)) 1 0
+  pub place_is : LiesIn (cursor_source (cursor new)) (cursor_source (cursor old))
+  pub end_is : cursor_start (cursor new) + length (cursor_rest (cursor new))
+      ≡ cursor_start (cursor old) + length (cursor_rest (cursor old))
 
--- a call yields the item that `shows` maps to the last value of `pending old`, if there is one, and
--- leaves the rest of `bytes old` before the last component, in the same memory and with the same
--- beginning
-pub record GivesLast {S A V : Type 0} (shows : A → V) (pending : S → List V) (bytes : S → List ℕ)
-    (source : S → Bor (List ℕ)) (start : S → ℕ) (old : S) (item : Option A) (new : S)
-    : Type 0 where
+-- a call of a walk yields the item that `shows` maps to the last value of `pending old`, if there
+-- is one, and its cursor has left the rest before the last component, in the same memory and with
+-- the same beginning
+pub record GivesLast {S A V : Type 0} (shows : A → V) (pending : S → List V)
+    (cursor : S → Components) (old : S) (item : Option A) (new : S) : Type 0 where
   pub item_is : YieldsLastBy shows pending old item new
-  pub rest_is : bytes new ≡ rest (bytes old) 0 1
-  pub place_is : LiesIn (source new) (source old)
-  pub start_is : start new ≡ start old
+  pub rest_is : cursor_rest (cursor new) ≡ rest (cursor_rest (cursor old)) 0 1
+  pub place_is : LiesIn (cursor_source (cursor new)) (cursor_source (cursor old))
+  pub start_is : cursor_start (cursor new) ≡ cursor_start (cursor old)
 
 -- what a call of `next` of a `Components` yields and leaves
 abbrev pub GivesFirstPart : Components → Option Component → Components → Type 0
-GivesFirstPart = GivesFirst value_of cursor_values cursor_rest cursor_source cursor_start
+GivesFirstPart = GivesFirst value_of cursor_values (λ c. c)
 
 -- what a call of `next_back` of a `Components` yields and leaves
 abbrev pub GivesLastPart : Components → Option Component → Components → Type 0
-GivesLastPart = GivesLast value_of cursor_values cursor_rest cursor_source cursor_start
+GivesLastPart = GivesLast value_of cursor_values (λ c. c)
 
 -- the bytes of a name
 abbrev pub name_bytes : UnixStr → List ℕ
@@ -81,8 +72,8 @@ name_bytes name = name.bytes.now
 
 -- what a call of `next` of an `Iter` yields and leaves
 abbrev pub GivesFirstName : Iter → Option UnixStr → Iter → Type 0
-GivesFirstName = GivesFirst name_bytes iter_bytes iter_rest iter_source iter_start
+GivesFirstName = GivesFirst name_bytes iter_bytes iter_cursor
 
 -- what a call of `next_back` of an `Iter` yields and leaves
 abbrev pub GivesLastName : Iter → Option UnixStr → Iter → Type 0
-GivesLastName = GivesLast name_bytes iter_bytes iter_rest iter_source iter_start
+GivesLastName = GivesLast name_bytes iter_bytes iter_cursor

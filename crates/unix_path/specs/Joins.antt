@@ -14,8 +14,3 @@ unfoldable pub join_of : List ℕ → List ℕ → List ℕ
 join_of a b =
     if is_rooted b then b
     else (if needs_no_separator a then a ++ b else a ++ slash ∷ b)
-
--- a joined with the first of some paths, the result joined with the second, and so on
-abbrev pub join_all_of : List ℕ → List (List ℕ) → List ℕ
-join_all_of a [] = a
-join_all_of a (b ∷ bs) = join_all_of (join_of a b) bs

@@ -1,6 +1,6 @@
 -- Filler in a path, and `..` as its first or last piece.
 use Rattle.std.specs.Prelude.{◌≡◌, ◌<◌, ℕ, ◌+◌, ◌-◌, nat_lt, ◌==◌, Bool, false, ◌||◌, ◌&&◌, List}
-use Rattle.std.specs.Prelude.{[], ◌∷◌, length, slice_index, slice_index_or, Option, Some, None}
+use Rattle.std.specs.Prelude.{length, slice_index, slice_index_or}
 use Rattle.unix_path.specs.Parts.{slash, dot}
 
 -- the byte of s at i is a slash, or a `.` before a slash or the end of s
@@ -30,9 +30,3 @@ is_trailing s i =
 -- s is empty or ends where its last component ends
 abbrev pub EndsInPart : List ℕ → Type 0
 EndsInPart s = 0 < length s → is_trailing s (length s - 1) ≡ false
-
--- the bytes of the separator that an edit puts between the bytes it keeps and those it appends: one
--- byte, or none
-abbrev pub separator_bytes : Option ℕ → List ℕ
-separator_bytes None = []
-separator_bytes (Some b) = b ∷ []

@@ -12,10 +12,6 @@ pub record LiesIn (part whole : Bor (List ℕ)) : Type 0 where
   pub start : whole.ref_ptr.1 ≤ part.ref_ptr.1
   pub end : part.ref_ptr.1 + length part.now ≤ whole.ref_ptr.1 + length whole.now
 
--- the slice `part` begins `at` bytes after the beginning of `whole`
-abbrev pub BeginsAt : Bor (List ℕ) → Bor (List ℕ) → ℕ → Type 0
-BeginsAt part whole at = part.ref_ptr.1 ≡ whole.ref_ptr.1 + at
-
 -- the slice `part` ends `at` bytes after the beginning of `whole`
 abbrev pub EndsAt : Bor (List ℕ) → Bor (List ℕ) → ℕ → Type 0
 EndsAt part whole at = part.ref_ptr.1 + length part.now ≡ whole.ref_ptr.1 + at

@@ -1,6 +1,6 @@
 //! Owned paths.
 ghost use Rattle.std.specs.Prelude.{◌≡◌, ◌<◌, ◌≤◌, [], length, IfOk, IsOk};
-ghost use Rattle.unix_path.specs.Buffers.{path_bytes, spare_capacity, capacity};
+ghost use Rattle.unix_path.specs.Buffers.{path_bytes, capacity};
 ghost use Rattle.unix_path.specs.Parts.{values, value_bytes};
 ghost use Rattle.unix_path.specs.Rest.{rest};
 
@@ -54,7 +54,7 @@ impl PathBuf {
     #[must_use]
     pub fn with_capacity(alloc: Global, count: usize) -> Result<PathBuf, AllocError>
         ensures bytes { IfOk result (λ p. path_bytes p ≡ []) }
-        ensures spare_capacity { IfOk result (λ p. count ≤ spare_capacity p) }
+        ensures capacity { IfOk result (λ p. count ≤ capacity p) }
         ensures succeeds { count ≡ 0 → IsOk result }
     {
         let inner = UnixString::with_capacity(alloc, count)?;
@@ -116,14 +116,14 @@ impl PathBuf {
 /// For `/tmp/` it yields `/` and `tmp`.
 impl<'a> IntoIterator for &'a PathBuf {
     ghost use Rattle.std.specs.Prelude.{◌^◌, map};
-    ghost use Rattle.unix_path.specs.Cursor.{iter_rest, iter_bytes};
+    ghost use Rattle.unix_path.specs.Cursor.{cursor_rest, iter_cursor, iter_bytes};
 
     type Item = UnixStr<'a>;
 
     type IntoIter = Iter<'a>;
 
     ghost into_iter_gives = { λ path walk.
-        (iter_rest walk ≡ rest (path_bytes path.now) 0 0)
+        (cursor_rest (iter_cursor walk) ≡ rest (path_bytes path.now) 0 0)
         × (iter_bytes walk ≡ map value_bytes (values (path_bytes path.now)))
         × (length (iter_bytes walk) < 2 ^ 64) };
 

@@ -2,11 +2,11 @@
 ghost use Rattle.std.specs.Prelude.{◌≡◌, ◌≢◌, ◌↔◌, ℕ, List, [], None, Some, IfOk, IfErr, IsOk};
 ghost use Rattle.std.specs.Prelude.{IsErrOf};
 ghost use Rattle.std.specs.Fmt.{padded};
+ghost use Rattle.serde_json.specs.Data.{string};
 ghost use Rattle.serde_json.specs.Find.{as_str};
 ghost use Rattle.serde_json.specs.View.{view};
 ghost use Rattle.unix_bytes.specs.Utf8.{IsText};
 ghost use Rattle.unix_path.specs.Buffers.{path_bytes};
-ghost use Rattle.unix_path.specs.Json.{IsString};
 
 use crate::buf::PathBuf;
 use crate::path::Path;
@@ -73,7 +73,7 @@ impl From<AllocError> for JsonError {
 ///
 /// For `a//b` it is the string `a//b`.
 pub fn to_json(alloc: Global, path: Path<'_>) -> Result<Value, JsonError>
-    ensures value { IfOk result (λ value. IsString value path.entry.bytes.now) }
+    ensures value { IfOk result (λ value. view value ≡ string path.entry.bytes.now) }
     ensures refused { IsErrOf result JsonError.NotUtf8 ↔ ¬ (IsText path.entry.bytes.now) }
     ensures err { IfErr result (λ error. error ≢ JsonError.NotString) }
     ensures succeeds { path.entry.bytes.now ≡ [] → IsOk result }
@@ -95,12 +95,12 @@ pub fn to_json(alloc: Global, path: Path<'_>) -> Result<Value, JsonError>
 /// For the string `a//b` it is the path `a//b`. A path that `to_json` wrote is read back with the
 /// same bytes.
 pub fn from_json(alloc: Global, value: &Value) -> Result<PathBuf, JsonError>
-    ensures value { IfOk result (λ path. IsString value.now (path_bytes path)) }
+    ensures value { IfOk result (λ path. view value.now ≡ string (path_bytes path)) }
     ensures bytes { IfOk result
-        (λ path. (bytes : List ℕ) → IsString value.now bytes → path_bytes path ≡ bytes) }
+        (λ path. (bytes : List ℕ) → view value.now ≡ string bytes → path_bytes path ≡ bytes) }
     ensures refused { IsErrOf result JsonError.NotString ↔ (as_str (view value.now) ≡ None) }
     ensures err { IfErr result (λ error. error ≢ JsonError.NotUtf8) }
-    ensures succeeds { IsString value.now [] → IsOk result }
+    ensures succeeds { view value.now ≡ string [] → IsOk result }
 {
     let Value::String(text) = value else {
         return Err(JsonError::NotString);

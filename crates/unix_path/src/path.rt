@@ -17,7 +17,7 @@ ghost use Rattle.std.specs.Prelude.{IsTrue, IsFalse};
 ghost use Rattle.unix_path.specs.Parts.{RootDir, slash, values, value_bytes, is_rooted};
 ghost use Rattle.unix_path.specs.Rest.{rest};
 ghost use Rattle.unix_path.specs.Cursor.{cursor_rest, cursor_source, cursor_start, cursor_values};
-ghost use Rattle.unix_path.specs.Cursor.{iter_rest, iter_source, iter_start, iter_bytes};
+ghost use Rattle.unix_path.specs.Cursor.{iter_cursor, iter_bytes};
 ghost use Rattle.unix_path.specs.Prefixes.{IsPrefixOf};
 ghost use Rattle.unix_path.specs.Slices.{LiesIn, memory_offset};
 
@@ -164,9 +164,9 @@ impl<'a> Path<'a> {
     /// For `///foo///bar` it yields `/`, `foo` and `bar`.
     #[inline]
     pub fn iter(&self) -> Iter<'a>
-        ensures rest { iter_rest result ≡ rest self.now.bytes.now 0 0 }
-        ensures place { LiesIn (iter_source result) self.now.bytes }
-        ensures start { iter_start result ≡ memory_offset self.now.bytes }
+        ensures rest { cursor_rest (iter_cursor result) ≡ rest self.now.bytes.now 0 0 }
+        ensures place { LiesIn (cursor_source (iter_cursor result)) self.now.bytes }
+        ensures start { cursor_start (iter_cursor result) ≡ memory_offset self.now.bytes }
         ensures bytes { iter_bytes result ≡ map value_bytes (values self.now.bytes.now) }
         ensures len { length (iter_bytes result) < 2 ^ 64 }
     {
@@ -183,7 +183,7 @@ impl<'a> IntoIterator for Path<'a> {
     type IntoIter = Iter<'a>;
 
     ghost into_iter_gives = { λ path walk.
-        (iter_rest walk ≡ rest path.bytes.now 0 0)
+        (cursor_rest (iter_cursor walk) ≡ rest path.bytes.now 0 0)
         × (iter_bytes walk ≡ map value_bytes (values path.bytes.now))
         × (length (iter_bytes walk) < 2 ^ 64) };
 

@@ -2,7 +2,7 @@
 ghost use Rattle.std.specs.Prelude.{◌≡◌, ◌<◌, ◌≤◌, length, take, Some};
 ghost use Rattle.unix_path.specs.Edits.{dot_before, stem_end_of};
 ghost use Rattle.unix_path.specs.Extensions.{has_slash, name_end_of};
-ghost use Rattle.unix_path.specs.Scan.{separator_bytes};
+ghost use Rattle.std.specs.Option.{option_to_list};
 
 use unix_bytes::internal::after_last_of_two;
 
@@ -38,7 +38,7 @@ pub fn stem_end(bytes: &[u8], known: usize) -> usize
 /// Before `rs` it is a dot.
 #[inline]
 pub fn dot_before(extension: &[u8]) -> Option<u8>
-    ensures { separator_bytes result ≡ dot_before extension.now }
+    ensures { option_to_list result ≡ dot_before extension.now }
 {
     if extension.is_empty() {
         return None;

@@ -3,7 +3,7 @@ ghost use Rattle.std.specs.Prelude.{◌≡◌, ◌↔◌, ◌⊎◌, ◌≤◌, 
 ghost use Rattle.unix_path.specs.Edits.{with_extension_of, with_name_of};
 ghost use Rattle.unix_path.specs.Extensions.{added_extension_of, has_slash};
 ghost use Rattle.unix_path.specs.Joins.{join_of};
-ghost use Rattle.unix_path.specs.Scan.{separator_bytes};
+ghost use Rattle.std.specs.Option.{option_to_list};
 ghost use Rattle.unix_path_c.specs.Layout.{layout_bytes};
 ghost use Rattle.unix_path_c.specs.ErrorCodes.{IsLength};
 ghost use Rattle.path_runs.specs.Buffer.{buffer_after};
@@ -29,7 +29,7 @@ impl Layout<'_> {
     fn total_len(&self) -> usize
         ensures total { result ≡ length (layout_bytes self.now) }
         ensures sum { result ≡ length self.now.beginning.now
-            + length (separator_bytes self.now.separator) + length self.now.end.now }
+            + length (option_to_list self.now.separator) + length self.now.end.now }
     {
         self.beginning.len() + separator_len(self.separator) + self.end.len()
     }

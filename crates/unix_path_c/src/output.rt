@@ -1,6 +1,6 @@
 //! Helpers of the calls that write a result to `out`.
 ghost use Rattle.std.specs.Prelude.{◌≡◌, ◌≤◌, ◌+◌, length};
-ghost use Rattle.unix_path.specs.Scan.{separator_bytes};
+ghost use Rattle.std.specs.Option.{option_to_list};
 ghost use Rattle.path_runs.specs.Overlay.{overlay};
 ghost use Rattle.unix_path_c.specs.SaturatedSize.{buffer_size};
 
@@ -18,8 +18,8 @@ pub(crate) fn len_or_too_long(len: usize) -> usize
 // Writes the separator at index `at` if there is one.
 #[inline]
 pub(crate) fn write_separator(out: &mut [u8], at: usize, separator: Option<u8>)
-    requires { at + length (separator_bytes separator) ≤ length out.old }
-    ensures { out.new ≡ overlay at (separator_bytes separator) out.old }
+    requires { at + length (option_to_list separator) ≤ length out.old }
+    ensures { out.new ≡ overlay at (option_to_list separator) out.old }
 {
     if let Some(byte) = separator {
         out[at] = byte;
@@ -29,7 +29,7 @@ pub(crate) fn write_separator(out: &mut [u8], at: usize, separator: Option<u8>)
 // Returns the length of the separator: 1, or 0 if there is none.
 #[inline]
 pub(crate) fn separator_len(separator: Option<u8>) -> usize
-    ensures { result ≡ length (separator_bytes separator) }
+    ensures { result ≡ length (option_to_list separator) }
 {
     match separator {
         Some(_) => 1,

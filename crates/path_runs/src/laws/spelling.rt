@@ -1,7 +1,9 @@
 //! Laws of the canonical form.
 ghost use Rattle.path_runs.specs.SpellingLaws.{SpellingReadsBack, SpellingIsShortest};
-ghost use Rattle.path_runs.specs.SpellingLaws.{SpellingFits, SpellingDeterminesValues};
-ghost use Rattle.path_runs.specs.SpellingLaws.{JoinsAreSpelling};
+ghost use Rattle.path_runs.specs.SpellingLaws.{SpellingDeterminesValues, JoinsAreSpelling};
+ghost use Rattle.path_runs.specs.Spelling.{spelling_of};
+ghost use Rattle.std.specs.Prelude.{◌≤◌, ℕ, List, length};
+ghost use Rattle.unix_path.specs.Parts.{values};
 
 /// The canonical form of a path has the same components, and every other path that has them is
 /// longer.
@@ -23,7 +25,7 @@ pub fn canonical_form()
 /// `.//a/./b/` has 9 bytes, and its canonical form `./a/b` has 5.
 #[tactic(auto, using(crate::proofs::lemmas::spelling::LeanLemmas::canonical_is_short_cases))]
 pub fn canonical_is_short()
-    ensures { SpellingFits }
+    ensures { (s : List ℕ) → length (spelling_of (values s)) ≤ length s }
 {}
 
 /// The components of a path, joined one after the other, are the canonical form of the path.

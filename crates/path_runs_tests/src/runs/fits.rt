@@ -2,7 +2,7 @@
 ghost use Rattle.std.specs.Prelude.{◌≡◌, ◌≤◌, ◌+◌, false, [], fold, length, IsOk};
 ghost use Rattle.std.specs.List.{AllByRecursion};
 ghost use Rattle.unix_path.specs.Buffers.{capacity, path_bytes, spare_capacity, bytes_of_each};
-ghost use Rattle.unix_path.specs.Joins.{join_all_of};
+ghost use Rattle.unix_path.specs.Joins.{join_of};
 ghost use Rattle.unix_path.specs.Parts.{is_rooted};
 
 use std::alloc::{AllocError, Global};
@@ -12,7 +12,7 @@ use unix_path::{Path, PathBuf};
 
 fn extend_all(buffer: &mut PathBuf, paths: &[Path<'_>]) -> Result<(), AllocError>
     ensures { AllByRecursion (λ b. is_rooted b ≡ false) (bytes_of_each paths.now)
-        → length (join_all_of (path_bytes buffer.old) (bytes_of_each paths.now))
+        → length (fold join_of (path_bytes buffer.old) (bytes_of_each paths.now))
         ≤ capacity buffer.old → IsOk result }
 {
     buffer.extend(paths.iter().copied())?;

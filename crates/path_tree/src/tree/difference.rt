@@ -2,8 +2,9 @@
 ghost use Rattle.std.specs.Prelude.{◌≡◌, [], IfOk, IsOk, map};
 ghost use Rattle.std.specs.List.Sorted.{IsStrictlySortedBy};
 ghost use Rattle.std.specs.Map.{keys_of};
+ghost use Rattle.std.specs.Map.Iter.{deref_pair};
 ghost use Rattle.path_keys.specs.Ranges.{bytes_cmp};
-ghost use Rattle.path_tree.specs.Difference.{borrowed_entry, entries_lacking};
+ghost use Rattle.path_tree.specs.Difference.{entries_lacking};
 
 use super::PathTree;
 use std::alloc::AllocError;
@@ -23,10 +24,10 @@ impl<V> PathTree<V> {
         &'a self,
         other: &PathTree<W>,
     ) -> Result<Vec<(&'a [u8], &'a V)>, AllocError>
-        ensures entries { IfOk result (λ found. map borrowed_entry found.items
+        ensures entries { IfOk result (λ found. map deref_pair found.items
             ≡ entries_lacking (entries_of other.now) (entries_of self.entry.now)) }
         ensures ordered { IfOk result (λ found.
-            IsStrictlySortedBy bytes_cmp (keys_of (map borrowed_entry found.items))) }
+            IsStrictlySortedBy bytes_cmp (keys_of (map deref_pair found.items))) }
         ensures succeeds { entries_lacking (entries_of other.now) (entries_of self.entry.now) ≡ []
             → IsOk result }
     {

@@ -10,7 +10,6 @@ ghost use Rattle.unix_path.specs.Order.{values_cmp};
 ghost use Rattle.path_keys.specs.Held.{key_bytes};
 ghost use Rattle.path_keys.specs.Keys.{IsKey};
 ghost use Rattle.path_keys.specs.Ranges.{bytes_cmp, end_of};
-ghost use Rattle.path_tree.specs.Difference.{borrowed_entry};
 ghost use Rattle.path_keys.specs.KeyValues.{key_values};
 ghost use Rattle.path_tree.specs.Rows.{Key, entries_under, key_entries, rows_under};
 
@@ -112,7 +111,7 @@ impl<V> PathTree<V> {
     ///
     /// With 1 at `a.b` and 2 at `a/b` it is 61 00 62 00 with 2.
     pub fn first(&self) -> Option<(&[u8], &V)>
-        ensures entry { option_map borrowed_entry result ≡ slice_get (entries_of self.now) 0 }
+        ensures entry { option_map deref_pair result ≡ slice_get (entries_of self.now) 0 }
         ensures key { IfSome result (λ entry. IsKey entry.0.now) }
     {
         let Some((key, value)) = self.entries.first_key_value() else {
@@ -126,7 +125,7 @@ impl<V> PathTree<V> {
     ///
     /// With 1 at `a.b` and 2 at `a/b` it is 61 2F 62 00 with 1.
     pub fn last(&self) -> Option<(&[u8], &V)>
-        ensures entry { option_map borrowed_entry result
+        ensures entry { option_map deref_pair result
             ≡ slice_get (entries_of self.now) (length (entries_of self.now) - 1) }
         ensures key { IfSome result (λ entry. IsKey entry.0.now) }
     {

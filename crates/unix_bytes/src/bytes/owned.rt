@@ -6,7 +6,7 @@ ghost use Rattle.std.specs.Cmp.{on_po, on_total};
 ghost use Rattle.std.specs.Cmp.Lexicographic.{slice_cmp, texts_po, texts_ties, nat_list_cmp_total};
 ghost use Rattle.std.specs.Ordering.{nat_cmp};
 ghost use Rattle.std.proofs.Common.{refl};
-ghost use Rattle.unix_bytes.specs.Owned.{owned_bytes, owned_capacity, owned_spare_capacity};
+ghost use Rattle.unix_bytes.specs.Owned.{owned_bytes, owned_capacity};
 
 use crate::bytes::UnixStr;
 use crate::order::compare_bytes;
@@ -45,7 +45,7 @@ impl UnixString {
     /// `UnixString::with_capacity(alloc, 10)?` can hold 10 bytes before it grows.
     pub fn with_capacity(alloc: Global, count: usize) -> Result<UnixString, AllocError>
         ensures bytes { IfOk result (λ s. owned_bytes s ≡ []) }
-        ensures spare_capacity { IfOk result (λ s. count ≤ owned_spare_capacity s) }
+        ensures capacity { IfOk result (λ s. count ≤ owned_capacity s) }
         ensures succeeds { count ≡ 0 → IsOk result }
     {
         let bytes = Vec::with_capacity(alloc, count)?;
@@ -86,8 +86,8 @@ impl UnixString {
         ensures ok { OnOk result
             (owned_bytes self.new ≡ owned_bytes self.old ++ more.entry.bytes.now) }
         ensures err { OnErr result (owned_bytes self.new ≡ owned_bytes self.old) }
-        ensures succeeds { length more.entry.bytes.now ≤ owned_spare_capacity self.old
-            → IsOk result }
+        ensures succeeds { length (owned_bytes self.old ++ more.entry.bytes.now)
+            ≤ owned_capacity self.old → IsOk result }
         ensures capacity { owned_capacity self.old ≤ owned_capacity self.new }
     {
         self.bytes.extend_from_slice(more.as_bytes())
@@ -138,8 +138,10 @@ impl UnixString {
     /// After `reserve(6)` a push of 6 bytes does not allocate.
     pub fn reserve(&mut self, count: usize) -> Result<(), AllocError>
         ensures bytes { owned_bytes self.new ≡ owned_bytes self.old }
-        ensures ok { OnOk result (count ≤ owned_spare_capacity self.new) }
-        ensures succeeds { count ≤ owned_spare_capacity self.old → IsOk result }
+        ensures ok { OnOk result
+            (length (owned_bytes self.old) + count ≤ owned_capacity self.new) }
+        ensures succeeds { length (owned_bytes self.old) + count ≤ owned_capacity self.old
+            → IsOk result }
         ensures capacity { owned_capacity self.old ≤ owned_capacity self.new }
     {
         self.bytes.reserve(count)
@@ -154,9 +156,10 @@ impl UnixString {
     /// After `reserve_exact(6)` a push of 6 bytes does not allocate.
     pub fn reserve_exact(&mut self, count: usize) -> Result<(), AllocError>
         ensures bytes { owned_bytes self.new ≡ owned_bytes self.old }
-        ensures ok { OnOk result
-            (owned_spare_capacity self.new ≡ max count (owned_spare_capacity self.old)) }
-        ensures succeeds { count ≤ owned_spare_capacity self.old → IsOk result }
+        ensures ok { OnOk result (owned_capacity self.new
+            ≡ max (length (owned_bytes self.old) + count) (owned_capacity self.old)) }
+        ensures succeeds { length (owned_bytes self.old) + count ≤ owned_capacity self.old
+            → IsOk result }
         ensures capacity { owned_capacity self.old ≤ owned_capacity self.new }
     {
         self.bytes.reserve_exact(count)
@@ -170,8 +173,9 @@ impl UnixString {
     /// For `foo` with the capacity 10, the new capacity is 3.
     pub fn shrink_to_fit(&mut self) -> Result<(), AllocError>
         ensures bytes { owned_bytes self.new ≡ owned_bytes self.old }
-        ensures ok { OnOk result (owned_spare_capacity self.new ≡ 0) }
-        ensures succeeds { owned_spare_capacity self.old ≡ 0 → IsOk result }
+        ensures ok { OnOk result (owned_capacity self.new ≡ length (owned_bytes self.old)) }
+        ensures succeeds { owned_capacity self.old ≡ length (owned_bytes self.old)
+            → IsOk result }
         ensures shrinks { owned_capacity self.new ≤ owned_capacity self.old }
     {
         self.shrink_to(0)

@@ -1,6 +1,6 @@
 //! Where results are in memory, as a caller can prove, and how long they live.
 ghost use Rattle.std.specs.Prelude.{◌≡◌, length, IfSome};
-ghost use Rattle.unix_path.specs.Slices.{BeginsAt, EndsAt, LiesIn, memory_offset};
+ghost use Rattle.unix_path.specs.Slices.{EndsAt, LiesIn, memory_offset};
 ghost use Rattle.unix_path.specs.Rest.{rest};
 
 use super::answers::assert_each;
@@ -12,7 +12,7 @@ use unix_path::{Ancestors, Component, Path};
 // `path` begins.
 fn grandparent<'a>(path: Path<'a>) -> Option<Path<'a>>
     ensures inside { IfSome result (λ p. LiesIn p.bytes path.entry.bytes) }
-    ensures start { IfSome result (λ p. BeginsAt p.bytes path.entry.bytes 0) }
+    ensures start { IfSome result (λ p. memory_offset p.bytes ≡ memory_offset path.entry.bytes) }
 {
     let Some(parent) = path.parent() else {
         return None;

@@ -1,7 +1,7 @@
 //! Joins of many paths, one after the other.
-ghost use Rattle.std.specs.Prelude.{ℕ, ◌≤◌, List, [], IfOk, OnOk, OnErr, IsOk};
+ghost use Rattle.std.specs.Prelude.{ℕ, ◌-◌, ◌≤◌, List, [], length, IfOk, OnOk, OnErr, IsOk};
 ghost use Rattle.std.specs.Iterator.{IsFinite};
-ghost use Rattle.unix_path.specs.Buffers.{path_bytes, spare_capacity, capacity, JoinsAll};
+ghost use Rattle.unix_path.specs.Buffers.{path_bytes, capacity, JoinsAll};
 ghost use Rattle.unix_path.specs.Buffers.{JoinsBeginning};
 ghost use Rattle.unix_path.specs.Buffers.{ItemsFit, JoinsFit};
 
@@ -43,7 +43,7 @@ impl PathBuf {
     /// one byte for each item, add up to at most the spare capacity.
     ///
     /// `a`, extended by `b`, `/c` and `d`, is `/c/d`.
-    #[tactic(auto, using(crate::proofs::lemmas::edits::SeparatorLemmas::join_all_of_snoc))]
+    #[tactic(auto, using(crate::proofs::lemmas::edits::SeparatorLemmas::joins_snoc))]
     pub fn extend<'a, I: Iterator<Item = Path<'a>>>(&mut self, items: I) -> Result<(), AllocError>
         requires can { I.can_next items }
         requires ends { IsFinite (I.remaining items) }
@@ -53,8 +53,8 @@ impl PathBuf {
             (path_bytes self.old) (path_bytes self.new) (capacity self.old)) }
         ensures succeeds { JoinsFit I.next_gives items (path_bytes self.old) (capacity self.old)
             → IsOk result }
-        ensures succeeds_in_spare_capacity { ItemsFit I.next_gives items (spare_capacity self.old)
-            → IsOk result }
+        ensures succeeds_in_spare_capacity { ItemsFit I.next_gives items
+            (capacity self.old - length (path_bytes self.old)) → IsOk result }
         ensures capacity { capacity self.old ≤ capacity self.new }
     {
         for item in items {

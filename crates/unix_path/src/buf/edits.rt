@@ -2,13 +2,13 @@
 //! extension.
 ghost use Rattle.std.specs.Prelude.{◌≡◌, ◌+◌, ◌^◌, ◌<◌, ◌≤◌, ◌++◌, length, take};
 ghost use Rattle.std.specs.Prelude.{false, [], IfOk, OnOk, OnErr, IsOk, is_some};
-ghost use Rattle.unix_bytes.specs.Owned.{owned_bytes, owned_spare_capacity, owned_capacity};
+ghost use Rattle.unix_bytes.specs.Owned.{owned_bytes, owned_capacity};
 ghost use Rattle.unix_path.specs.Buffers.{path_bytes, capacity};
 ghost use Rattle.unix_path.specs.Edits.{popped_of, with_name_of};
 ghost use Rattle.unix_path.specs.Joins.{needs_no_separator, join_of};
 ghost use Rattle.unix_path.specs.Parents.{parent_of};
 ghost use Rattle.unix_path.specs.Parts.{is_rooted};
-ghost use Rattle.unix_path.specs.Scan.{separator_bytes};
+ghost use Rattle.std.specs.Option.{option_to_list};
 
 use crate::buf::PathBuf;
 use crate::path::Path;
@@ -23,7 +23,7 @@ use unix_bytes::bytes::{UnixStr, UnixString};
 fn join_separator(base: &[u8], path: Path<'_>) -> Option<u8>
     requires { is_rooted path.bytes.now ≡ false }
     ensures { join_of base.now path.entry.bytes.now
-        ≡ (base.now ++ separator_bytes result) ++ path.entry.bytes.now }
+        ≡ (base.now ++ option_to_list result) ++ path.entry.bytes.now }
 {
     if needs_no_separator(base) {
         return None;
@@ -38,7 +38,7 @@ fn join_separator(base: &[u8], path: Path<'_>) -> Option<u8>
 fn join_cut(base: &[u8], path: Path<'_>) -> (usize, Option<u8>)
     ensures in_range { result.0 ≤ length base.now }
     ensures value { join_of base.now path.entry.bytes.now
-        ≡ (take result.0 base.now ++ separator_bytes result.1) ++ path.entry.bytes.now }
+        ≡ (take result.0 base.now ++ option_to_list result.1) ++ path.entry.bytes.now }
 {
     if path.has_root() {
         return (0, None);
@@ -50,7 +50,7 @@ fn join_cut(base: &[u8], path: Path<'_>) -> (usize, Option<u8>)
 #[inline]
 pub(super) fn total_len(keep: usize, separator: Option<u8>, more: &[u8]) -> usize
     requires { keep < 2 ^ 63 }
-    ensures { result ≡ keep + length (separator_bytes separator) + length more.now }
+    ensures { result ≡ keep + length (option_to_list separator) + length more.now }
 {
     match separator {
         Some(_) => keep + 1 + more.len(),
@@ -66,10 +66,9 @@ fn push_with_separator(
     more: &[u8],
 ) -> Result<(), AllocError>
     ensures ok { OnOk result
-        (owned_bytes text.new ≡ (owned_bytes text.old ++ separator_bytes separator) ++ more.now) }
-    ensures succeeds { length (separator_bytes separator ++ more.now)
-        ≤ owned_spare_capacity text.old
-        → IsOk result }
+        (owned_bytes text.new ≡ (owned_bytes text.old ++ option_to_list separator) ++ more.now) }
+    ensures succeeds { length ((owned_bytes text.old ++ option_to_list separator) ++ more.now)
+        ≤ owned_capacity text.old → IsOk result }
     ensures capacity { owned_capacity text.old ≤ owned_capacity text.new }
 {
     if let Some(byte) = separator {
@@ -87,8 +86,8 @@ pub(super) fn concat_with_separator(
     more: &[u8],
 ) -> Result<PathBuf, AllocError>
     ensures bytes { IfOk result
-        (λ p. path_bytes p ≡ (base.now ++ separator_bytes separator) ++ more.now) }
-    ensures succeeds { (base.now ++ separator_bytes separator) ++ more.now ≡ [] → IsOk result }
+        (λ p. path_bytes p ≡ (base.now ++ option_to_list separator) ++ more.now) }
+    ensures succeeds { (base.now ++ option_to_list separator) ++ more.now ≡ [] → IsOk result }
 {
     let mut inner = UnixString::with_capacity(alloc, total_len(base.len(), separator, more))?;
     inner.push(UnixStr::from_bytes(base))?;
@@ -199,11 +198,11 @@ impl PathBuf {
     ) -> Result<(), AllocError>
         requires { keep ≤ length (path_bytes self.old) }
         ensures ok { OnOk result
-            (path_bytes self.new ≡ (take keep (path_bytes self.old) ++ separator_bytes separator)
+            (path_bytes self.new ≡ (take keep (path_bytes self.old) ++ option_to_list separator)
             ++ more.now) }
         ensures err { OnErr result (path_bytes self.new ≡ path_bytes self.old) }
         ensures succeeds { length
-            ((take keep (path_bytes self.old) ++ separator_bytes separator) ++ more.now)
+            ((take keep (path_bytes self.old) ++ option_to_list separator) ++ more.now)
             ≤ capacity self.old → IsOk result }
         ensures capacity { capacity self.old ≤ capacity self.new }
     {

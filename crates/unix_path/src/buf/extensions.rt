@@ -7,7 +7,7 @@ ghost use Rattle.unix_path.specs.Edits.{dot_before, with_extension_of};
 ghost use Rattle.unix_path.specs.Extensions.{has_slash, added_extension_of};
 ghost use Rattle.unix_path.specs.Names.{file_name_of};
 ghost use Rattle.unix_path.specs.Parts.{values};
-ghost use Rattle.unix_path.specs.Scan.{separator_bytes};
+ghost use Rattle.std.specs.Option.{option_to_list};
 
 use crate::buf::PathBuf;
 use crate::buf::edits::{concat_with_separator, total_len};
@@ -158,11 +158,11 @@ impl PathBuf {
     ) -> Result<(), AllocError>
         requires { keep ≤ length (path_bytes self.old) }
         ensures ok { OnOk result
-            (path_bytes self.new ≡ (take keep (path_bytes self.old) ++ separator_bytes separator)
+            (path_bytes self.new ≡ (take keep (path_bytes self.old) ++ option_to_list separator)
             ++ more.now) }
         ensures err { OnErr result (path_bytes self.new ≡ path_bytes self.old) }
         ensures succeeds { length
-            ((take keep (path_bytes self.old) ++ separator_bytes separator) ++ more.now)
+            ((take keep (path_bytes self.old) ++ option_to_list separator) ++ more.now)
             ≤ capacity self.old → IsOk result }
         ensures capacity { capacity self.old ≤ capacity self.new }
     {

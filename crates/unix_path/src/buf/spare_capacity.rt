@@ -1,6 +1,6 @@
 //! Reserving and releasing the spare capacity of an owned path.
-ghost use Rattle.std.specs.Prelude.{◌≡◌, ◌≤◌, length, max, min, OnOk, IsOk};
-ghost use Rattle.unix_path.specs.Buffers.{path_bytes, spare_capacity, capacity};
+ghost use Rattle.std.specs.Prelude.{◌≡◌, ◌≤◌, ◌+◌, length, max, min, OnOk, IsOk};
+ghost use Rattle.unix_path.specs.Buffers.{path_bytes, capacity};
 
 use crate::buf::PathBuf;
 use std::alloc::AllocError;
@@ -15,8 +15,9 @@ impl PathBuf {
     /// After `reserve(6)` a push that adds 6 bytes does not allocate.
     pub fn reserve(&mut self, count: usize) -> Result<(), AllocError>
         ensures bytes { path_bytes self.new ≡ path_bytes self.old }
-        ensures ok { OnOk result (count ≤ spare_capacity self.new) }
-        ensures succeeds { count ≤ spare_capacity self.old → IsOk result }
+        ensures ok { OnOk result (length (path_bytes self.old) + count ≤ capacity self.new) }
+        ensures succeeds { length (path_bytes self.old) + count ≤ capacity self.old
+            → IsOk result }
         ensures capacity { capacity self.old ≤ capacity self.new }
     {
         self.inner.reserve(count)
@@ -31,8 +32,10 @@ impl PathBuf {
     /// After `reserve_exact(6)` a push that adds 6 bytes does not allocate.
     pub fn reserve_exact(&mut self, count: usize) -> Result<(), AllocError>
         ensures bytes { path_bytes self.new ≡ path_bytes self.old }
-        ensures ok { OnOk result (spare_capacity self.new ≡ max count (spare_capacity self.old)) }
-        ensures succeeds { count ≤ spare_capacity self.old → IsOk result }
+        ensures ok { OnOk result (capacity self.new
+            ≡ max (length (path_bytes self.old) + count) (capacity self.old)) }
+        ensures succeeds { length (path_bytes self.old) + count ≤ capacity self.old
+            → IsOk result }
         ensures capacity { capacity self.old ≤ capacity self.new }
     {
         self.inner.reserve_exact(count)
@@ -46,8 +49,8 @@ impl PathBuf {
     /// For `foo` with the capacity 10, the capacity is then 3.
     pub fn shrink_to_fit(&mut self) -> Result<(), AllocError>
         ensures bytes { path_bytes self.new ≡ path_bytes self.old }
-        ensures ok { OnOk result (spare_capacity self.new ≡ 0) }
-        ensures succeeds { spare_capacity self.old ≡ 0 → IsOk result }
+        ensures ok { OnOk result (capacity self.new ≡ length (path_bytes self.old)) }
+        ensures succeeds { capacity self.old ≡ length (path_bytes self.old) → IsOk result }
         ensures shrinks { capacity self.new ≤ capacity self.old }
     {
         self.inner.shrink_to_fit()

@@ -22,14 +22,12 @@ pub struct Iter<'a> {
 
 impl<'a> Iter<'a> {
     ghost use Rattle.unix_path.specs.Cursor.{cursor_rest, cursor_source, cursor_start};
-    ghost use Rattle.unix_path.specs.Cursor.{iter_rest, iter_source, iter_start};
+    ghost use Rattle.unix_path.specs.Cursor.{iter_cursor};
 
     // Returns the walk that yields the components that remain in `components`, as byte strings.
     #[inline]
     pub(crate) fn new(components: Components<'a>) -> Iter<'a>
-        ensures rest { iter_rest result ≡ cursor_rest components.entry }
-        ensures source { iter_source result ≡ cursor_source components.entry }
-        ensures start { iter_start result ≡ cursor_start components.entry }
+        ensures { iter_cursor result ≡ components.entry }
     {
         Iter { components }
     }
@@ -40,9 +38,9 @@ impl<'a> Iter<'a> {
     #[must_use]
     #[inline]
     pub fn as_path(&self) -> Path<'a>
-        ensures bytes { result.bytes.now ≡ iter_rest self.now }
-        ensures place { LiesIn result.bytes (iter_source self.now) }
-        ensures start { memory_offset result.bytes ≡ iter_start self.now }
+        ensures bytes { result.bytes.now ≡ cursor_rest (iter_cursor self.now) }
+        ensures place { LiesIn result.bytes (cursor_source (iter_cursor self.now)) }
+        ensures start { memory_offset result.bytes ≡ cursor_start (iter_cursor self.now) }
     {
         self.components.as_path()
     }

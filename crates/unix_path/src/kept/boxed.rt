@@ -1,11 +1,11 @@
 //! Boxed paths.
-ghost use Rattle.std.specs.Prelude.{◌≡◌, ◌↔◌, [], IsTrue, Some, IsOk, IfOk};
+ghost use Rattle.std.specs.Prelude.{◌≡◌, ◌↔◌, [], length, IsTrue, Some, IsOk, IfOk};
 ghost use Rattle.std.specs.Ordering.{is_eq};
 ghost use Rattle.std.specs.Cmp;
 ghost use Rattle.std.specs.Cmp.{eq_by_cmp_equiv, partial_order_from_total};
 ghost use Rattle.std.specs.Cmp.Rules.{comparing};
 ghost use Rattle.std.proofs.Common.{rules, ap};
-ghost use Rattle.unix_path.specs.Buffers.{path_bytes, spare_capacity};
+ghost use Rattle.unix_path.specs.Buffers.{path_bytes, capacity};
 ghost use Rattle.unix_path.specs.Hashed.{hash_input_of};
 ghost use Rattle.unix_path.specs.Pointers.{boxed_bytes, cow_bytes, IsBorrowed};
 ghost use Rattle.unix_path.specs.Order.{values_cmp};
@@ -57,7 +57,7 @@ impl BoxedPath {
     /// For `foo/` with the capacity 10 it is `foo/` in 4 bytes.
     pub fn from_path_buf(path: PathBuf) -> Result<BoxedPath, AllocError>
         ensures bytes { IfOk result (λ p. boxed_bytes p ≡ path_bytes path) }
-        ensures succeeds { spare_capacity path ≡ 0 → IsOk result }
+        ensures succeeds { capacity path ≡ length (path_bytes path) → IsOk result }
     {
         let mut path = path;
         path.shrink_to_fit()?;
@@ -74,8 +74,8 @@ impl BoxedPath {
     /// For a borrowed `foo/` it is a boxed `foo/`.
     pub fn from_cow(alloc: Global, path: CowPath<'_>) -> Result<BoxedPath, AllocError>
         ensures bytes { IfOk result (λ p. boxed_bytes p ≡ cow_bytes path.entry) }
-        ensures succeeds { (p : PathBuf) → path.entry ≡ CowPath.Owned p → spare_capacity p ≡ 0
-            → IsOk result }
+        ensures succeeds { (p : PathBuf) → path.entry ≡ CowPath.Owned p
+            → capacity p ≡ length (path_bytes p) → IsOk result }
         ensures succeeds_empty { IsBorrowed path.entry → cow_bytes path.entry ≡ [] → IsOk result }
     {
         match path {
@@ -133,7 +133,7 @@ impl PathBuf {
     #[must_use]
     pub fn into_boxed_path(self) -> Result<BoxedPath, AllocError>
         ensures bytes { IfOk result (λ p. boxed_bytes p ≡ path_bytes self) }
-        ensures succeeds { spare_capacity self ≡ 0 → IsOk result }
+        ensures succeeds { capacity self ≡ length (path_bytes self) → IsOk result }
     {
         BoxedPath::from_path_buf(self)
     }

@@ -5,7 +5,7 @@ ghost use Rattle.unix_bytes.specs.declared.bytes.UnixStr.{UnixStr};
 ghost use Rattle.unix_path.specs.Ancestors.{remaining_ancestors};
 ghost use Rattle.unix_path.specs.Cursor.{cursor_values, GivesFirstPart, GivesLastPart};
 ghost use Rattle.unix_path.specs.Cursor.{iter_bytes, name_bytes, GivesFirstName, GivesLastName};
-ghost use Rattle.unix_path.specs.Cursor.{cursor_rest, iter_rest};
+ghost use Rattle.unix_path.specs.Cursor.{cursor_rest, iter_cursor};
 ghost use Rattle.unix_path.specs.Views.{value_of};
 ghost use Rattle.unix_path.specs.CallsMixed.{EndsMeet, RestIsBetween};
 ghost use Rattle.unix_path.specs.declared.path.Path.{Path};
@@ -46,5 +46,6 @@ pub fn ends_meet()
     ensures parts { EndsMeet value_of cursor_values GivesFirstPart GivesLastPart }
     ensures rest { RestIsBetween cursor_rest GivesFirstPart GivesLastPart }
     ensures items { EndsMeet name_bytes iter_bytes GivesFirstName GivesLastName }
-    ensures items_rest { RestIsBetween iter_rest GivesFirstName GivesLastName }
+    ensures items_rest { RestIsBetween (λ it. cursor_rest (iter_cursor it))
+        GivesFirstName GivesLastName }
 {}

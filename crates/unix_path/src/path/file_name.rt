@@ -4,7 +4,7 @@ ghost use Rattle.unix_path.specs.Parts.{values};
 ghost use Rattle.unix_path.specs.Names.{file_name_of, stem_of, extension_of, file_prefix_of};
 ghost use Rattle.unix_path.specs.Edits.{before_name_of, stem_end_of};
 ghost use Rattle.unix_path.specs.Extensions.{name_end_of};
-ghost use Rattle.unix_path.specs.Slices.{BeginsAt, LiesIn};
+ghost use Rattle.unix_path.specs.Slices.{LiesIn, memory_offset};
 
 use crate::cursor::{Component, Components, split_last_root_or_name};
 use crate::filler::trimmed_len;
@@ -58,15 +58,16 @@ impl<'a> Path<'a> {
     /// Returns the part of the file name after its last dot, without the dot.
     ///
     /// Returns `None` if there is no file name, if it has no dot, or if its last dot is its first
-    /// byte.
+    /// byte. The result is a slice of the path's bytes, even if it is empty.
     ///
     /// For `foo.tar.gz` it is `gz`, and for `foo.` it is empty.
     #[must_use]
     #[inline]
     #[tactic(auto, using(crate::proofs::lemmas::names::NameStemLemmas::extensions))]
     pub fn extension(&self) -> Option<UnixStr<'a>>
-        ensures { option_map (λ part. part.bytes.now) result
+        ensures value { option_map (λ part. part.bytes.now) result
             ≡ extension_of (values self.now.bytes.now) }
+        ensures place { IfSome result (λ part. LiesIn part.bytes self.now.bytes) }
     {
         let Some(end) = self.name_end() else {
             return None;
@@ -110,7 +111,7 @@ impl<'a> Path<'a> {
         ensures value { result.bytes.now ≡ before_name_of self.now.bytes.now }
         ensures begins { take (length result.bytes.now) self.now.bytes.now ≡ result.bytes.now }
         ensures place { LiesIn result.bytes self.now.bytes }
-        ensures start { BeginsAt result.bytes self.now.bytes 0 }
+        ensures start { memory_offset result.bytes ≡ memory_offset self.now.bytes }
     {
         let Some(end) = self.name_end() else {
             return *self;

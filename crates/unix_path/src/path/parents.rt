@@ -1,7 +1,7 @@
 //! The parent of a path, and its ancestors.
 ghost use Rattle.std.specs.Prelude.{◌≡◌, ◌<◌, ◌≤◌, ◌^◌, length, take, option_map, IfSome};
 ghost use Rattle.unix_path.specs.Parents.{parent_of, ancestors_of};
-ghost use Rattle.unix_path.specs.Slices.{BeginsAt, LiesIn};
+ghost use Rattle.unix_path.specs.Slices.{LiesIn, memory_offset};
 
 use crate::cursor::{Ancestors, Component, Components};
 use crate::path::Path;
@@ -21,7 +21,8 @@ impl<'a> Path<'a> {
     pub fn parent(&self) -> Option<Path<'a>>
         ensures value { option_map (λ path. path.bytes.now) result ≡ parent_of self.now.bytes.now }
         ensures place { IfSome result (λ path. LiesIn path.bytes self.now.bytes) }
-        ensures start { IfSome result (λ path. BeginsAt path.bytes self.now.bytes 0) }
+        ensures start { IfSome result (λ path.
+            memory_offset path.bytes ≡ memory_offset self.now.bytes) }
     {
         match self.parent_len() {
             Some(len) => Some(Path {

@@ -4,13 +4,14 @@ use Rattle.std.proofs.iter.Yields.{gives_Drains}
 use Rattle.std.proofs.lemmas.Iterator.{YieldsList, YieldsList-from_map_by}
 use Rattle.std.proofs.lemmas.Iterator.Consumers.{YieldsList-at}
 use Rattle.std.proofs.lemmas.Result.{IfOk-weaker}
+use Rattle.std.specs.Prelude.{fold}
 use Rattle.unix_path.specs.Cursor.{cursor_rest, cursor_values}
-use Rattle.unix_path.specs.Joins.{join_all_of}
+use Rattle.unix_path.specs.Joins.{join_of}
 use Rattle.unix_path.specs.Parts.{value_bytes}
 use Rattle.unix_path.specs.declared.path.Path.{Path}
 use Rattle.unix_path.proofs.lemmas.walks.CursorLemmas.{Components-yields}
 use Rattle.path_runs.proofs.lemmas.joins.ExtendLemmas.{JoinsFit-none}
-use Rattle.path_runs.proofs.lemmas.spelling.JoinAllLemmas.{join_all_of-values}
+use Rattle.path_runs.proofs.lemmas.spelling.JoinAllLemmas.{joins-values}
 use Rattle.path_runs.proofs.canonical.collected.Goals as goal
 
 map-Drains : {S A B : Type 0} {steps : S → Option A → S → Type 0} (v : A → B) (xs : List A)
@@ -33,10 +34,10 @@ returns-clause-bytes c =
     let bytes_of : Path → List ℕ = λ path. path.bytes.now in
     let walk = c.args.components in
     IfOk-weaker c.from_iter.result _ _ (λ p joins. joins.bytes
-    ∙ ap (join_all_of []) (map-Drains bytes_of joins.paths (map value_bytes (cursor_values walk))
+    ∙ ap (fold join_of []) (map-Drains bytes_of joins.paths (map value_bytes (cursor_values walk))
     joins.all_items
     (YieldsList-from_map_by _ bytes_of value_bytes
     (YieldsList-at c.map.ensures.source (Components-yields walk))
     c.map.ensures.closure
     (λ x r q k. search (rules, tests))))
-    ∙ join_all_of-values (cursor_rest walk)) c.from_iter.ensures.ok
+    ∙ joins-values (cursor_rest walk)) c.from_iter.ensures.ok

@@ -9,8 +9,9 @@ use Rattle.std.proofs.lemmas.List.{map-append}
 use Rattle.std.proofs.lemmas.Option.{get_or_from_slice_get, slice_get_within}
 use Rattle.std.proofs.Math.Seq.{split_at}
 use Rattle.std.proofs.iter.runs.Made.{took}
+use Rattle.std.specs.Prelude.{fold}
 use Rattle.unix_path.specs.Buffers.{bytes_of_each, JoinsBeginning, JoinsFit}
-use Rattle.unix_path.specs.Joins.{join_of, join_all_of}
+use Rattle.unix_path.specs.Joins.{join_of}
 use Rattle.unix_path.specs.Parts.{is_rooted}
 use Rattle.unix_path.specs.declared.path.Path.{Path}
 use Rattle.unix_path.proofs.lemmas.edits.JoinLemmas.{length-join_of_no_separator}
@@ -26,18 +27,18 @@ length-join_of : (a b : List ℕ) → is_rooted b ≡ false → length a ≤ len
 length-join_of a b r = grind (arith, length-join_of_no_separator, length-join_of_separator)
 
 -- if none of the paths bs has a root, a joined with all of them has at least as many bytes as a
-length-join_all_of : (a : List ℕ) (bs : List (List ℕ)) → AllRootless bs
-    → length a ≤ length (join_all_of a bs)
-length-join_all_of a [] h = omega arith
-length-join_all_of a (b ∷ bs) h =
-    omega (arith, length-join_of a b h.0, length-join_all_of (join_of a b) bs h.1)
+length-joins : (a : List ℕ) (bs : List (List ℕ)) → AllRootless bs
+    → length a ≤ length (fold join_of a bs)
+length-joins a [] h = omega arith
+length-joins a (b ∷ bs) h =
+    omega (arith, length-join_of a b h.0, length-joins (join_of a b) bs h.1)
 
 -- joining two lists of paths, one after the other, to a is the same as joining the first list to a,
 -- and then the second to the result
-pub join_all_of-append : (a : List ℕ) (bs cs : List (List ℕ))
-    → join_all_of a (bs ++ cs) ≡ join_all_of (join_all_of a bs) cs
-join_all_of-append a [] cs = refl
-join_all_of-append a (b ∷ bs) cs = join_all_of-append (join_of a b) bs cs
+pub joins-append : (a : List ℕ) (bs cs : List (List ℕ))
+    → fold join_of a (bs ++ cs) ≡ fold join_of (fold join_of a bs) cs
+joins-append a [] cs = refl
+joins-append a (b ∷ bs) cs = joins-append (join_of a b) bs cs
 
 -- if y is the item of xs at index n, xs is its items before n, then y, and then its items after n
 slice_get-split : {X : Type 0} (xs : List X) (n : ℕ) (y : X) → slice_get xs n ≡ Some y
@@ -50,8 +51,8 @@ slice_get-split xs n y e = split_at xs n y (slice_get_within xs n y e)
 length-join_of_next : (old : List ℕ) (all xs : List Path) (x : Path)
     → map (λ x. x) xs ≡ take (length xs) all → Some x ≡ slice_get all (length xs)
     → AllRootless (bytes_of_each all)
-    → length (join_of (join_all_of old (bytes_of_each xs)) x.bytes.now)
-    ≤ length (join_all_of old (bytes_of_each all))
+    → length (join_of (fold join_of old (bytes_of_each xs)) x.bytes.now)
+    ≤ length (fold join_of old (bytes_of_each all))
 length-join_of_next old all xs x prefix at h =
     let rest = drop (suc (length xs)) all in
     let before = bytes_of_each xs in
@@ -61,8 +62,8 @@ length-join_of_next old all xs x prefix at h =
       map-id xs,
       map-append (λ x. x.bytes.now) xs (x ∷ rest),
       AllByRecursion-end,
-      join_all_of-append old before onward,
-      length-join_all_of,
+      joins-append old before onward,
+      length-joins,
     )
 
 -- if the iterator `items` yields the paths `all`, none of which has a root, and its first paths up
@@ -71,7 +72,7 @@ length-join_of_next old all xs x prefix at h =
 pub JoinsBeginning-exceeds : {S : Type 0} {steps : S → Option Path → S → Type 0} {items : S}
     {all : List Path} (old new : List ℕ) (max_len : ℕ) → YieldsList steps (λ x. x) items all
     → AllRootless (bytes_of_each all) → JoinsBeginning steps items old new max_len
-    → max_len < length (join_all_of old (bytes_of_each all))
+    → max_len < length (fold join_of old (bytes_of_each all))
 JoinsBeginning-exceeds {all = all} old new max_len yields h e =
     let prefix = YieldsList-so_far yields e.paths e.items_before.0 e.items_before.1 in
     let at =
@@ -94,4 +95,4 @@ JoinsFit-none {steps = steps} v ys none yields run met from =
     let so_far = YieldsList-so_far (subst (λ s. YieldsList steps v s ys) (sym from) yields)
     run.items gave.0 gave.1 in
     let nothing = no_items v run.items (so_far ∙ ap (take (length run.items)) none) in
-    omega (arith, ap (λ paths. length (join_all_of [] (bytes_of_each paths))) nothing)
+    omega (arith, ap (λ paths. length (fold join_of [] (bytes_of_each paths))) nothing)

@@ -4,8 +4,9 @@
 use Rattle.std.proofs.Common.{◌≡◌, ℕ, true, false, List, [], ◌∷◌, ◌++◌, map, refl, sym, ap, ◌∙◌}
 use Rattle.std.proofs.Common.{append_assoc, arith}
 use Rattle.std.specs.List.{AllByRecursion, join_with_byte}
+use Rattle.std.specs.Prelude.{fold}
 use Rattle.unix_path.specs.Parts.{slash, Value, value_bytes, values}
-use Rattle.unix_path.specs.Joins.{needs_no_separator, join_all_of}
+use Rattle.unix_path.specs.Joins.{needs_no_separator, join_of}
 use Rattle.unix_path.proofs.lemmas.edits.JoinLemmas.{join_of_rooted, join_of_separator}
 use Rattle.path_runs.specs.Spelling.{slashed_bytes, spelling_of}
 use Rattle.path_runs.proofs.lemmas.joins.AssociativeLemmas.{separator, join_of-separator}
@@ -34,38 +35,38 @@ AllUnslashed bs = AllByRecursion IsUnslashed bs
 
 -- if a isn't empty and doesn't end in a slash, and all paths bs are unslashed, a joined with each
 -- of bs, one after the other, is a and bs with slashes between them
-join_all_of-closed : (a : List ℕ) (bs : List (List ℕ)) → needs_no_separator a ≡ false
+joins-closed : (a : List ℕ) (bs : List (List ℕ)) → needs_no_separator a ≡ false
     → AllUnslashed bs
-    → join_all_of a bs ≡ join_with_byte slash (a ∷ bs)
-join_all_of-closed a [] o h = refl
-join_all_of-closed a (b ∷ bs) o h =
-    ap (λ c. join_all_of c bs) (join_of_separator a b h.0.rootless o)
-    ∙ join_all_of-closed ((a ++ slash ∷ []) ++ b) bs
+    → fold join_of a bs ≡ join_with_byte slash (a ∷ bs)
+joins-closed a [] o h = refl
+joins-closed a (b ∷ bs) o h =
+    ap (λ c. fold join_of c bs) (join_of_separator a b h.0.rootless o)
+    ∙ joins-closed ((a ++ slash ∷ []) ++ b) bs
     (needs_no_separator-append_closed (a ++ slash ∷ []) b h.0.closed) h.1
     ∙ join_with_byte-onto (a ++ slash ∷ []) b bs
     ∙ append_assoc a (slash ∷ []) (join_with_byte slash (b ∷ bs))
 
 -- if b and all paths bs are unslashed, a joined with each of them, one after the other, is a, a
 -- slash unless a is empty or ends in one, and then b and bs with slashes between them
-pub join_all_of-some : (a b : List ℕ) (bs : List (List ℕ)) → AllUnslashed (b ∷ bs)
-    → join_all_of a (b ∷ bs) ≡ (a ++ separator a) ++ join_with_byte slash (b ∷ bs)
-join_all_of-some a b bs h =
-    ap (λ c. join_all_of c bs) (join_of-separator a b h.0.rootless)
-    ∙ join_all_of-closed ((a ++ separator a) ++ b) bs
+pub joins-some : (a b : List ℕ) (bs : List (List ℕ)) → AllUnslashed (b ∷ bs)
+    → fold join_of a (b ∷ bs) ≡ (a ++ separator a) ++ join_with_byte slash (b ∷ bs)
+joins-some a b bs h =
+    ap (λ c. fold join_of c bs) (join_of-separator a b h.0.rootless)
+    ∙ joins-closed ((a ++ separator a) ++ b) bs
     (needs_no_separator-append_closed (a ++ separator a) b h.0.closed) h.1
     ∙ join_with_byte-onto (a ++ separator a) b bs
 
-join_all_of-unslashed : (bs : List (List ℕ)) → AllUnslashed bs
-    → join_all_of [] bs ≡ join_with_byte slash bs
-join_all_of-unslashed [] h = refl
-join_all_of-unslashed (b ∷ bs) h = join_all_of-some [] b bs h
+joins-unslashed : (bs : List (List ℕ)) → AllUnslashed bs
+    → fold join_of [] bs ≡ join_with_byte slash bs
+joins-unslashed [] h = refl
+joins-unslashed (b ∷ bs) h = joins-some [] b bs h
 
 -- if all paths bs are unslashed, the root joined with each of bs, one after the other, is a slash,
 -- followed by bs with slashes between them
-join_all_of-root : (bs : List (List ℕ)) → AllUnslashed bs
-    → join_all_of [] ((slash ∷ []) ∷ bs) ≡ slash ∷ join_with_byte slash bs
-join_all_of-root [] h = join_of_rooted [] (slash ∷ []) refl
-join_all_of-root (b ∷ bs) h = grind (arith, join_of_rooted, join_all_of-some)
+joins-root : (bs : List (List ℕ)) → AllUnslashed bs
+    → fold join_of [] ((slash ∷ []) ∷ bs) ≡ slash ∷ join_with_byte slash bs
+joins-root [] h = join_of_rooted [] (slash ∷ []) refl
+joins-root (b ∷ bs) h = grind (arith, join_of_rooted, joins-some)
 
 pub unslashed_bytes : (vs : List Value) → AllByRecursion IsUnslashedValue vs
     → AllUnslashed (map value_bytes vs)
@@ -82,14 +83,14 @@ spelling_of-unslashed (v ∷ vs) h = grind arith
 
 -- the empty path, joined with the bytes of each component of s, one after the other, is the
 -- canonical form of s
-pub join_all_of-values : (s : List ℕ)
-    → join_all_of [] (map value_bytes (values s)) ≡ spelling_of (values s)
-join_all_of-values s = by (values-shape s)
+pub joins-values : (s : List ℕ)
+    → fold join_of [] (map value_bytes (values s)) ≡ spelling_of (values s)
+joins-values s = by (values-shape s)
   where
-    by : Shape (values s) → join_all_of [] (map value_bytes (values s)) ≡ spelling_of (values s)
-    by (Rooted ws e h) = ap (λ vs. join_all_of [] (map value_bytes vs)) e
-        ∙ join_all_of-root (map value_bytes ws) (unslashed_bytes ws h)
+    by : Shape (values s) → fold join_of [] (map value_bytes (values s)) ≡ spelling_of (values s)
+    by (Rooted ws e h) = ap (λ vs. fold join_of [] (map value_bytes vs)) e
+        ∙ joins-root (map value_bytes ws) (unslashed_bytes ws h)
         ∙ sym (ap spelling_of e ∙ spelling_of-root ws)
-    by (Rootless h) = join_all_of-unslashed (map value_bytes (values s))
+    by (Rootless h) = joins-unslashed (map value_bytes (values s))
         (unslashed_bytes (values s) h)
         ∙ sym (spelling_of-unslashed (values s) h)

@@ -2,14 +2,15 @@
 use Rattle.std.proofs.Common.{◌≡◌, ◌≢◌, ℕ, List, [], ◌∷◌, ◌++◌, map, true, false, refl, sym, ap}
 use Rattle.std.proofs.Common.{◌∙◌}
 use Rattle.std.proofs.lemmas.List.{map-append}
-use Rattle.unix_path.specs.Joins.{join_of, join_all_of}
+use Rattle.std.specs.Prelude.{fold}
+use Rattle.unix_path.specs.Joins.{join_of}
 use Rattle.unix_path.specs.Parts.{is_rooted, value_bytes, values}
 use Rattle.unix_path.specs.Prefixes.{stripped_of}
 use Rattle.unix_path.proofs.lemmas.parts.PartLemmas.{values-nil}
 use Rattle.path_runs.specs.JoinLaws.{drop_dot}
 use Rattle.path_runs.proofs.lemmas.joins.AssociativeLemmas.{join_of-nil, join_of-separator}
-use Rattle.path_runs.proofs.lemmas.joins.ExtendLemmas.{join_all_of-append}
-use Rattle.path_runs.proofs.lemmas.spelling.JoinAllLemmas.{join_all_of-values}
+use Rattle.path_runs.proofs.lemmas.joins.ExtendLemmas.{joins-append}
+use Rattle.path_runs.proofs.lemmas.spelling.JoinAllLemmas.{joins-values}
 use Rattle.path_runs.proofs.lemmas.joins.LeadLemmas.{values-join_of_values_added}
 use Rattle.path_runs.proofs.lemmas.joins.StripLemmas.{values-join_of_stripped}
 use Rattle.path_within.specs.Below.{below_of, names_below, GoesDown}
@@ -28,9 +29,9 @@ use Rattle.path_within.proofs.lemmas.stack.ResolveLemmas.{values-resolved}
 use Rattle.path_within.proofs.lemmas.below.WithinLemmas.{resolved_of-within}
 
 -- joining the resolved components of a path, one after the other, results in its resolved bytes
-join_all_of-resolved : (s : List ℕ)
-    → join_all_of [] (map value_bytes (resolved_of (values s))) ≡ resolved_bytes_of s
-join_all_of-resolved s = cc (values-resolved s, join_all_of-values (resolved_bytes_of s))
+joins-resolved : (s : List ℕ)
+    → fold join_of [] (map value_bytes (resolved_of (values s))) ≡ resolved_bytes_of s
+joins-resolved s = cc (values-resolved s, joins-values (resolved_bytes_of s))
 
 -- if the request b does not escape, the join of the resolved root a and the names of b is the
 -- resolved join of a and b
@@ -40,12 +41,12 @@ unfolding below_of
 below_of-within a b h =
     let vs = resolved_of (values a) in
     let ws = resolved_of (values b) in
-    sym (sym (join_all_of-resolved (join_of a b))
-    ∙ ap (λ vs. join_all_of [] (map value_bytes vs)) (resolved_of-within a b h)
-    ∙ ap (join_all_of []) (map-append value_bytes vs ws)
-    ∙ join_all_of-append [] (map value_bytes vs) (map value_bytes ws)
-    ∙ ap (λ s. join_all_of s (map value_bytes ws)) (join_all_of-resolved a)
-    ∙ ap (λ ws. join_all_of (resolved_bytes_of a) (map value_bytes ws))
+    sym (sym (joins-resolved (join_of a b))
+    ∙ ap (λ vs. fold join_of [] (map value_bytes vs)) (resolved_of-within a b h)
+    ∙ ap (fold join_of []) (map-append value_bytes vs ws)
+    ∙ joins-append [] (map value_bytes vs) (map value_bytes ws)
+    ∙ ap (λ s. fold join_of s (map value_bytes ws)) (joins-resolved a)
+    ∙ ap (λ ws. fold join_of (resolved_bytes_of a) (map value_bytes ws))
     (sym (names_below-resolved b h)))
 
 -- if `rest` has neither a root nor a `..`, its join to `root` has the components of `root` and then

@@ -4,12 +4,13 @@ use Rattle.std.proofs.Common.{◌≡◌, ℕ, ◌+◌, ◌≤◌, ◌<◌, true,
 use Rattle.std.proofs.Common.{refl, sym, ap, subst, ◌∙◌, arith, append_assoc, append-nil}
 use Rattle.std.proofs.Common.{◌-◌, drop, take, length-append, take-append-drop, rules}
 use Rattle.std.specs.List.{AllByRecursion}
-use Rattle.unix_path.specs.Joins.{join_of, join_all_of}
+use Rattle.std.specs.Prelude.{fold}
+use Rattle.unix_path.specs.Joins.{join_of}
 use Rattle.unix_path.specs.Parts.{Value, RootDir, Normal, is_rooted, slash, value_bytes, values}
 use Rattle.unix_path.specs.Prefixes.{IsPrefixOf, stripped_of}
 use Rattle.path_runs.specs.Spelling.{slashed_bytes}
 use Rattle.path_runs.proofs.lemmas.joins.AssociativeLemmas.{separator}
-use Rattle.path_runs.proofs.lemmas.spelling.JoinAllLemmas.{join_all_of-some, unslashed_bytes}
+use Rattle.path_runs.proofs.lemmas.spelling.JoinAllLemmas.{joins-some, unslashed_bytes}
 use Rattle.path_runs.proofs.lemmas.spelling.UnslashedLemmas.{IsUnslashedValue, Shape, Rooted}
 use Rattle.path_runs.proofs.lemmas.spelling.UnslashedLemmas.{Rootless, values-shape}
 use Rattle.path_runs.proofs.lemmas.joins.SiblingLemmas.{values-join_of_one}
@@ -59,7 +60,7 @@ unslashed_names b = by (subst Shape (values-rooted b) (values-shape (rooted b)))
 -- if vs is empty, the join of the root and vs is the root
 pub below_of-nil : {vs : List Value} (root : List ℕ) → vs ≡ [] → below_of root vs ≡ root
 unfolding below_of
-below_of-nil root e = ap (λ vs. join_all_of root (map value_bytes vs)) e
+below_of-nil root e = ap (λ vs. fold join_of root (map value_bytes vs)) e
 
 -- none of the last n resolved names of a path begins or ends with a slash
 pub unslashed_last : (n : ℕ) (b : List ℕ)
@@ -76,7 +77,7 @@ pub below_of-some : (root : List ℕ) (vs : List Value) → AllByRecursion IsUns
     → 0 < length vs → below_of root vs ≡ root_prefix root ++ slashed_bytes vs
 unfolding below_of
 below_of-some root [] h some = absurd (omega arith)
-below_of-some root (v ∷ vs) h some = grind (arith, join_all_of-some, unslashed_bytes)
+below_of-some root (v ∷ vs) h some = grind (arith, joins-some, unslashed_bytes)
 
 -- if the bytes `names` are the resolved names of b, verbatim, the join of the root and the resolved
 -- names of b is the root prefix and then these bytes

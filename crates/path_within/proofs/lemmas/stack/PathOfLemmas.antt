@@ -6,14 +6,15 @@ use Rattle.std.specs.List.{slice_split}
 use Rattle.std.proofs.lemmas.Grind.{reverse_onto}
 use Rattle.std.proofs.lemmas.List.Elements.{All-from_recursion}
 use Rattle.std.proofs.lemmas.List.Splits.{slice_split_none}
-use Rattle.unix_path.specs.Joins.{join_of, join_all_of}
+use Rattle.std.specs.Prelude.{fold}
+use Rattle.unix_path.specs.Joins.{join_of}
 use Rattle.unix_path.specs.Parts.{is_slash, dot, is_rooted, value_of_piece, Value, RootDir, CurDir}
 use Rattle.unix_path.specs.Parts.{ParentDir, Normal, value_bytes, values}
 use Rattle.unix_path.proofs.lemmas.edits.JoinLemmas.{join_of_rooted}
 use Rattle.unix_path.proofs.lemmas.parts.PartLemmas.{root_first, root_first-values, values-nil}
 use Rattle.unix_path.proofs.lemmas.parts.ValueLemmas.{value_bytes-piece}
 use Rattle.path_runs.specs.Spelling.{spelling_of}
-use Rattle.path_runs.proofs.lemmas.spelling.JoinAllLemmas.{join_all_of-values}
+use Rattle.path_runs.proofs.lemmas.spelling.JoinAllLemmas.{joins-values}
 use Rattle.path_runs.proofs.lemmas.joins.LeadLemmas.{IsInner, inner-no_lead}
 use Rattle.path_runs.proofs.lemmas.joins.LeadLemmas.{append_values-inner, values-join_of_rootless}
 use Rattle.path_runs.proofs.lemmas.spelling.PieceValueLemmas.{HoldsOfPieces, names_of, NoSlash}
@@ -93,14 +94,14 @@ values-path_of (Normal name ∷ ks) h k =
 
 -- joining the bytes of a stack's components, the lowest one first, and then the bytes of vs makes
 -- the same path as joining the bytes of vs to the path of the stack
-join_all_of-reverse : (ks vs : List Value)
-    → join_all_of [] (map value_bytes (reverse_aux ks vs))
-    ≡ join_all_of (path_of ks) (map value_bytes vs)
-join_all_of-reverse [] vs = refl
-join_all_of-reverse (k ∷ ks) vs = join_all_of-reverse ks (k ∷ vs)
+joins-reverse : (ks vs : List Value)
+    → fold join_of [] (map value_bytes (reverse_aux ks vs))
+    ≡ fold join_of (path_of ks) (map value_bytes vs)
+joins-reverse [] vs = refl
+joins-reverse (k ∷ ks) vs = joins-reverse ks (k ∷ vs)
 
 -- if each component of a stack reads as itself, the path of the stack is the canonical form of
 -- these components, the lowest one first
 pub path_of-spelled : (ks : List Value) → IsStack ks → ReadsAsItself ks
     → path_of ks ≡ spelling_of (reverse ks)
-path_of-spelled ks h k = grind (arith, values-path_of, join_all_of-reverse, join_all_of-values)
+path_of-spelled ks h k = grind (arith, values-path_of, joins-reverse, joins-values)

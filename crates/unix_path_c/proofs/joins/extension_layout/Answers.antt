@@ -1,5 +1,5 @@
 use Rattle.std.proofs.Common.{sym, ◌∙◌}
-use Rattle.unix_path.specs.Scan.{separator_bytes}
+use Rattle.std.specs.Option.{option_to_list}
 use Rattle.unix_path.proofs.lemmas.edits.EditLemmas.{with_extension_of-none, with_extension_of-some}
 use Rattle.unix_path_c.proofs.joins.extension_layout.Goals as goal
 
@@ -11,5 +11,5 @@ returns-in_default c = c.unchanged_layout.ensures
 pub returns : goal.returns
 returns c =
     sym (with_extension_of-some c.args.path.bytes.now c.args.extension.now
-    (separator_bytes c.dot_before.result) c.in-Some.end c.in-Some.ensures.value
+    (option_to_list c.dot_before.result) c.in-Some.end c.in-Some.ensures.value
     c.dot_before.ensures)

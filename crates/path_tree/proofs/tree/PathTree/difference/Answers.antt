@@ -3,8 +3,9 @@ use Rattle.std.proofs.Common.{arith}
 use Rattle.std.proofs.Common.{◌≡◌, ◌∷◌, ◌++◌, ◌∙◌, ℕ, false, true, List, ap, map, rules, subst}
 use Rattle.std.proofs.Common.{sym}
 use Rattle.std.specs.Option.{is_some}
+use Rattle.std.specs.Map.Iter.{deref_pair}
 use Rattle.path_tree.specs.Cursor.{cursor_entries}
-use Rattle.path_tree.specs.Difference.{borrowed_entry, entries_lacking}
+use Rattle.path_tree.specs.Difference.{entries_lacking}
 use Rattle.path_tree.specs.Rows.{entry_at, key_entries}
 use Rattle.path_tree.specs.Tree.{entries_of}
 use Rattle.path_tree.proofs.lemmas.rows.EntryLemmas.{sorted-key_entries}
@@ -26,7 +27,7 @@ loop-key-init g c =
       subst (λ l. Merges other now (key_entries l)) (sym all)
           (merges_first other now (entries_of tree) c.merge_cursor-others.ensures
           (sorted-key_entries tree.entries.entries c.iter-key-items.ensures.ordered)),
-      ap (λ items. map borrowed_entry items ++ entries_lacking other (key_entries all_left))
+      ap (λ items. map deref_pair items ++ entries_lacking other (key_entries all_left))
           c.new-found.ensures.items
           ∙ ap (λ entries. entries_lacking other (key_entries entries)) all,
     )
@@ -38,7 +39,7 @@ loop-key-preserved-in-Continue-1 g c =
     let key = c.in-Some.key.now in
     let e : List ℕ × g.row.V.Denot = (key.items, c.in-Some.value.now) in
     let now = cursor_entries c.loop-key.others in
-    let found = map borrowed_entry c.loop-key.found.items in
+    let found = map deref_pair c.loop-key.found.items in
     let later = entries_lacking other (key_entries rest) in
     let steps : c.loop-key.key-iterator ≡ (key, c.in-Some.value.now) ∷ rest = search rules in
     let h : Merges other now (e ∷ key_entries rest) =
@@ -48,8 +49,8 @@ loop-key-preserved-in-Continue-1 g c =
       tt,
       tt,
       merges_more other now _ e.0 c.find.ensures.greater e.1 (key_entries rest) h,
-      ap (λ items. map borrowed_entry items ++ later) c.in_ok-push.ensures.items
-          ∙ map_push-append borrowed_entry c.loop-key.found.items
+      ap (λ items. map deref_pair items ++ later) c.in_ok-push.ensures.items
+          ∙ map_push-append deref_pair c.loop-key.found.items
           (c.as_slice.result, c.in-Some.value) later
           ∙ ap (λ k. found ++ (k, c.in-Some.value.now) ∷ later) c.as_slice.ensures.value
           ∙ ap (λ es. found ++ es) (sym (lacks_entry other e (key_entries rest) lacks))
@@ -67,7 +68,7 @@ loop-key-preserved g c =
     let key = c.in-Some.key.now in
     let e : List ℕ × g.row.V.Denot = (key.items, c.in-Some.value.now) in
     let now = cursor_entries c.loop-key.others in
-    let found = map borrowed_entry c.loop-key.found.items in
+    let found = map deref_pair c.loop-key.found.items in
     let steps : c.loop-key.key-iterator ≡ (key, c.in-Some.value.now) ∷ rest = search rules in
     let h : Merges other now (e ∷ key_entries rest) =
     subst (λ l. Merges other now (key_entries l)) steps c.loop-key.invariant.2 in

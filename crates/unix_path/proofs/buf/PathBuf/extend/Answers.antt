@@ -1,8 +1,8 @@
 use Rattle.std.proofs.Common.{ap, arith, length}
 use Rattle.std.proofs.lemmas.Bool.{false≢true}
-use Rattle.unix_path.specs.Buffers.{path_bytes, spare_capacity, capacity}
+use Rattle.unix_path.specs.Buffers.{path_bytes, capacity}
 use Rattle.unix_path.specs.Joins.{join_of}
-use Rattle.unix_path.proofs.lemmas.edits.SeparatorLemmas.{JoinsFit-next, JoinsFit-spare_capacity}
+use Rattle.unix_path.proofs.lemmas.edits.SeparatorLemmas.{JoinsFit-next, JoinsFit-lengths}
 use Rattle.unix_path.proofs.buf.PathBuf.extend.Goals as goal
 
 pub returns-in_err-push-clause-succeeds_in_spare_capacity :
@@ -10,7 +10,7 @@ pub returns-in_err-push-clause-succeeds_in_spare_capacity :
 returns-in_err-push-clause-succeeds_in_spare_capacity g c = λ fits.
     let old = path_bytes c.args.self.now in
     let joined = JoinsFit-next old (capacity c.args.self.now)
-    (JoinsFit-spare_capacity old (spare_capacity c.args.self.now) fits)
+    (JoinsFit-lengths old (capacity c.args.self.now) (omega arith) fits)
     c.into_iter-item-iterator.ensures.into_iter_gives c.loop-item.yielded
     c.loop-item.item-iterator c.next.new.self c.in-Some.item c.loop-item.yielded_by
     c.in-Some.ensures.steps in

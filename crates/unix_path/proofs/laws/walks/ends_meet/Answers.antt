@@ -1,7 +1,8 @@
 use Rattle.std.proofs.Common.{length, sym, ap, ◌∙◌}
 use Rattle.std.proofs.lemmas.List.{length-map, nil_from_length}
 use Rattle.unix_path.specs.Cursor.{cursor_rest, cursor_values, GivesFirstPart, GivesLastPart}
-use Rattle.unix_path.specs.Cursor.{iter_bytes, iter_rest, name_bytes, GivesFirstName, GivesLastName}
+use Rattle.unix_path.specs.Cursor.{iter_bytes, iter_cursor, name_bytes, GivesFirstName}
+use Rattle.unix_path.specs.Cursor.{GivesLastName}
 use Rattle.unix_path.specs.Views.{value_of}
 use Rattle.unix_path.specs.Parts.{value_bytes}
 use Rattle.unix_path.proofs.lemmas.walks.MixedLemmas.{ends_meet, none-cursor_rest, rest_between}
@@ -25,7 +26,8 @@ returns-clause-rest c =
 
 pub returns-clause-items_rest : goal.returns-clause-items_rest
 returns-clause-items_rest c =
-    rest_between name_bytes iter_bytes iter_rest GivesFirstName GivesLastName
+    rest_between name_bytes iter_bytes (λ it. cursor_rest (iter_cursor it)) GivesFirstName
+    GivesLastName
     (λ s t item h. h.item_is) (λ s t item h. h.item_is)
     (λ s t item h. h.rest_is) (λ s t item h. h.rest_is)
     (λ it. cursor_rest-whole it.components)
