@@ -1,7 +1,7 @@
 -- Laws of resolved paths, and of joins that stay within their root.
 use Rattle.std.specs.Prelude.{◌≡◌, ◌≤◌, ◌+◌, ◌++◌, ◌∷◌, ℕ, List, length, false}
 use Rattle.unix_path.specs.Joins.{join_of}
-use Rattle.unix_path.specs.Parts.{Value, RootDir, CurDir, ParentDir, Normal, values, SameValues}
+use Rattle.unix_path.specs.Parts.{Value, RootDir, CurDir, ParentDir, Normal, values}
 use Rattle.path_runs.specs.JoinLaws.{drop_dot}
 use Rattle.path_within.specs.Resolved.{resolved_of, resolved_bytes_of, AllNames, IsNormal}
 use Rattle.path_within.specs.Escapes.{Escapes, has_root_or_parent_dir}
@@ -18,11 +18,6 @@ ResolvedReadsBack = (s : List ℕ) → values (resolved_bytes_of s) ≡ resolved
 abbrev pub ResolvedAgain : Type 0
 ResolvedAgain =
     (s : List ℕ) → resolved_bytes_of (resolved_bytes_of s) ≡ resolved_bytes_of s
-
--- equal paths resolve to the same bytes
-abbrev pub ResolvedCongruent : Type 0
-ResolvedCongruent =
-    (s t : List ℕ) → SameValues s t → resolved_bytes_of s ≡ resolved_bytes_of t
 
 -- resolving the first path of a join beforehand does not change what the join resolves to
 abbrev pub ResolvedOfJoin : Type 0

@@ -11,7 +11,6 @@ ghost use Rattle.path_within.specs.Resolved.{resolved_bytes_of};
 
 use crate::check::{check_escape, has_nul};
 pub use crate::check::{escapes, has_root_or_parent_dir};
-use crate::laws;
 use crate::names_only::is_names_only;
 use crate::write::Layout;
 use std::alloc::{AllocError, Global};
@@ -148,6 +147,5 @@ pub fn join_verbatim(
     if has_nul(request.bytes) {
         return Err(WithinError::Nul);
     }
-    laws::verbatim_stays_within();
     Ok(root.join(alloc, request)?)
 }

@@ -13,19 +13,6 @@ use Rattle.unix_path_c.specs.declared.entries.Refusal.{Refusal}
 abbrev pub level_of : ℕ → Level
 level_of n = if n == 0 then Inside else Closed
 
--- the results
-abbrev pub entries_accepted : ℕ
-entries_accepted = 0
-
-abbrev pub entries_refused : ℕ
-entries_refused = 1
-
-abbrev pub entries_cut_off : ℕ
-entries_cut_off = 2
-
-abbrev pub entries_no_room : ℕ
-entries_no_room = 3
-
 -- the number of a reason
 abbrev pub number_of : Reason → ℕ
 number_of Name = 0

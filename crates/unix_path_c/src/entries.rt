@@ -5,8 +5,7 @@ ghost use Rattle.path_archive.specs.Records.{OnEntries, entries_in};
 ghost use Rattle.path_archive.specs.Refusals.{IsFirst};
 ghost use Rattle.path_archive.specs.Rule.{AcceptedAt};
 ghost use Rattle.path_archive.specs.declared.refusal.Refusal.{Refusal as Found};
-ghost use Rattle.unix_path_c.specs.Entries.{entries_accepted, entries_cut_off, entries_no_room};
-ghost use Rattle.unix_path_c.specs.Entries.{entries_refused, level_of, number_of, record_of};
+ghost use Rattle.unix_path_c.specs.Entries.{level_of, number_of, record_of};
 
 use path_archive::{Level, Reason, Slot, Verdict, check, slots_needed};
 
@@ -97,16 +96,16 @@ pub extern "C" fn unix_path_check_entries(
     level: u32,
     refusal: &mut Refusal,
 ) -> u32
-    ensures answers { result ≤ 3 }
-    ensures cut_off { (result ≡ entries_cut_off) ↔ (entries_in records.now ≡ None) }
-    ensures no_room { (result ≡ entries_no_room) ↔ IsSomeAnd (entries_in records.now) (λ entries.
+    ensures answers { result ≤ ENTRIES_NO_ROOM }
+    ensures cut_off { (result ≡ ENTRIES_CUT_OFF) ↔ (entries_in records.now ≡ None) }
+    ensures no_room { (result ≡ ENTRIES_NO_ROOM) ↔ IsSomeAnd (entries_in records.now) (λ entries.
         length slots.old < length (all_uses entries)) }
-    ensures accepted { (result ≡ entries_accepted) ↔ IsSomeAnd (entries_in records.now)
+    ensures accepted { (result ≡ ENTRIES_ACCEPTED) ↔ IsSomeAnd (entries_in records.now)
         (λ entries. (length (all_uses entries) ≤ length slots.old)
         × AcceptedAt (level_of level) entries) }
-    ensures refused { result ≡ entries_refused → (r : Found) × ((refusal.new ≡ record_of r)
+    ensures refused { result ≡ ENTRIES_REFUSED → (r : Found) × ((refusal.new ≡ record_of r)
         × IsSomeAnd (entries_in records.now) (λ entries. IsFirst (level_of level) entries r)) }
-    ensures unchanged { result ≢ entries_refused → refusal.new ≡ refusal.old }
+    ensures unchanged { result ≢ ENTRIES_REFUSED → refusal.new ≡ refusal.old }
 {
     match check(records, slots, level_of(level)) {
         Verdict::Accepted => ENTRIES_ACCEPTED,

@@ -1,8 +1,10 @@
 //! Laws of paths that are resolved lexically.
-ghost use Rattle.path_within.specs.Resolved.{resolved_of};
+ghost use Rattle.std.specs.Prelude.{◌≡◌, ℕ, List};
+ghost use Rattle.unix_path.specs.Parts.{SameValues};
+ghost use Rattle.path_within.specs.Resolved.{resolved_bytes_of, resolved_of};
 ghost use Rattle.path_within.specs.ResolvedLaws.{ResolvedIsNormal, ResolvedReadsBack};
 ghost use Rattle.path_within.specs.ResolvedLaws.{OnlyOneResolves, Resolves};
-ghost use Rattle.path_within.specs.ResolvedLaws.{ResolvedAgain, ResolvedCongruent, ResolvedOfJoin};
+ghost use Rattle.path_within.specs.ResolvedLaws.{ResolvedAgain, ResolvedOfJoin};
 ghost use Rattle.path_within.specs.ResolvedLaws.{ResolvedIsShort, ResolvedJoinIsShort};
 
 /// A resolved path has no `.`, no `..` after a name or the root, and a root only as its first
@@ -33,7 +35,7 @@ pub fn resolved_by_rules()
 ///
 /// `a//../b` and `a/.././b/` both resolve to `b`.
 pub fn resolved_congruent()
-    ensures { ResolvedCongruent }
+    ensures { (s t : List ℕ) → SameValues s t → resolved_bytes_of s ≡ resolved_bytes_of t }
 {}
 
 /// Resolving the first path of a join beforehand does not change what the join resolves to.

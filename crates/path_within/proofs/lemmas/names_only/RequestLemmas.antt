@@ -2,10 +2,13 @@
 use Rattle.std.proofs.Common.{◌≡◌, ℕ, suc, true, false, List, [], ◌∷◌, refl, sym, ◌∙◌, arith}
 use Rattle.std.proofs.lemmas.Bool.{both_ways}
 use Rattle.std.specs.List.{AllByRecursion}
+use Rattle.unix_path.specs.Joins.{join_of}
 use Rattle.unix_path.specs.Parts.{Value, RootDir, is_rooted, values}
+use Rattle.unix_path.specs.Prefixes.{IsPrefixOf}
 use Rattle.unix_path.proofs.lemmas.parts.PartLemmas.{root_first, root_first-values}
-use Rattle.path_runs.specs.JoinLaws.{drop_dot}
+use Rattle.path_runs.specs.JoinLaws.{drop_dot, values_added}
 use Rattle.path_runs.proofs.lemmas.joins.LeadLemmas.{IsInner, inner-behind}
+use Rattle.path_runs.proofs.lemmas.joins.LeadLemmas.{values-join_of_values_added}
 use Rattle.path_within.specs.Resolved.{AllNames}
 use Rattle.path_within.specs.Escapes.{Escapes, has_root_or_parent_dir}
 use Rattle.path_within.specs.NamePieces.{is_names_only}
@@ -21,6 +24,12 @@ no_root_first vs e = refl
 pub request_rootless : (b : List ℕ) → has_root_or_parent_dir (values b) ≡ false
     → is_rooted b ≡ false
 request_rootless b e = sym (root_first-values b) ∙ no_root_first (values b) e
+
+-- a join with a request without a root or a `..` starts with the root
+pub begins_join : (a b : List ℕ) → has_root_or_parent_dir (values b) ≡ false
+    → IsPrefixOf (values a) (values (join_of a b))
+begins_join a b e =
+    (values_added a b, sym (values-join_of_values_added a b (request_rootless b e)))
 
 -- components without a root or a `..` do not escape, whatever number n of names is before them
 escapes_from-names_only : (n : ℕ) (vs : List Value) → has_root_or_parent_dir vs ≡ false
