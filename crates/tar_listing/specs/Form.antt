@@ -2,11 +2,12 @@
 use Rattle.std.specs.Prelude.{◌≡◌, ◌≢◌, ℕ, Bool, true, ◌==◌, ◌&&◌, ◌||◌, not, ◌+◌, ◌/◌, ◌%◌}
 use Rattle.std.specs.Prelude.{nat_le, nat_lt, List, [], ◌∷◌, ◌++◌, length, codes, Option, Some, None}
 use Rattle.std.specs.Prelude.{if◌then◌else◌}
-use Rattle.std.specs.List.{after_first, before_first, flat_map, list_all}
+use Rattle.std.specs.List.{flat_map, list_all}
 use Rattle.std.specs.Str.{byte}
 use Rattle.path_archive.specs.Entries.{EntryValue, DirectoryEntry, FileEntry, SymlinkEntry}
 use Rattle.path_archive.specs.Entries.{HardLinkEntry, OtherEntry, path_of}
 use Rattle.path_archive.specs.Records.{entries_in}
+use Rattle.tar_listing.specs.Columns.{are_columns}
 use Rattle.tar_listing.specs.declared.columns.Kind.{Kind}
 use Rattle.tar_listing.specs.declared.columns.Kind.TheVariants.{Directory, File, Symlink, HardLink}
 use Rattle.tar_listing.specs.declared.columns.Kind.TheVariants.{Other}
@@ -70,51 +71,6 @@ kind_of b =
     else if b == byte "h" then Some HardLink
     else if b == byte "b" || b == byte "c" || b == byte "p" then Some Other
     else None
-
--- a letter of permissions
-abbrev pub is_permission : ℕ → Bool
-is_permission b =
-    b == byte "-" || b == byte "r" || b == byte "w" || b == byte "x" || b == byte "s"
-    || b == byte "S" || b == byte "t" || b == byte "T"
-
--- a digit
-abbrev pub is_digit : ℕ → Bool
-is_digit b = nat_le (byte "0") b && nat_le b (byte "9")
-
--- a byte of a size or a date
-abbrev pub is_stamp_byte : ℕ → Bool
-is_stamp_byte b =
-    is_digit b || b == byte " " || b == byte "," || b == byte "-" || b == byte ":"
-
--- nine letters
-abbrev pub are_permissions : List ℕ → Bool
-are_permissions text = length text == 9 && list_all is_permission text
-
--- digits
-abbrev pub is_number : List ℕ → Bool
-is_number text = nat_lt 0 (length text) && list_all is_digit text
-
--- the number of the owner, `/`, and the number of the group
-abbrev pub are_owners : List ℕ → Bool
-are_owners text =
-    is_number (before_first (λ b. b == byte "/") text)
-    && is_number (after_first (λ b. b == byte "/") text)
-
--- a size and a date, and spaces
-abbrev pub is_stamp : List ℕ → Bool
-is_stamp text = nat_lt 0 (length text) && list_all is_stamp_byte text
-
--- owner and group, and size and date, with a space between
-abbrev pub are_later_columns : List ℕ → Bool
-are_later_columns text =
-    are_owners (before_first (λ b. b == byte " ") text)
-    && is_stamp (after_first (λ b. b == byte " ") text)
-
--- permissions, owner and group, and size and date, with a space between
-unfoldable pub are_columns : List ℕ → Bool
-are_columns text =
-    are_permissions (before_first (λ b. b == byte " ") text)
-    && are_later_columns (after_first (λ b. b == byte " ") text)
 
 -- what follows the name of an entry of this kind: a link's target, and more
 abbrev pub target_text : Kind → List ℕ → List ℕ → List ℕ

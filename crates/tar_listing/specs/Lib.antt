@@ -1,3 +1,4 @@
+pub mod Columns
 pub mod Form
 pub mod Reading
 pub mod Laws

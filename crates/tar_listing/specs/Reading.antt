@@ -6,7 +6,8 @@ use Rattle.std.specs.List.{list_all}
 use Rattle.std.specs.Str.{byte}
 use Rattle.path_archive.specs.Entries.{EntryValue, DirectoryEntry, FileEntry, SymlinkEntry}
 use Rattle.path_archive.specs.Entries.{HardLinkEntry, OtherEntry}
-use Rattle.tar_listing.specs.Form.{IsLine, are_columns, closed, is_byte, is_octal, is_shown}
+use Rattle.tar_listing.specs.Columns.{are_columns}
+use Rattle.tar_listing.specs.Form.{IsLine, closed, is_byte, is_octal, is_shown}
 use Rattle.tar_listing.specs.Form.{kind_of}
 use Rattle.tar_listing.specs.declared.columns.Kind.{Kind}
 use Rattle.tar_listing.specs.declared.columns.Kind.TheVariants.{Directory, File, Symlink, HardLink}

@@ -7,6 +7,7 @@
 
 mod columns;
 mod entry;
+mod fields;
 pub mod laws;
 mod listing;
 mod text;

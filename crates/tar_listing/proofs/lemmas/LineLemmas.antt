@@ -13,7 +13,8 @@ use Rattle.std.proofs.lemmas.Option.{same_Some}
 use Rattle.std.proofs.Math.Seq.{take-append_seam}
 use Rattle.path_archive.specs.Entries.{EntryValue, DirectoryEntry, FileEntry, SymlinkEntry}
 use Rattle.path_archive.specs.Entries.{HardLinkEntry, OtherEntry, path_of}
-use Rattle.tar_listing.specs.Form.{IsLine, are_columns, closed, is_byte, kind_in, kind_of, quoted}
+use Rattle.tar_listing.specs.Columns.{are_columns}
+use Rattle.tar_listing.specs.Form.{IsLine, closed, is_byte, kind_in, kind_of, quoted}
 use Rattle.tar_listing.specs.Form.{target_in, target_text}
 use Rattle.tar_listing.specs.Reading.{CannotRead, IsEntryPushed, IsPushed, StartsLine, kind_code, made}
 use Rattle.tar_listing.specs.Reading.{after_words}
