@@ -26,7 +26,7 @@ import tables
 from support import PROGRAM, ROOT, Case, main, needs, read, shim
 
 CRATES = ("unix_bytes", "unix_path", "path_runs", "path_table", "path_within", "path_keys",
-          "path_archive", "path_tree")
+          "path_archive", "tar_listing", "path_tree")
 TESTS = f"{ROOT}/crates/memory_tests/out/memory_tests_tests"
 OTHER_ERRORS = {"StripPrefixError", "RequestError", "StripError"}
 BLOCK = re.compile(r"impl(?:<.*?>)? (?:.* for )?(\w+).* \{$")

@@ -9,7 +9,8 @@ use std::alloc::{AllocError, Global};
 /// that isn't of the form, where the first line's number is 1.
 ///
 /// The form is that of `LC_ALL=C tar -tvP --numeric-owner --quoting-style=c -f x.tar`, of GNU tar.
-/// No record is cut off. An empty listing has no records.
+/// No record is cut off. An empty listing has no records. Allocates for the records, and fails only
+/// if an allocation fails.
 ///
 /// For `"-rw-r--r-- 0/0 5 2026-01-31 12:00 \"a\"\n"` it returns `b"f\0a\0\0"`.
 pub fn records_of(alloc: Global, listing: &[u8]) -> Result<Result<Vec<u8>, usize>, AllocError>

@@ -3,6 +3,7 @@ use super::report;
 use path_archive::{Level, refusals};
 use std::alloc::AllocError;
 use std::test::Fail;
+use tar_listing::records_of;
 
 #[test]
 fn entries_refused(rt: HostRuntime) -> Result<(), Fail> {
@@ -17,6 +18,16 @@ fn entries_refused(rt: HostRuntime) -> Result<(), Fail> {
 fn entries_cut_off(rt: HostRuntime) -> Result<(), Fail> {
     match refusals(rt.alloc(), b"f\0a\0", Level::Inside) {
         Ok(list) => report(true, list.is_none()),
+        Err(AllocError) => report(false, true),
+    }
+}
+
+#[test]
+fn listing_read(rt: HostRuntime) -> Result<(), Fail> {
+    let listing = b"-rw-r--r-- 0/0 5 2026-01-31 12:00 \"a\"\n";
+    match records_of(rt.alloc(), listing) {
+        Ok(Ok(records)) => report(true, records.as_slice() == b"f\0a\0\0".as_slice()),
+        Ok(Err(_)) => report(true, false),
         Err(AllocError) => report(false, true),
     }
 }
