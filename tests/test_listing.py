@@ -7,12 +7,15 @@ breaks the way to unpack an archive safely is tested too: it is refused, or does
 upath warns about.
 """
 import collections
+import io
 import os
 import random
+import shutil
 import subprocess
+import sys
 import tarfile
 import tempfile
-import unittest
+import zipfile
 
 from support import ROOT, UPATH, Case, main, needs
 from test_archives import CLOSED, INSIDE, is_accepted
@@ -26,7 +29,7 @@ LIST = ["tar", "-tvP", "--numeric-owner", "--quoting-style=c", "-f"]
 KINDS = {"d": tarfile.DIRTYPE, "f": tarfile.REGTYPE, "l": tarfile.SYMTYPE, "h": tarfile.LNKTYPE,
          "p": tarfile.FIFOTYPE, "b": tarfile.BLKTYPE, "c": tarfile.CHRTYPE, "C": tarfile.CONTTYPE}
 LINE = '-rw-r--r-- 0/0 5 2026-01-31 12:00 "a"\n'
-PIECES = ['"', "\n", " -> ", " link to ", "\\", '" -> "', '"\n', "\\n", '\\"', "\\101", LINE, " ",
+PIECES = ['"', "\n", " -> ", " link to ", "\\", '" -> "', '"\n', "\\n", '\\"', "\\101", " ",
           "é", "a", "77", "?", "%s", "''"]
 PIECES += [os.fsdecode(bytes([byte])) for byte in range(1, 256) if byte != ord("/")]
 OWNERS = ["", "root", "a\nb", '"x" -> "y"', f"0/0 1 x\n{LINE}"]
@@ -43,7 +46,9 @@ def text(rng):
 
 
 def path(rng):
-    return "/".join(text(rng) for _ in range(rng.choice([1, 1, 2, 3])))
+    """Returns a path, some of which contain a line of a listing."""
+    names = [text(rng) for _ in range(rng.choice([1, 1, 2, 3]))]
+    return "/".join(names + rng.choices(["", f'"\n{LINE}'], [9, 1])).rstrip("/")
 
 
 def member(rng, kind, name, target=""):
@@ -229,6 +234,133 @@ class Traps(Case):
         self.assert_line(listing[:-1], 2)
         self.assertEqual(decided(b"")[0], 1)
         self.assertEqual(decided(listing[:first])[0], 0)
+
+
+def add(archive, kind, name, target="", size=0):
+    info = plain(kind, name, target)
+    info.size = size
+    archive.addfile(info, io.BytesIO(b"x" * size))
+
+
+def write_zip(path, entries):
+    """Writes a zip archive in which each symbolic link is a member with that kind."""
+    modes = {"d": 0o40755, "f": 0o100644, "l": 0o120777}
+    with zipfile.ZipFile(path, "w") as archive:
+        for kind, name, target in entries:
+            info = zipfile.ZipInfo(name + "/" * (kind == "d"))
+            info.create_system, info.external_attr = 3, modes[kind] << 16
+            archive.writestr(info, target)
+
+
+@needs("tar", "find")
+class Examples(Case):
+    """The examples of docs/UNPACKING.md, in a directory of their own."""
+
+    def setUp(self):
+        folder = tempfile.TemporaryDirectory()
+        self.addCleanup(folder.cleanup)
+        self.here = f"{folder.name}/here"
+        os.makedirs(f"{folder.name}/bin")
+        os.symlink(os.path.abspath(UPATH), f"{folder.name}/bin/upath")
+        self.places = {**os.environ, "PATH": f"{folder.name}/bin:{os.environ['PATH']}"}
+
+    def begin(self):
+        shutil.rmtree(self.here, ignore_errors=True)
+        os.makedirs(self.here)
+
+    def write_tar(self, name, entries):
+        with tarfile.open(f"{self.here}/{name}", "w", format=tarfile.GNU_FORMAT) as archive:
+            for kind, *rest in entries:
+                add(archive, kind, *rest, size=2000 if kind == "f" else 0)
+
+    def ran(self, *words):
+        """Returns what a command prints, and whether it succeeds."""
+        found = subprocess.run(words, cwd=self.here, env=self.places, stdout=subprocess.PIPE,
+                               stderr=subprocess.DEVNULL, check=False)
+        return found.stdout, found.returncode == 0
+
+    def made(self, folder):
+        """Returns the names in this directory; None if there is none."""
+        path = f"{self.here}/{folder}"
+        return sorted(os.listdir(path)) if os.path.isdir(path) else None
+
+    def test_unpacked(self):
+        """An archive is unpacked, unless an entry could be written outside, it is cut off, or the
+        directory exists."""
+        good = [("d", "a"), ("f", "a/b"), ("l", "c", "/etc"), ("h", "d", "a/b")]
+        for entries, printed in ((good, b""), ([*good, ("f", "../evil")], b"../evil\n"),
+                                 ([*good, ("f", "/evil")], b"/evil\n"),
+                                 ([*good, ("f", "c/new")], b"c/new\n"),
+                                 ([*good, ("h", "e", "../../evil")], b"e\n"),
+                                 ([*good, ("f", "c")], b"c\n")):
+            with self.row(entries):
+                self.begin()
+                self.write_tar("x.tar", entries)
+                self.assertEqual(self.ran(f"{ROOT}/examples/sh/unpack.sh"), (printed, not printed))
+                self.assertEqual(self.made("new"), None if printed else ["a", "c", "d"])
+        for what in ("cut off", "empty", "not new"):
+            with self.row(what):
+                self.begin()
+                self.write_tar("x.tar", [] if what == "empty" else good)
+                if what == "cut off":
+                    os.truncate(f"{self.here}/x.tar", 1500)
+                if what == "not new":
+                    os.mkdir(f"{self.here}/new")
+                self.assertEqual(self.ran(f"{ROOT}/examples/sh/unpack.sh"), (b"", False))
+                self.assertFalse(self.made("new"))
+
+    def test_layers(self):
+        """Layers of an image, of which the second may be written through a link of the first."""
+        first = [("d", "usr"), ("d", "usr/bin"), ("l", "bin", "usr/bin"), ("l", "run", "/run"),
+                 ("f", "usr/bin/sh")]
+        for second, printed in (([("f", "usr/bin/.wh.sh"), ("f", "usr/new")], b""),
+                                ([("f", "run/evil")], b"run/evil\n")):
+            with self.row(second):
+                self.begin()
+                self.write_tar("1.tar", first)
+                self.write_tar("2.tar", second)
+                found = self.ran(f"{ROOT}/examples/sh/unpack_layers.sh", "1.tar", "2.tar")
+                self.assertEqual(found, (printed, not printed))
+                self.assertEqual(self.made("root"), None if printed else ["bin", "run", "usr"])
+        with self.row("a layer is missing"):
+            self.begin()
+            self.write_tar("1.tar", first)
+            found = self.ran(f"{ROOT}/examples/sh/unpack_layers.sh", "1.tar", "2.tar")
+            self.assertEqual((found, self.made("root")), ((b"", False), None))
+
+    def test_tree(self):
+        for target, printed in (("b", b""), ("../a", b""), ("../../a", b"a/link\n"),
+                                ("/etc", b"a/link\n")):
+            with self.row(target):
+                self.begin()
+                os.makedirs(f"{self.here}/tree/a")
+                os.symlink(target, f"{self.here}/tree/a/link")
+                found = self.ran(f"{ROOT}/examples/sh/check_tree.sh")
+                self.assertEqual(found, (printed, not printed))
+
+    def test_records(self):
+        """The records of Python's tarfile and zipfile."""
+        lists = [([("d", "a", ""), ("f", "a/b", ""), ("l", "c", "a/b")], b""),
+                 ([("l", "x", "../y"), ("f", "x/new", "")], b"x\nx/new\n"),
+                 ([("l", "x", "/etc")], b"x\n"), ([("f", "../evil", "")], b"../evil\n")]
+        for entries, printed in lists:
+            for name in ("x.tar", "x.zip"):
+                with self.row(entries, name):
+                    self.begin()
+                    if name == "x.tar":
+                        self.write_tar(name, entries)
+                    else:
+                        write_zip(f"{self.here}/{name}", entries)
+                    line = f"{sys.executable} {ROOT}/examples/python/records.py {name} > list && " \
+                        "upath archive --closed < list"
+                    found, accepted = self.ran("sh", "-c", line)
+                    self.assertEqual((b"".join(sorted(found.splitlines(True))), accepted),
+                                     (printed, not printed))
+        with self.row("kinds of tar"):
+            self.begin()
+            self.write_tar("x.tar", [("p", "p"), ("c", "c"), ("h", "h", "f"), ("f", "f")])
+            found = self.ran(sys.executable, f"{ROOT}/examples/python/records.py", "x.tar")
+            self.assertEqual(found[0], b"other\0p\0\0other\0c\0\0h\0h\0f\0f\0f\0\0")
 
 
 if __name__ == "__main__":

@@ -7,7 +7,6 @@ which have hostile paths and options. tests/test_faults.py has inputs, outputs a
 fail.
 """
 import ast
-import io
 import itertools
 import os
 import random
@@ -438,26 +437,6 @@ class Shells(Case):
             with self.row(what):
                 line = f"exec 2> /dev/null; {line}" + "; readlink bin/tool" * ("ln" in line)
                 self.assertEqual(self.sh(line, ".//a", "-z", request="-q", path="/srv/a"), wanted)
-
-    @needs("tar")
-    def test_unpacked(self):
-        """The example unpacks an archive, unless an entry escapes or the archive is cut off."""
-        for names, is_whole, printed in [
-                (["a/b", "c/d"], True, b""), (["b", "../evil"], True, b"../evil\n"),
-                (["b", "/evil"], True, b"/evil\n"), (["b", "c/d"], False, b"")]:
-            with self.row(names, is_whole), tempfile.TemporaryDirectory() as folder:
-                with tarfile.open(f"{folder}/x.tar", "w", format=tarfile.GNU_FORMAT) as archive:
-                    for name in names:
-                        entry = tarfile.TarInfo(name)
-                        entry.size = 2000
-                        archive.addfile(entry, io.BytesIO(b"x" * 2000))
-                if not is_whole:
-                    os.truncate(f"{folder}/x.tar", 1000)
-                run = subprocess.run([f"{ROOT}/examples/sh/unpack.sh"], cwd=folder, timeout=SECONDS,
-                                     capture_output=True, env=self.places, check=False)
-                is_unpacked = set(os.listdir(folder)) - {"x.tar", "list"} != set()
-                self.assertEqual((run.stdout, is_unpacked, run.returncode == 0),
-                                 (printed, is_whole and not printed, is_whole and not printed))
 
 
 def limited(kilobytes, line, data):

@@ -1,7 +1,5 @@
 #!/bin/sh
-# Unpacks the archive x.tar here, unless it can't be listed or an entry would leave this directory.
-# The entries that would are printed.
-#
-# upath reads names: it can't see that an entry is a symbolic link, through which a later entry would
-# leave the directory.
-tar -tf x.tar > list && upath escapes < list && tar -xf x.tar
+# Unpacks the archive x.tar into the new directory `new`, unless it can't be listed or a program that
+# extracts its entries could write outside. The entries through which it could are printed.
+LC_ALL=C tar -tvP --numeric-owner --quoting-style=c -f x.tar > list &&
+    upath archive --tar-list < list && mkdir new && tar -xf x.tar -C new

@@ -27,9 +27,10 @@ pub record FileSystem : Type 0 where
 abbrev pub parent : Place → Place
 parent p = take (length p - 1) p
 
--- these components lead from the directory `p` to a place (path_resolution(7)). A link at the end
--- is followed or not. No directory has to exist, and any number of links is followed, so every
--- resolution that a system makes is among these.
+-- these components lead from the directory `p` to a place, as in path_resolution(7), in a file
+-- system that doesn't change meanwhile, and in which names are equal only if their bytes are. A
+-- link at the end is followed or not. No directory has to exist, and any number of links is
+-- followed, so there are more of these than a system makes.
 pub data Leads (fs : FileSystem) : Place → List Value → Place → Type 0 where
   here : {p : Place} → Leads fs p [] p
   root : {p q : Place} {vs : List Value} → Leads fs [] vs q → Leads fs p (RootDir ∷ vs) q

@@ -16,7 +16,8 @@ use Rattle.path_archive.specs.Entries.{HardLinkEntry, OtherEntry, path_of}
 use Rattle.tar_listing.specs.Columns.{are_columns}
 use Rattle.tar_listing.specs.Form.{IsLine, closed, is_byte, kind_in, kind_of, quoted}
 use Rattle.tar_listing.specs.Form.{target_in, target_text}
-use Rattle.tar_listing.specs.Reading.{CannotRead, IsEntryPushed, IsPushed, StartsLine, kind_code, made}
+use Rattle.tar_listing.specs.Reading.{CannotRead, IsEntryPushed, IsPushed}
+use Rattle.tar_listing.specs.Reading.{StartsLine, kind_code, made}
 use Rattle.tar_listing.specs.Reading.{after_words}
 use Rattle.tar_listing.specs.declared.columns.Kind.{Kind}
 use Rattle.tar_listing.specs.declared.columns.Kind.TheVariants.{Directory, File, Symlink, HardLink}
