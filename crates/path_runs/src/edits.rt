@@ -149,9 +149,9 @@ fn apply_one(
 /// before the failing one have been made, and the error contains their number: 0 if the answers
 /// could not be allocated, or if the first edit failed. An edit after the first fails only if it
 /// makes the path longer, and longer than the capacity that the path had at the call, which never
-/// shrinks. An edit whose extension contains a `/` does not fail: it leaves the bytes unchanged, its answer is
-/// `Separator`, and the next edit is made. The time is linear in the number of edits plus the
-/// lengths of their bytes, of the path and of the result.
+/// shrinks. An edit whose extension contains a `/` does not fail: it leaves the bytes unchanged,
+/// its answer is `Separator`, and the next edit is made. The time is linear in the number of edits
+/// plus the lengths of their bytes, of the path and of the result.
 ///
 /// On `foo/.`, setting the extension `bar` and then two pops leave the empty path. The answers are
 /// true, true and false.

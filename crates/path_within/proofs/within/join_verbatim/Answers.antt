@@ -15,6 +15,7 @@ returns-in_err-join-clause-succeeds c = grind (arith, join_of-nil)
 
 pub returns-clause-within : goal.returns-clause-within
 returns-clause-within c =
-    subst (λ s. IsPrefixOf (values c.args.root.bytes.now) (values s)) (sym c.in_ok-join.ensures.bytes)
+    subst (λ s. IsPrefixOf (values c.args.root.bytes.now) (values s))
+    (sym c.in_ok-join.ensures.bytes)
     (begins_join c.args.root.bytes.now c.args.request.bytes.now
     (sym c.has_root_or_parent_dir.ensures ∙ c.if-has_root_or_parent_dir.false))
