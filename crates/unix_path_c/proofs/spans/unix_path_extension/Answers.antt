@@ -12,7 +12,7 @@ is_span c =
     let extension = c.in-Some-extension.extension.bytes.now in
     is_span_of c.args.path.now extension c.in-Some.end c.span_ending_at.result
     (extension_ends c.args.path.now extension c.in-Some.end c.in-Some.ensures.value
-    c.in-Some-extension.ensures) c.span_ending_at.ensures
+    c.in-Some-extension.ensures.value) c.span_ending_at.ensures
 
 pub returns-in_default-clause-value : goal.returns-in_default-clause-value
 returns-in_default-clause-value c =
@@ -21,10 +21,10 @@ returns-in_default-clause-value c =
 pub span_ending_at-requires : goal.span_ending_at-requires
 span_ending_at-requires c =
     (extension_ends c.args.path.now c.in-Some-extension.extension.bytes.now c.in-Some.end
-    c.in-Some.ensures.value c.in-Some-extension.ensures).fits
+    c.in-Some.ensures.value c.in-Some-extension.ensures.value).fits
 
 pub returns-clause-bytes : goal.returns-clause-bytes
-returns-clause-bytes c = ap Some (is_span c).bytes ∙ c.in-Some-extension.ensures
+returns-clause-bytes c = ap Some (is_span c).bytes ∙ c.in-Some-extension.ensures.value
 
 pub returns-clause-end : goal.returns-clause-end
 returns-clause-end c = ap Some (is_span c).end_is ∙ c.in-Some.ensures.value
