@@ -5,6 +5,7 @@ pub mod Levels
 pub mod Rule
 pub mod Laws
 pub mod Records
+pub mod EntryViews
 pub mod Slots
 pub mod Marks
 pub mod Refusals

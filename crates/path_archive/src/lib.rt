@@ -5,6 +5,7 @@
 #![tactic(auto)]
 
 mod decide;
+mod entry;
 pub mod laws;
 mod level;
 mod links;
@@ -16,6 +17,7 @@ mod refusal;
 mod slot;
 
 pub use decide::{Verdict, check, refusals};
+pub use entry::{Entry, entries};
 pub use level::Level;
 pub use links::leads_out;
 pub use records::slots_needed;
