@@ -62,7 +62,8 @@ REFUSED = [
     "join a", "join --beneath a", "join --in-root a", "join --verbatim a", "strip a", "relative a",
     "relative --from=a", "key", "unkey", "unkey -z", "escapes", "escapes -v --reason", "under a",
     "under --strip -v a", "under --by-components a", "sort", "sort -ur", "sort b a a/.", "uniq",
-    "uniq b a a/.", "equal a b", "--help", "--version", "canon --nul", "canon --help",
+    "uniq b a a/.", "equal a b", "--help", "--version", "canon --nul", "canon --help", "archive",
+    "archive --closed --reason",
 ]
 
 
@@ -339,6 +340,7 @@ class Requests(Faults):
         """Runs a command with its first allocation failing, then with its second, up to its last.
         Its input has paths that are answered and paths that are not."""
         words, data = [UPATH, *line.split()], b"b/../x\n/a//b\n\n..\n61006200\na/b\n/a/b\n"
+        data = b"l\0x\0/a\0f\0x/b\0\0" if line.startswith("archive") else data
         whole = run(words, input=data)[1]
         for number in itertools.count(1):
             status, output, error = run(words, input=data, env={

@@ -72,6 +72,20 @@ class Maker:
         found += [self.spelled_again(it) for it in found if self.often(0.3)]
         return self.random.sample(found, len(found))
 
+    def entries(self):
+        """Returns the records of entries that often clash. The last record may be cut off."""
+        found = []
+        for _ in range(self.random.choice([0, 1, 2, 3, 4, 5, 6, 9])):
+            kind = self.random.choice([b"d", b"d", b"f", b"f", b"l", b"l", b"h", b"h", b"o", b""])
+            path, target = (b"/".join(self.random.choices(
+                [b"a", b"b", b"a.b", b"..", b".", b"\n", b"\xff"], [9, 9, 2, 1, 1, 1, 1],
+                k=self.random.choice([1, 1, 2, 3]))) for _ in range(2))
+            if self.often(0.1):
+                path, target = self.path(b"\0"), self.path(b"\0")
+            found += [kind, path, target]
+        data = b"".join(it + b"\0" for it in found)
+        return data[:self.random.randrange(len(data) + 1)] if self.often(0.1) else data
+
     def option(self, option):
         """Returns an option as one argument or as two."""
         letter, name = f"-{option.letter}".encode(), f"--{option.name}".encode()
@@ -85,11 +99,12 @@ class Maker:
         command = self.random.choice(COMMANDS)
         is_null = self.often(0.4)
         options = [it for it in (*COMMON[1:4], *command.options)
-                   if self.often(0.9 if it.name == "from" else 0.2)] + COMMON[:1] * is_null
+                   if f"--{it.name}" not in command.lacks and f"-{it.letter}" not in command.lacks
+                   and self.often(0.9 if it.name == "from" else 0.2)] + COMMON[:1] * is_null
         operands = [self.path(b"\n\0") for _ in range(
             2 if command.name == "equal" else command.name in NEEDED)]
         paths = self.paths(command, 6, b"\0" if is_null else b"\n\0")
-        paths *= self.often(0.4) and command.name != "equal"
+        paths *= self.often(0.4) and command.name not in ("equal", "archive")
         head = [[command.name.encode()], *([it] for it in operands)]
         for it in options:
             head.insert(self.random.randrange(len(head) + 1), self.option(it))
@@ -98,6 +113,8 @@ class Maker:
         for _ in range(self.random.choice([0, 0, 0, 1, 2])):
             at = self.random.randrange(len(words) + 1)
             words[at:at + self.random.randrange(2)] = [self.random.choice(HOSTILE)]
+        if command.name == "archive":
+            return words, self.entries()
         end = b"\0" if is_null else b"\n"
         data = b"".join(it + end for it in self.paths(command, 30, end))
         return words, data[:-1] if self.often(0.2) else data

@@ -15,7 +15,8 @@ COMMON, COMMANDS, TASKS = TEXTS["read_table"]()
 OPTIONS = {it.name or it.letter: it for it in [*COMMON, *(o for c in COMMANDS for o in c.options)]
            if it.name not in ("help", "version")}
 BY_LETTER = {it.letter: name for name, it in OPTIONS.items() if it.letter}
-OWN = {c.name: {it.name or it.letter for it in [*COMMON, *c.options]} for c in COMMANDS}
+OWN = {c.name: {it.name or it.letter for it in [*COMMON, *c.options]
+                if not {f"-{it.letter}", f"--{it.name}"} & {*c.lacks}} for c in COMMANDS}
 NEEDED = {"join": "ROOT", "strip": "BASE", "under": "BASE"}
 REQUESTS = [[b"-h"], [b"--help"], [b"--version"]]
 
@@ -294,7 +295,9 @@ class Call:
             raise Usage("relative: --from=DIR is missing")
         self.base = operands[1] if self.name in NEEDED else self.options.get("from")
         self.paths = operands[needed:] or None
-        if self.name == "equal":
+        if self.name == "archive":
+            self.check_alone()
+        elif self.name == "equal":
             self.check_pair()
         elif found.before is not None and found.before >= needed:
             if found.before > needed:
@@ -321,6 +324,10 @@ class Call:
         self.name = operands[0].decode("latin-1")
         if self.name not in OWN:
             raise Usage(f"{shown(operands[0])}: unknown command")
+
+    def check_alone(self):
+        if self.paths:
+            raise Usage(f"{shown(self.paths[0])}: one operand too many")
 
     def check_pair(self):
         if len(self.paths or []) < 2:
@@ -450,6 +457,101 @@ def results_of(call, paths):
     return [it[:2] for it in found], wrong, bool(wrong)
 
 
+# What the path of an entry is used as, in the order of uses of one path.
+USES = [b"l", b"h", b"target", b"f", b"other", b"d"]
+
+
+def uses_of(entries):
+    """Returns the paths that an extractor uses, in path order: each as what it is used, with its
+    components and the number of its entry."""
+    found = [(kind if kind in (b"d", b"f", b"l", b"h") else b"other", path, number)
+             for number, (kind, path, _) in enumerate(entries)]
+    found += [(b"target", target, number) for number, (kind, _, target) in enumerate(entries)
+              if kind == b"h"]
+    found = [(kind, path, without_dot(path), number) for kind, path, number in found]
+    return sorted(found, key=lambda use: ([order_of(it) for it in use[2]], USES.index(use[0]),
+                                          use[3]))
+
+
+def without_dot(path):
+    parts = all_parts(path)
+    return parts[1:] if parts[:1] == [b"."] else parts
+
+
+def leads_out(path, target):
+    """Returns whether the symbolic link leads out: the target has a root, more `..` at its start
+    than there are directories above the link, or a later one."""
+    parts = without_dot(target)
+    ups = next((at for at, it in enumerate(parts) if it != b".."), len(parts))
+    return b"/" in parts or b".." in parts[ups:] or ups > max(len(path) - 1, 0)
+
+
+def forbidden(use, target, is_closed):
+    """Returns why an entry is refused whatever the others are, or None."""
+    kind, path, parts, _ = use
+    if kind == b"other":
+        return "kind"
+    if b"/" in parts or b".." in parts \
+            or kind != b"d" and path.split(b"/")[-1] in (b"", b"."):
+        return "name"
+    return "out" if is_closed and kind == b"l" and leads_out(parts, target) else None
+
+
+def clash(first, use):
+    """Returns why a use is refused beside an earlier one in path order, or None."""
+    if first[2] == use[2]:
+        if use[0] == b"target" and first[0] in (b"l", b"h"):
+            return "target"
+        return "twice" if first[0] == b"l" else None
+    return "below" if first[0] != b"d" and use[2][:len(first[2])] == first[2] else None
+
+
+def refusals_of(entries, is_closed):
+    """Yields the reason, the number of the entry, and that of the entry that it clashes with: the
+    first one in path order, of those that clash with none themselves."""
+    kept = []
+    for use in uses_of(entries):
+        first, why = next(((it, clash(it, use)) for it in kept if clash(it, use)), (use, None))
+        if not why:
+            kept.append(use)
+        reason = forbidden(use, entries[use[3]][2], is_closed)
+        if reason or why:
+            yield reason or why, use[3], use[3] if reason else first[3]
+
+
+def refusal_text(reason, entry, cause):
+    """Returns why an entry is refused, with the entry that it clashes with."""
+    kind, _, target = entry
+    either = f"this path or the target {shown(target)} " * (kind == b"h")
+    named = {b"d": "directory", b"f": "file", b"l": "symbolic link", b"h": "hard link"}
+    leaf = f"the {named.get(cause[0], 'entry')} {shown(cause[1])}" + (
+        f" or its target {shown(cause[2])}" * (cause[0] == b"h"))
+    return {"name": f"{either}has a root, has a .., or does not end in a name",
+            "kind": "neither a directory, a file nor a link",
+            "below": f"{either}lies below {leaf}",
+            "twice": "is a symbolic link, and used twice",
+            "target": f"hard link to the link {shown(cause[1])}",
+            "out": f"leads out, to {shown(target)}"}[reason]
+
+
+def archive(call, data):
+    """Returns the status and both outputs of `archive` for this input."""
+    *fields, rest = data.split(b"\0")
+    if rest or len(fields) % 3:
+        return 1, b"", f"upath: record {len(fields) // 3 + 1} is cut off\n".encode()
+    entries = [*zip(fields[::3], fields[1::3], fields[2::3])]
+    if not entries:
+        return 1, b"", b"upath: no entries\n"
+    output, messages = b"", ""
+    for reason, number, cause in refusals_of(entries, "closed" in call.options):
+        path = entries[number][1]
+        text = shown(path).encode() if b"\n" in path and call.end == b"\n" else path
+        output += f"{reason}\t".encode() * ("reason" in call.options) + text + call.end
+        why = refusal_text(reason, entries[number], entries[cause])
+        messages += f"upath: {shown(path)}: {why}\n"
+    return int(output != b""), output, messages.encode()
+
+
 def records(data, end):
     """Returns the records of an input, of which the last may lack its end."""
     found = data.split(end)
@@ -467,6 +569,9 @@ def expected(words, data):
         return 2, b"", f"upath: {error}\nTry 'upath --help'.\n".encode()
     if call.name == "equal":
         return int(all_parts(call.paths[0]) != all_parts(call.paths[1])), b"", b""
+    if call.name == "archive":
+        status, *printed = archive(call, data)
+        return (status, b"", b"") if "quiet" in call.options else (status, *printed)
     paths = call.paths if call.paths is not None else records(data, call.end)
     found, wrong, status = results_of(call, paths)
     if "quiet" in call.options:

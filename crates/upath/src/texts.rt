@@ -25,6 +25,7 @@ Commands:\n\
 \x20 key                  the key in hexadecimal: keys sort as their paths do\n\
 \x20 unkey                the path, in canonical form, of a key in hexadecimal\n\
 \x20 escapes              the paths that leave the directory they are joined to\n\
+\x20 archive              the entries by which an archive could write outside\n\
 \x20 under BASE           the paths at BASE or below it, unchanged\n\
 \x20 sort                 the paths in path order, component by component\n\
 \x20 uniq                 each path once: the first of equal paths, unchanged\n\
@@ -39,14 +40,15 @@ Options:\n\
 \x20     --version  print the version\n\
 \n\
 `--` ends the options. After COMMAND and its ROOT or BASE, it also means that\n\
-only the arguments after it are paths: if there are none, nothing is read. Write\n\
-it before each variable, whose value may begin with a dash.\n\
+only the arguments after it are paths: if there are none, nothing is read (but\n\
+by archive). Write it before each variable, whose value may begin with a dash.\n\
 \n\
 Exit status:\n\
 \x20 0  every path has a result. escapes: no path escapes. under: a path is\n\
-\x20    printed. equal: they are equal. sort -c: the paths are in order\n\
-\x20 1  a path has no result or is refused. escapes, under, equal, sort -c:\n\
-\x20    otherwise\n\
+\x20    printed. archive: every entry is accepted. equal: they are equal. sort -c:\n\
+\x20    the paths are in order\n\
+\x20 1  a path has no result or is refused. escapes, under, archive, equal, sort\n\
+\x20    -c: otherwise\n\
 \x20 2  wrong usage; nothing was read or written\n\
 \x20 3  a read, a write or an allocation failed\n\
 \n\
@@ -251,6 +253,35 @@ Example:\n\
 \n\
 `upath --help` shows the options of every command.\n";
 
+const ARCHIVE: &[u8] = b"\
+Usage: upath archive [--closed] [--reason] [OPTION]...\n\
+\n\
+Prints the entries by which an archive could write outside.\n\
+\n\
+\x20     --closed  print symbolic links that lead out, too\n\
+\x20     --reason  print a reason and a tab before each path: `name`, `kind`,\n\
+\x20               `below`, `twice`, `target` or `out`\n\
+\n\
+Reads entries from standard input, three fields each, with a NUL after each\n\
+field: the kind (d for a directory, f for a file, l for a symbolic link, h for a\n\
+hard link; others are refused), the path, and the target of a link or nothing.\n\
+\n\
+Exit status 0: nothing outside a new, empty directory is created, changed or\n\
+removed by programs that extract these entries, in any order, and do not follow\n\
+a symbolic link that they have just made. With --closed, nor by programs that\n\
+do, such as unzip and 7z, and afterwards no path leads out of the directory.\n\
+\n\
+Take the list from the program that extracts, with the options that change\n\
+names.\n\
+\n\
+Example:\n\
+\x20 $ printf 'l\\0x\\0/etc\\0f\\0x/new\\0\\0' | upath archive\n\
+\x20 upath: x/new: lies below the symbolic link x\n\
+\x20 x/new\n\
+\n\
+`upath --help` shows the options of every command, but archive has no -p and no\n\
+--or.\n";
+
 const UNDER: &[u8] = b"\
 Usage: upath under [-v] [--strip] [--by-components] [OPTION]... BASE [--]\n\
 \x20   [PATH]...\n\
@@ -308,7 +339,7 @@ Example:\n\
 `upath --help` shows the options of every command.\n";
 
 /// The help texts of the commands.
-pub static COMMANDS: [HelpText<'static>; 18] = [
+pub static COMMANDS: [HelpText<'static>; 19] = [
     HelpText {
         name: b"canon",
         text: CANON,
@@ -364,6 +395,10 @@ pub static COMMANDS: [HelpText<'static>; 18] = [
     HelpText {
         name: b"escapes",
         text: ESCAPES,
+    },
+    HelpText {
+        name: b"archive",
+        text: ARCHIVE,
     },
     HelpText {
         name: b"under",

@@ -10,6 +10,7 @@ pub mod ReplyLemmas
 pub mod StepLemmas
 pub mod WaitLemmas
 pub mod RunLemmas
+pub mod ArchiveLemmas
 pub mod PathLemmas
 pub mod BlockLemmas
 pub mod AnswerLemmas

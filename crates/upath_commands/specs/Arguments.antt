@@ -5,6 +5,7 @@ use Rattle.std.specs.Prelude.{if◌then◌else◌, unwrap_or}
 use Rattle.std.specs.Option.{is_some, option_or, option_to_list}
 use Rattle.std.specs.List.{before_first, filter_map, filter, find, last_or, list_any, position}
 use Rattle.std.specs.Str.{byte, bytes_eq}
+use Rattle.upath_commands.specs.declared.command.ArchiveOptions.{ArchiveOptions}
 use Rattle.upath_commands.specs.declared.command.JoinRule.{JoinRule}
 use Rattle.upath_commands.specs.declared.command.JoinRule.TheVariants as rule
 use Rattle.upath_commands.specs.declared.command.EscapesOptions.{EscapesOptions}
@@ -98,6 +99,11 @@ abbrev pub escapes_options : List ItemValue → EscapesOptions
 escapes_options items =
     record { inverted = has items option.Inverted; with_reason = has items option.Reason }
 
+-- the options of `archive`
+abbrev pub archive_options : List ItemValue → ArchiveOptions
+archive_options items =
+    record { closed = has items option.Closed; with_reason = has items option.Reason }
+
 -- the options of `under`
 abbrev pub under_options : List ItemValue → UnderOptions
 under_options items = record {
@@ -177,6 +183,12 @@ equal_meaning words (a ∷ b ∷ []) = Ok (value.Equal (settings_of words.items)
 equal_meaning words (a ∷ b ∷ c ∷ operands) = Err (wrong.UnexpectedOperand, c)
 equal_meaning words _ = Err (wrong.MissingPair, words.name)
 
+-- the meaning of `archive`, which takes no operand, and reads the input also after `--`
+abbrev pub archive_meaning : Words → List (List ℕ) → Meaning
+archive_meaning words [] =
+    Ok (value.Archive (archive_options words.items) (settings_of words.items))
+archive_meaning words (operand ∷ operands) = Err (wrong.UnexpectedOperand, operand)
+
 -- the meaning of `join` with this rule
 abbrev pub join_meaning : Option JoinRule → Words → List (List ℕ) → Meaning
 join_meaning (Some rule) words operands =
@@ -209,6 +221,7 @@ meaning_of_verb verb.Key words operands = each value.Key words 1 operands
 meaning_of_verb verb.Unkey words operands = each value.Unkey words 1 operands
 meaning_of_verb verb.Escapes words operands =
     each (value.Escapes (escapes_options words.items)) words 1 operands
+meaning_of_verb verb.Archive words operands = archive_meaning words operands
 meaning_of_verb verb.Under words operands =
     each_after (value.Under (under_options words.items)) (wrong.MissingBase, words.name) words
     operands

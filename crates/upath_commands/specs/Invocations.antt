@@ -1,6 +1,7 @@
 -- Commands and invocations with bytes in place of paths.
 use Rattle.std.specs.Prelude.{ℕ, Bool, List, map, Option, option_map, Result, Ok, Err}
 use Rattle.unix_path.specs.declared.path.Path.{Path}
+use Rattle.upath_commands.specs.declared.command.ArchiveOptions.{ArchiveOptions}
 use Rattle.upath_commands.specs.declared.command.Command.{Command}
 use Rattle.upath_commands.specs.declared.command.Command.TheVariants as command
 use Rattle.upath_commands.specs.declared.command.EscapesOptions.{EscapesOptions}
@@ -42,11 +43,12 @@ pub record SettingsValue : Type 0 where
   pub quiet : Bool
   pub or : Option (List ℕ)
 
--- what a list of arguments asks for; without a list of paths, those of the input
+-- what a list of arguments asks for; `Each` without a list of paths takes those of the input
 pub data InvocationValue : Type 0 where
   Help : List ℕ → InvocationValue
   Version : InvocationValue
   Equal : SettingsValue → List ℕ → List ℕ → InvocationValue
+  Archive : ArchiveOptions → SettingsValue → InvocationValue
   Each : CommandValue → SettingsValue → Option (List (List ℕ)) → InvocationValue
 
 -- wrong usage: its kind, and the bytes of the argument that shows it
@@ -98,6 +100,8 @@ invocation_value (invocation.Help name) = Help (view_bytes name)
 invocation_value invocation.Version = Version
 invocation_value (invocation.Equal settings a b) =
     Equal (settings_value settings) (view_bytes a) (view_bytes b)
+invocation_value (invocation.Archive options settings) =
+    Archive options (settings_value settings)
 invocation_value (invocation.Each command settings paths) =
     Each (command_value command) (settings_value settings)
     (option_map (λ paths. map view_bytes paths.items) paths)

@@ -21,4 +21,6 @@ pub mod Usage
 pub mod Watched
 pub mod Outputs
 pub mod Replies
+pub mod Archives
 pub mod Runs
+pub mod ArchiveLaws

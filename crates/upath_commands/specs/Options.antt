@@ -29,6 +29,7 @@ verbs =
     ∷ (codes "key", verb.Key)
     ∷ (codes "unkey", verb.Unkey)
     ∷ (codes "escapes", verb.Escapes)
+    ∷ (codes "archive", verb.Archive)
     ∷ (codes "under", verb.Under)
     ∷ (codes "sort", verb.Sort)
     ∷ (codes "uniq", verb.Uniq)
@@ -41,6 +42,10 @@ verb_by_name name = lookup (bytes_eq name) verbs
 -- the commands that an option belongs to
 abbrev pub every : Verb → Bool
 every verb = true
+
+abbrev pub all_but_archive : Verb → Bool
+all_but_archive verb.Archive = false
+all_but_archive _ = true
 
 abbrev pub only_parts : Verb → Bool
 only_parts verb.Parts = true
@@ -57,6 +62,10 @@ only_relative _ = false
 abbrev pub only_escapes : Verb → Bool
 only_escapes verb.Escapes = true
 only_escapes _ = false
+
+abbrev pub only_archive : Verb → Bool
+only_archive verb.Archive = true
+only_archive _ = false
 
 abbrev pub only_under : Verb → Bool
 only_under verb.Under = true
@@ -82,16 +91,17 @@ row flag letter name commands =
 abbrev pub options : List OptionRow
 options =
     row option.Null (Some (byte "z")) (Some (codes "null")) every
-    ∷ row option.Pair (Some (byte "p")) (Some (codes "pair")) every
+    ∷ row option.Pair (Some (byte "p")) (Some (codes "pair")) all_but_archive
     ∷ row option.Quiet (Some (byte "q")) (Some (codes "quiet")) every
-    ∷ row option.Or None (Some (codes "or")) every
+    ∷ row option.Or None (Some (codes "or")) all_but_archive
     ∷ row option.FromBack (Some (byte "b")) None only_parts
     ∷ row option.Beneath None (Some (codes "beneath")) only_join
     ∷ row option.InRoot None (Some (codes "in-root")) only_join
     ∷ row option.Verbatim None (Some (codes "verbatim")) only_join
     ∷ row option.From None (Some (codes "from")) only_relative
     ∷ row option.Inverted (Some (byte "v")) None (λ v. only_escapes v || only_under v)
-    ∷ row option.Reason None (Some (codes "reason")) only_escapes
+    ∷ row option.Reason None (Some (codes "reason")) (λ v. only_escapes v || only_archive v)
+    ∷ row option.Closed None (Some (codes "closed")) only_archive
     ∷ row option.Strip None (Some (codes "strip")) only_under
     ∷ row option.ByComponents None (Some (codes "by-components")) only_under
     ∷ row option.Check (Some (byte "c")) None only_sort
@@ -116,6 +126,7 @@ option_number option.ByComponents = 12
 option_number option.Check = 13
 option_number option.Unique = 14
 option_number option.Reversed = 15
+option_number option.Closed = 16
 
 -- the options are the same
 abbrev pub same_option : Flag → Flag → Bool

@@ -1,6 +1,6 @@
 -- What an invocation prints, and its exit status.
-use Rattle.std.specs.Prelude.{ℕ, Bool, true, false, List, [], ◌++◌, take, Option, Some, None}
-use Rattle.std.specs.Prelude.{Ok, Err, find, if◌then◌else◌}
+use Rattle.std.specs.Prelude.{◌≡◌, ◌⊎◌, ◌↔◌, ℕ, Bool, true, false, List, [], ◌++◌, take}
+use Rattle.std.specs.Prelude.{Option, Some, None, Ok, Err, find, if◌then◌else◌}
 use Rattle.std.specs.Io.KnownBytes.{Appends}
 use Rattle.std.specs.List.{list_all, list_any}
 use Rattle.std.specs.Option.{option_map_or}
@@ -9,8 +9,9 @@ use Rattle.std.specs.Str.{bytes_eq}
 use Rattle.unix_path.specs.Order.{values_cmp}
 use Rattle.unix_path.specs.Parts.{values}
 use Rattle.upath_commands.specs.Answers.{end_of}
+use Rattle.upath_commands.specs.Archives.{IsSafe, OnArchive}
 use Rattle.upath_commands.specs.Invocations.{CommandValue, SettingsValue, InvocationValue, Meaning}
-use Rattle.upath_commands.specs.Invocations.{Help, Version, Equal, Each, Under}
+use Rattle.upath_commands.specs.Invocations.{Help, Version, Equal, Archive, Each, Under}
 use Rattle.upath_commands.specs.Outputs.{AppendsPrefix, Tells, TellsPrefix}
 use Rattle.upath_commands.specs.Records.{records_of}
 use Rattle.upath_commands.specs.Replies.{State}
@@ -49,30 +50,40 @@ help_text texts name =
 -- an invocation reads the input
 abbrev pub reads_input : InvocationValue → Bool
 reads_input (Each command settings None) = true
+reads_input (Archive options settings) = true
 reads_input _ = false
 
--- what an invocation writes
-abbrev pub run_output : Texts → InvocationValue → List ℕ → List ℕ
-run_output texts (Help name) input = help_text texts name
-run_output texts Version input = texts.version.now
-run_output texts (Equal settings a b) input = []
-run_output texts (Each command settings paths) input =
-    output_of record { command = command; settings = settings } (asked command settings paths input)
+-- P holds of what an invocation writes and of its messages
+abbrev pub OnPrinted : Texts → InvocationValue → List ℕ → (List ℕ → List ℕ → Type 0) → Type 0
+OnPrinted texts (Help name) input P = P (help_text texts name) []
+OnPrinted texts Version input P = P texts.version.now []
+OnPrinted texts (Equal settings a b) input P = P [] []
+OnPrinted texts (Archive options settings) input P = OnArchive options settings input P
+OnPrinted texts (Each command settings paths) input P =
+    let task : TaskValue = record { command = command; settings = settings } in
+    let those = asked command settings paths input in
+    P (output_of task those) (messages_of task those)
 
--- the messages of an invocation
-abbrev pub run_messages : InvocationValue → List ℕ → List ℕ
-run_messages (Each command settings paths) input =
-    messages_of record { command = command; settings = settings }
-    (asked command settings paths input)
-run_messages _ input = []
+-- the same after an error: if it came before `archive` decided, nothing was printed
+abbrev pub OnBegun : Texts → InvocationValue → List ℕ → (List ℕ → List ℕ → Type 0) → Type 0
+OnBegun texts (Archive options settings) input P =
+    P [] [] ⊎ OnArchive options settings input P
+OnBegun texts invocation input P = OnPrinted texts invocation input P
 
--- the answer of an invocation
-abbrev pub run_yes : InvocationValue → List ℕ → Bool
-run_yes (Equal settings a b) input = is_eq (values_cmp (values a) (values b))
-run_yes (Each command settings paths) input =
-    command_yes record { command = command; settings = settings }
+-- the answer of an invocation is this; of `archive` yes, if and only if the archive is safe
+abbrev pub IsAnswer : InvocationValue → List ℕ → Bool → Type 0
+IsAnswer (Help name) input answer = answer ≡ true
+IsAnswer Version input answer = answer ≡ true
+IsAnswer (Equal settings a b) input answer = answer ≡ is_eq (values_cmp (values a) (values b))
+IsAnswer (Archive options settings) input answer = (answer ≡ true) ↔ IsSafe options input
+IsAnswer (Each command settings paths) input answer =
+    answer ≡ command_yes record { command = command; settings = settings }
     (asked command settings paths input)
-run_yes _ input = true
+
+-- the exit status of an invocation: 0 if the answer is yes, 1 if not
+abbrev pub IsStatusOf : InvocationValue → List ℕ → ℕ → Type 0
+IsStatusOf invocation input status =
+    (answer : Bool) × IsAnswer invocation input answer × (status ≡ (if answer then 0 else 1))
 
 -- arguments with this meaning have the input read
 abbrev pub reads : Meaning → Bool
@@ -83,25 +94,27 @@ reads (Err usage) = false
 abbrev pub input_if : Bool → Option (List ℕ) → Option (List ℕ)
 input_if is_read input = if is_read then input else Some []
 
--- what is written for arguments with this meaning
-abbrev pub output_for : Texts → Meaning → List ℕ → List ℕ
-output_for texts (Ok invocation) input = run_output texts invocation input
-output_for texts (Err usage) input = []
+-- P holds of what is written for arguments with this meaning and of the messages: for paths that
+-- are not answered and entries that are refused, or for wrong usage
+abbrev pub OnReplies : Texts → Meaning → List ℕ → (List ℕ → List ℕ → Type 0) → Type 0
+OnReplies texts (Ok invocation) input P = OnPrinted texts invocation input P
+OnReplies texts (Err usage) input P = P [] (usage_line usage)
 
--- the messages: for paths that are not answered, or for wrong usage
-abbrev pub messages_for : Meaning → List ℕ → List ℕ
-messages_for (Ok invocation) input = run_messages invocation input
-messages_for (Err usage) input = usage_line usage
+-- the same after an error
+abbrev pub OnBegunReplies : Texts → Meaning → List ℕ → (List ℕ → List ℕ → Type 0) → Type 0
+OnBegunReplies texts (Ok invocation) input P = OnBegun texts invocation input P
+OnBegunReplies texts (Err usage) input P = P [] (usage_line usage)
 
 -- the exit status: 0 if the answer is yes, 1 if not, 2 for wrong usage
-abbrev pub status_for : Meaning → List ℕ → ℕ
-status_for (Ok invocation) input = if run_yes invocation input then 0 else 1
-status_for (Err usage) input = 2
+abbrev pub IsStatus : Meaning → List ℕ → ℕ → Type 0
+IsStatus (Ok invocation) input status = IsStatusOf invocation input status
+IsStatus (Err usage) input status = status ≡ 2
 
 -- nothing is printed, neither answers nor messages
 abbrev pub is_quiet : InvocationValue → Bool
 is_quiet (Equal settings a b) = settings.quiet
 is_quiet (Each command settings paths) = settings.quiet
+is_quiet (Archive options settings) = settings.quiet
 is_quiet _ = false
 
 -- nothing is printed for an error of the run

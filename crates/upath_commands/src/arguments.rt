@@ -1,6 +1,7 @@
 //! The meaning of a list of arguments.
 ghost use Rattle.std.specs.Prelude.{◌≡◌, ◌∷◌, [], IfErr, IfOk, map};
-ghost use Rattle.upath_commands.specs.Arguments.{asked_first, command_meaning, each, each_after};
+ghost use Rattle.upath_commands.specs.Arguments.{archive_meaning, archive_options, asked_first};
+ghost use Rattle.upath_commands.specs.Arguments.{command_meaning, each, each_after};
 ghost use Rattle.upath_commands.specs.Arguments.{equal_meaning, escapes_options, first_word};
 ghost use Rattle.upath_commands.specs.Arguments.{join_meaning, join_rule, meaning_of};
 ghost use Rattle.upath_commands.specs.Arguments.{meaning_of_items, meaning_of_verb, operands_of};
@@ -13,7 +14,8 @@ ghost use Rattle.upath_commands.specs.Words.{words_value};
 ghost use Rattle.std.specs.Prelude.{option_map};
 
 use crate::command::{
-    Command, EscapesOptions, Invocation, JoinRule, Settings, SortOptions, UnderOptions,
+    ArchiveOptions, Command, EscapesOptions, Invocation, JoinRule, Settings, SortOptions,
+    UnderOptions,
 };
 use crate::items::{Item, items_of};
 use crate::options::{Flag, Request, Verb, is, request_by_word, verb_by_name};
@@ -44,6 +46,16 @@ fn escapes_options(items: &[Item<'_>]) -> EscapesOptions
 {
     EscapesOptions {
         inverted: has(items, Flag::Inverted),
+        with_reason: has(items, Flag::Reason),
+    }
+}
+
+// Returns the options of `archive`.
+fn archive_options(items: &[Item<'_>]) -> ArchiveOptions
+    ensures { result ≡ archive_options (map item_value items.now) }
+{
+    ArchiveOptions {
+        closed: has(items, Flag::Closed),
         with_reason: has(items, Flag::Reason),
     }
 }
@@ -160,6 +172,23 @@ fn equal_of<'a>(
     }
 }
 
+// Returns the meaning of `archive` with these operands.
+fn archive_of<'a>(
+    words: Words<'a, '_>,
+    operands: &[Path<'a>],
+) -> Result<Invocation<'a>, UsageError<'a>>
+    ensures { meaning_value result ≡ archive_meaning (words_value words.entry)
+        (map view_bytes operands.now) }
+{
+    match operands {
+        [] => Ok(Invocation::Archive(archive_options(words.items), settings_of(words.items))),
+        [operand, ..] => Err(UsageError {
+            kind: UsageErrorKind::UnexpectedOperand,
+            argument: *operand,
+        }),
+    }
+}
+
 // Returns the meaning of `join` with these operands.
 fn join_of<'a>(
     words: Words<'a, '_>,
@@ -249,6 +278,7 @@ fn meaning_of_verb<'a>(
         Verb::Key => Command::Key,
         Verb::Unkey => Command::Unkey,
         Verb::Escapes => Command::Escapes(escapes_options(words.items)),
+        Verb::Archive => return archive_of(words, operands.as_slice()),
         Verb::Under => return under_of(words, operands),
         Verb::Sort => sort_command(words.items),
         Verb::Uniq => Command::Uniq,
@@ -357,9 +387,9 @@ fn asked_first<'a>(arguments: &[Path<'a>]) -> Option<Invocation<'a>>
 /// - An option may be repeated. The last `--from` and the last `--or` count.
 ///
 /// The first operand is the command. `join`, `strip` and `under` take the next one as ROOT or BASE,
-/// `equal` takes exactly two, and all others are paths. Without paths those of the input are asked
-/// for, unless `--` comes after the command and its ROOT or BASE: then only what follows it are
-/// paths, even if that is nothing.
+/// `equal` takes exactly two, `archive` none, and all others are paths. Without paths those of the
+/// input are asked for, unless `--` comes after the command and its ROOT or BASE: then only what
+/// follows it are paths, even if that is nothing. `archive` always reads the input.
 ///
 /// Of wrong usage, the first of these is reported:
 /// 1. a request just after a word that is no command: that word;

@@ -28,6 +28,17 @@ pub struct EscapesOptions {
     pub with_reason: bool,
 }
 
+/// The options of the command `archive`.
+///
+/// `upath archive --closed` sets `closed`.
+#[derive(Clone, Copy)]
+pub struct ArchiveOptions {
+    /// A symbolic link that leads out is refused, as at the level `Closed`.
+    pub closed: bool,
+    /// The reason is printed before each path.
+    pub with_reason: bool,
+}
+
 /// The options of the command `under`.
 ///
 /// `upath under --strip a` sets `stripped`.
@@ -123,6 +134,8 @@ pub enum Invocation<'a> {
     Version,
     /// Compare two paths. Nothing is printed, and the status answers.
     Equal(Settings<'a>, Path<'a>, Path<'a>),
+    /// Print the entries that are refused of the archive whose records are on standard input.
+    Archive(ArchiveOptions, Settings<'a>),
     /// Run a command for each of these paths, or for the paths on standard input.
     Each(Command<'a>, Settings<'a>, Option<Vec<Path<'a>>>),
 }

@@ -6,7 +6,7 @@
 //! buffer are unspecified. Everything here is lexical: symbolic links are not followed. Indices and
 //! lengths count bytes.
 //!
-//! Four modules have laws, each of which a proof can use if it calls a function:
+//! Five modules have laws, each of which a proof can use if it calls a function:
 //! - [`argument_laws`], of the meaning of arguments: `paths_after_dashes`, `paths_after_root`,
 //!   `help_first`, `help_after_command`, `options_follow_operands`, `letters_join`,
 //!   `value_after_equals_sign`, and of which wrong usage is reported: `unknown_option_first`;
@@ -14,12 +14,15 @@
 //!   `output_reads_back` and `quiet_prints_nothing`;
 //! - [`sort_laws`], of what `sort` and `uniq` print: `sort_orders`, `uniq_keeps_firsts` and
 //!   `sort_unique_keeps_firsts`;
-//! - [`key_laws`], of keys: `unkey_undoes_key` and `key_undoes_unkey`.
+//! - [`key_laws`], of keys: `unkey_undoes_key` and `key_undoes_unkey`;
+//! - [`archive_laws`], of the status of `archive`: `safe_stays_inside`.
 #![tactic(auto)]
 
 mod ancestors;
 mod answer;
 pub mod answer_laws;
+mod archive;
+pub mod archive_laws;
 pub mod argument_laws;
 mod arguments;
 mod bases;
@@ -38,6 +41,7 @@ mod parts;
 mod push;
 mod reasons;
 mod records;
+mod refused;
 mod replies;
 mod runs;
 mod searches;
@@ -52,7 +56,8 @@ mod words;
 
 pub use arguments::{argument_paths, invocation_of};
 pub use command::{
-    Command, EscapesOptions, Invocation, JoinRule, Settings, SortOptions, UnderOptions,
+    ArchiveOptions, Command, EscapesOptions, Invocation, JoinRule, Settings, SortOptions,
+    UnderOptions,
 };
 pub use output::RunError;
 pub use records::records_in;

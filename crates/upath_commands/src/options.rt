@@ -43,6 +43,8 @@ pub enum Flag {
     Unique,
     /// `-r`.
     Reversed,
+    /// `--closed`.
+    Closed,
 }
 
 /// A command, without its options and operands.
@@ -78,6 +80,8 @@ pub enum Verb {
     Unkey,
     /// `escapes`.
     Escapes,
+    /// `archive`.
+    Archive,
     /// `under`.
     Under,
     /// `sort`.
@@ -133,6 +137,7 @@ pub fn option_by_name(name: &[u8]) -> Option<Flag>
         _ if is(name, b"verbatim") => Some(Flag::Verbatim),
         _ if is(name, b"from") => Some(Flag::From),
         _ if is(name, b"reason") => Some(Flag::Reason),
+        _ if is(name, b"closed") => Some(Flag::Closed),
         _ if is(name, b"strip") => Some(Flag::Strip),
         _ if is(name, b"by-components") => Some(Flag::ByComponents),
         _ => None,
@@ -160,6 +165,7 @@ pub fn verb_by_name(name: &[u8]) -> Option<Verb>
         _ if is(name, b"key") => Some(Verb::Key),
         _ if is(name, b"unkey") => Some(Verb::Unkey),
         _ if is(name, b"escapes") => Some(Verb::Escapes),
+        _ if is(name, b"archive") => Some(Verb::Archive),
         _ if is(name, b"under") => Some(Verb::Under),
         _ if is(name, b"sort") => Some(Verb::Sort),
         _ if is(name, b"uniq") => Some(Verb::Uniq),
@@ -179,10 +185,12 @@ pub fn has_option(verb: Verb, option: Flag) -> bool
         Flag::Beneath | Flag::InRoot | Flag::Verbatim => matches!(verb, Verb::Join),
         Flag::From => matches!(verb, Verb::Relative),
         Flag::Inverted => matches!(verb, Verb::Escapes | Verb::Under),
-        Flag::Reason => matches!(verb, Verb::Escapes),
+        Flag::Reason => matches!(verb, Verb::Escapes | Verb::Archive),
+        Flag::Closed => matches!(verb, Verb::Archive),
         Flag::Strip | Flag::ByComponents => matches!(verb, Verb::Under),
         Flag::Check | Flag::Unique | Flag::Reversed => matches!(verb, Verb::Sort),
-        Flag::Null | Flag::Pair | Flag::Quiet | Flag::Or => true,
+        Flag::Pair | Flag::Or => !matches!(verb, Verb::Archive),
+        Flag::Null | Flag::Quiet => true,
     }
 }
 

@@ -229,6 +229,14 @@ impl<E: Write> Messages<E> {
         Ok(())
     }
 
+    // Writes these messages.
+    pub(crate) fn report_text(&mut self, messages: &[u8])
+        ensures { Tells (is_deaf self.old) (is_deaf self.new)
+            (E.contents (told_to self.old)) (E.contents (told_to self.new)) messages.now }
+    {
+        send(&mut self.writer, messages);
+    }
+
     // Writes the message for wrong usage.
     pub(crate) fn report_usage(&mut self, error: UsageError<'_>) -> Result<(), RunError>
         ensures told { OnOk result (Tells (is_deaf self.old) (is_deaf self.new)

@@ -12,14 +12,15 @@ ghost use Rattle.upath_commands.specs.Records.{paths_of};
 ghost use Rattle.upath_commands.specs.Replies.{Answered, answers_failed, answers_flushed, IsNew};
 ghost use Rattle.upath_commands.specs.Replies.{state_of, Stopped};
 ghost use Rattle.upath_commands.specs.Runs.{asked, Broken, command_yes, Done, Failed, help_text};
-ghost use Rattle.upath_commands.specs.Runs.{hides_errors, input_if, is_quiet, messages_for};
-ghost use Rattle.upath_commands.specs.Runs.{output_for, reads, reads_input, run_messages};
-ghost use Rattle.upath_commands.specs.Runs.{run_output, run_yes, status_for, yes_of};
+ghost use Rattle.upath_commands.specs.Runs.{hides_errors, input_if, is_quiet, IsAnswer, IsStatus};
+ghost use Rattle.upath_commands.specs.Runs.{IsStatusOf, OnBegun, OnBegunReplies, OnPrinted};
+ghost use Rattle.upath_commands.specs.Runs.{OnReplies, reads, reads_input, yes_of};
 ghost use Rattle.upath_commands.specs.Sorting.{chosen, is_gathered};
 ghost use Rattle.upath_commands.specs.Tasks.{messages_of, output_of, task_value};
 ghost use Rattle.upath_commands.specs.Usage.{usage_line};
 ghost use Rattle.upath_commands.specs.Watched.{has_failed, watched_inner};
 
+use crate::archive::run_archive;
 use crate::arguments::invocation_of;
 use crate::command::{Command, Invocation};
 use crate::engine::{answer_input, answer_paths};
@@ -320,19 +321,19 @@ fn run<R: Read, W: Write, E: Write>(
     ensures ok { let value = invocation_value invocation.now in
         OnOk result (IfSome (input_if (reads_input value)
         (R.remaining (watched_inner reader.old))) (λ input.
-        Done
-        (state_of W.contents E.contents replies.old) (state_of W.contents E.contents replies.new)
-        (run_output texts.entry value input) (run_messages value input))) }
+        OnPrinted texts.entry value input (Done
+        (state_of W.contents E.contents replies.old)
+        (state_of W.contents E.contents replies.new)))) }
     ensures yes { let value = invocation_value invocation.now in IfOk result (λ yes.
         IfSome (input_if (reads_input value)
         (R.remaining (watched_inner reader.old))) (λ input.
-        yes ≡ run_yes value input)) }
+        IsAnswer value input yes)) }
     ensures err { let value = invocation_value invocation.now in
         OnErr result (IfSome (input_if (reads_input value)
         (R.remaining (watched_inner reader.old))) (λ input.
-        Broken
-        (state_of W.contents E.contents replies.old) (state_of W.contents E.contents replies.new)
-        (run_output texts.entry value input) (run_messages value input))) }
+        OnBegun texts.entry value input (Broken
+        (state_of W.contents E.contents replies.old)
+        (state_of W.contents E.contents replies.new)))) }
     ensures unread { reads_input (invocation_value invocation.now) ≡ false
         → reader.new ≡ reader.old }
     ensures write { answers_failed replies.new ≡ is_write_error result }
@@ -343,6 +344,9 @@ fn run<R: Read, W: Write, E: Write>(
         Invocation::Help(name) => run_text(help_text(texts, name.bytes), replies),
         Invocation::Version => run_text(texts.version, replies),
         Invocation::Equal(_, path, other) => run_equal(*path, *other, replies),
+        Invocation::Archive(options, settings) => {
+            run_archive(alloc, *options, *settings, reader, replies)
+        }
         Invocation::Each(command, settings, paths) => {
             let task = Task {
                 command: *command,
@@ -361,7 +365,9 @@ fn is_quiet(invocation: &Invocation<'_>) -> bool
     ensures { result ≡ is_quiet (invocation_value invocation.now) }
 {
     match invocation {
-        Invocation::Equal(settings, _, _) | Invocation::Each(_, settings, _) => settings.quiet,
+        Invocation::Equal(settings, _, _)
+        | Invocation::Archive(_, settings)
+        | Invocation::Each(_, settings, _) => settings.quiet,
         _ => false,
     }
 }
@@ -379,21 +385,20 @@ fn run_invocation<R: Read, W: Write, E: Write>(
     ensures ok { let value = invocation_value invocation.now in
         OnOk result (IfSome (input_if (reads_input value)
         (R.remaining (watched_inner reader.old))) (λ input.
-        Done
-        (state_of W.contents E.contents replies.old) (state_of W.contents E.contents replies.new)
-        (run_output texts.entry value input) (run_messages value input))) }
+        OnPrinted texts.entry value input (Done
+        (state_of W.contents E.contents replies.old)
+        (state_of W.contents E.contents replies.new)))) }
     ensures status { let value = invocation_value invocation.now in IfOk result (λ status.
         IfSome (input_if (reads_input value)
         (R.remaining (watched_inner reader.old))) (λ input.
-        status ≡ (if run_yes value input then 0 else 1))) }
+        IsStatusOf value input status)) }
     ensures range { IfOk result (λ status. status < 3) }
     ensures err { let value = invocation_value invocation.now in IfErr result (λ error.
         IfSome (input_if (reads_input value)
         (R.remaining (watched_inner reader.old))) (λ input.
-        Failed
+        OnBegun texts.entry value input (λ output messages. Failed
         (state_of W.contents E.contents replies.old) (state_of W.contents E.contents replies.new)
-        (run_output texts.entry value input) (run_messages value input)
-        (error_line (is_quiet value) error))) }
+        output messages (error_line (is_quiet value) error)))) }
     ensures unread { reads_input (invocation_value invocation.now) ≡ false
         → reader.new ≡ reader.old }
     ensures write { answers_failed replies.new ≡ is_write_error result }
@@ -457,23 +462,22 @@ pub fn run_arguments<R: Read, W: Write, E: Write>(
     ensures ok { let meaning = meaning_of (paths_of arguments.now) in
         OnOk result (IfSome (input_if (reads meaning)
         (R.remaining (watched_inner reader.old))) (λ input.
-        Done
-        (state_of W.contents E.contents replies.old) (state_of W.contents E.contents replies.new)
-        (output_for texts.entry meaning input) (messages_for meaning input))) }
+        OnReplies texts.entry meaning input (Done
+        (state_of W.contents E.contents replies.old)
+        (state_of W.contents E.contents replies.new)))) }
     ensures status { let meaning = meaning_of (paths_of arguments.now) in IfOk result (λ status.
         IfSome (input_if (reads meaning)
         (R.remaining (watched_inner reader.old))) (λ input.
-        status ≡ status_for meaning input)) }
+        IsStatus meaning input status)) }
     ensures range { IfOk result (λ status. status < 3) }
 
     // What is left of both after an error, and the message for it.
     ensures err { let meaning = meaning_of (paths_of arguments.now) in IfErr result (λ error.
         IfSome (input_if (reads meaning)
         (R.remaining (watched_inner reader.old))) (λ input.
-        Failed
+        OnBegunReplies texts.entry meaning input (λ output messages. Failed
         (state_of W.contents E.contents replies.old) (state_of W.contents E.contents replies.new)
-        (output_for texts.entry meaning input) (messages_for meaning input)
-        (error_line (hides_errors meaning) error))) }
+        output messages (error_line (hides_errors meaning) error)))) }
 
     // The error is `Read` if and only if a read has failed, and `Write` or `Closed` if and only if
     // a write or a flush of answers has failed.
@@ -482,7 +486,7 @@ pub fn run_arguments<R: Read, W: Write, E: Write>(
     ensures flushed { IfOk result (λ status. status < 2
         → IsTrue (answers_flushed replies.new)) }
 
-    // Nothing is read but for a command without paths.
+    // Nothing is read but for `archive` and for a command without paths.
     ensures unread { reads (meaning_of (paths_of arguments.now)) ≡ false
         → reader.new ≡ reader.old }
 {

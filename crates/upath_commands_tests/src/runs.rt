@@ -162,6 +162,9 @@ fn wrong_usage(rt: HostRuntime) {
         ("relative a", "relative: --from=DIR is missing"),
         ("equal a", "equal: A or B is missing"),
         ("equal a b c", "c: one operand too many"),
+        ("archive a", "a: one operand too many"),
+        ("archive -p", "-p: unknown option"),
+        ("archive --or=a", "--or=a: unknown option"),
         ("canon a -- b", "a: comes before --"),
         ("canon a\n", "a\\x0a: has a newline, which needs -z"),
         (
@@ -244,6 +247,24 @@ fn inputs(rt: HostRuntime) {
         ("escapes -z", "../a\n", "1|../a\n\0|"),
         ("escapes --reason", "a\0\n", "1|nul\ta\0\n|"),
         ("under a", "b\nc\n", "1||"),
+        ("archive", "d\0a\0\0f\0a/b\0\0", "0||"),
+        (
+            "archive --reason",
+            "l\0x\0/\0f\0x/a\0\0",
+            "1|below\tx/a\n|upath: x/a: lies below the symbolic link x\n",
+        ),
+        (
+            "archive -z --closed",
+            "l\0x\0/\0",
+            "1|x\0|upath: x: leads out, to /\n",
+        ),
+        ("archive -q", "f\0/a\0\0", "1||"),
+        ("archive --", "", "1||upath: no entries\n"),
+        (
+            "archive",
+            "f\0a\0\0f\0b\0",
+            "1||upath: record 2 is cut off\n",
+        ),
     ] {
         let mut reader = Pairs {
             text: input.as_bytes(),
@@ -253,6 +274,7 @@ fn inputs(rt: HostRuntime) {
     for (line, input, want) in [
         ("escapes -q", "a\nb\n", "r||"),
         ("under a", "b\na\n", "r|a\n|upath: read error\n"),
+        ("archive", "f\0/a\0\0", "r||upath: read error\n"),
     ] {
         let mut reader = Once {
             text: input.as_bytes(),

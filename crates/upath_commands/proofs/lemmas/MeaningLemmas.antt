@@ -11,6 +11,7 @@ use Rattle.upath_commands.specs.declared.options.Verb.{Verb}
 use Rattle.upath_commands.specs.declared.options.Verb.TheVariants as verb
 use Rattle.upath_commands.specs.declared.usage.UsageErrorKind.TheVariants as wrong
 use Rattle.upath_commands.specs.Arguments.{Words, command_meaning, each, each_after, equal_meaning}
+use Rattle.upath_commands.specs.Arguments.{archive_meaning, archive_options}
 use Rattle.upath_commands.specs.Arguments.{asked_in, fault_of, is_dashes, meaning_of_items}
 use Rattle.upath_commands.specs.Arguments.{operand_of, operands_of}
 use Rattle.upath_commands.specs.Arguments.{dashes_at, escapes_options, first_of, foreign_option}
@@ -88,6 +89,17 @@ module _ (xs ys : List ItemValue) (same : SameOptions xs ys) (name : List ℕ) (
   escapes_options-same : escapes_options xs ≡ escapes_options ys
   escapes_options-same = rw (same.flags option.Inverted, same.flags option.Reason) refl
 
+  archive_options-same : archive_options xs ≡ archive_options ys
+  archive_options-same = rw (same.flags option.Closed, same.flags option.Reason) refl
+
+  archive_meaning-same : (operands : List (List ℕ))
+      → archive_meaning (words_of xs name n) operands
+      ≡ archive_meaning (words_of ys name n) operands
+  archive_meaning-same [] =
+      ap₂ (λ options settings. Ok (value.Archive options settings)) archive_options-same
+      settings_of-same
+  archive_meaning-same (operand ∷ operands) = refl
+
   under_options-same : under_options xs ≡ under_options ys
   under_options-same =
       rw (
@@ -131,6 +143,7 @@ module _ (xs ys : List ItemValue) (same : SameOptions xs ys) (name : List ℕ) (
       each-same (value.Escapes (escapes_options xs)) 1 operands
       ∙ ap (λ options. each (value.Escapes options) (words_of ys name n) 1 operands)
       escapes_options-same
+  meaning_of_verb-same verb.Archive operands = archive_meaning-same operands
   meaning_of_verb-same verb.Under operands =
       each_after-same (value.Under (under_options xs)) (wrong.MissingBase, name) operands
       ∙ ap (λ options. each_after (value.Under options) (wrong.MissingBase, name)

@@ -1,0 +1,59 @@
+-- What invocations print.
+use Rattle.std.proofs.Common.{◌≡◌, inl, inr, ℕ, Bool, List, [], Ok, Err}
+use Rattle.upath_commands.specs.declared.command.ArchiveOptions.{ArchiveOptions}
+use Rattle.upath_commands.specs.declared.output.RunError.TheVariants.{Arguments}
+use Rattle.upath_commands.specs.declared.runs.Texts.{Texts}
+use Rattle.upath_commands.specs.Archives.{OnArchive}
+use Rattle.upath_commands.specs.Invocations.{InvocationValue, Meaning, SettingsValue}
+use Rattle.upath_commands.specs.Invocations.{Help, Version, Equal, Archive, Each}
+use Rattle.upath_commands.specs.Outputs.{Tells, error_line}
+use Rattle.upath_commands.specs.Replies.{State}
+use Rattle.upath_commands.specs.Runs.{Broken, Failed, OnBegun, OnBegunReplies}
+use Rattle.upath_commands.proofs.lemmas.RunLemmas.{Failed-after, Failed-arguments}
+
+module _ (P Q : List ℕ → List ℕ → Type 0)
+    (f : (output messages : List ℕ) → P output messages → Q output messages) where
+  -- what follows of what `archive` prints
+  pub OnArchive-then : (options : ArchiveOptions) (settings : SettingsValue) (input : List ℕ)
+      → OnArchive options settings input P → OnArchive options settings input Q
+  OnArchive-then options settings input (found, is, h) = (found, is, f _ _ h)
+
+-- the line for an error was written, after what was printed before it
+pub OnBegun-failed : (old mid new : State) (line : List ℕ) (texts : Texts)
+    (invocation : InvocationValue) (input : List ℕ) → new.written ≡ mid.written
+    → Tells mid.is_deaf new.is_deaf mid.told new.told line
+    → OnBegun texts invocation input (Broken old mid)
+    → OnBegun texts invocation input (λ output messages. Failed old new output messages line)
+OnBegun-failed old mid new line texts (Help name) input same k h =
+    Failed-after old mid new _ _ line h same k
+OnBegun-failed old mid new line texts Version input same k h =
+    Failed-after old mid new _ _ line h same k
+OnBegun-failed old mid new line texts (Equal settings a b) input same k h =
+    Failed-after old mid new _ _ line h same k
+OnBegun-failed old mid new line texts (Archive options settings) input same k (inl h) =
+    inl (Failed-after old mid new _ _ line h same k)
+OnBegun-failed old mid new line texts (Archive options settings) input same k (inr h) =
+    inr (OnArchive-then (Broken old mid) (λ output messages. Failed old new output messages line)
+    (λ output messages h. Failed-after old mid new output messages line h same k) options settings
+    input h)
+OnBegun-failed old mid new line texts (Each command settings paths) input same k h =
+    Failed-after old mid new _ _ line h same k
+
+-- the caller reports that the arguments were not understood
+pub OnBegun-arguments : (old new : State) (is_quiet : Bool) (texts : Texts) (meaning : Meaning)
+    (input : List ℕ) → new.written ≡ old.written
+    → Tells old.is_deaf new.is_deaf old.told new.told []
+    → OnBegunReplies texts meaning input (λ output messages.
+    Failed old new output messages (error_line is_quiet Arguments))
+OnBegun-arguments old new quiet texts (Ok (Help name)) input same k =
+    Failed-arguments old new _ _ quiet same k
+OnBegun-arguments old new quiet texts (Ok Version) input same k =
+    Failed-arguments old new _ _ quiet same k
+OnBegun-arguments old new quiet texts (Ok (Equal settings a b)) input same k =
+    Failed-arguments old new _ _ quiet same k
+OnBegun-arguments old new quiet texts (Ok (Archive options settings)) input same k =
+    inl (Failed-arguments old new _ _ quiet same k)
+OnBegun-arguments old new quiet texts (Ok (Each command settings paths)) input same k =
+    Failed-arguments old new _ _ quiet same k
+OnBegun-arguments old new quiet texts (Err usage) input same k =
+    Failed-arguments old new _ _ quiet same k

@@ -1,0 +1,237 @@
+//! What `archive` prints for the entries that are refused.
+ghost use Rattle.std.specs.Prelude.{◌≡◌, ◌++◌, ◌∷◌, [], OnOk, map};
+ghost use Rattle.std.specs.List.{flat_map};
+ghost use Rattle.std.specs.Str.{byte};
+ghost use Rattle.path_archive.specs.EntryViews.{entry_value};
+ghost use Rattle.upath_commands.specs.Archives.{cut_line, cut_record, entry_in, kind_text};
+ghost use Rattle.upath_commands.specs.Archives.{leaf_text, or_its_target, or_target, printed_path};
+ghost use Rattle.upath_commands.specs.Archives.{reason_name};
+ghost use Rattle.upath_commands.specs.Archives.{refusal_message, refusal_record, refusal_text};
+ghost use Rattle.upath_commands.specs.Invocations.{settings_value};
+ghost use Rattle.upath_commands.specs.Shown.{shown};
+
+use crate::command::{ArchiveOptions, Settings};
+use crate::push::end_of;
+use crate::searches::has_newline;
+use crate::shown::push_shown;
+use path_archive::{Entry, Reason, Refusal};
+use std::alloc::AllocError;
+use unix_path::Path;
+
+// Returns the entry with this number, or one without a path.
+fn entry_at<'a>(entries: &[Entry<'a>], n: usize) -> Entry<'a>
+    ensures { entry_value result ≡ entry_in (map entry_value entries.now) n }
+{
+    if n < entries.len() {
+        return entries[n];
+    }
+    Entry::Other(Path { bytes: b"" })
+}
+
+// Returns the name of a reason.
+fn reason_name(reason: Reason) -> &'static [u8]
+    ensures { result.now ≡ reason_name reason }
+{
+    match reason {
+        Reason::Name => b"name",
+        Reason::Kind => b"kind",
+        Reason::BelowLeaf => b"below",
+        Reason::LinkUsedTwice => b"twice",
+        Reason::TargetIsLink => b"target",
+        Reason::LeadsOut => b"out",
+    }
+}
+
+// Appends a path as it is printed.
+fn push_path(path: &[u8], settings: Settings<'_>, out: &mut Vec<u8>) -> Result<(), AllocError>
+    ensures { OnOk result (out.new.items ≡ out.old.items
+        ++ printed_path (settings_value settings.entry) path.now) }
+{
+    if has_newline(path) && !settings.null {
+        return push_shown(path, out);
+    }
+    out.extend_from_slice(path)?;
+    Ok(())
+}
+
+// Appends the record for a refusal.
+fn push_record(
+    options: ArchiveOptions,
+    settings: Settings<'_>,
+    entries: &[Entry<'_>],
+    refusal: Refusal,
+    out: &mut Vec<u8>,
+) -> Result<(), AllocError>
+    ensures { OnOk result (out.new.items ≡ out.old.items ++ refusal_record options
+        (settings_value settings.entry) (map entry_value entries.now) refusal) }
+{
+    if options.with_reason {
+        out.extend_from_slice(reason_name(refusal.reason))?;
+        out.push(b'\t')?;
+    }
+    push_path(entry_at(entries, refusal.entry).path().bytes, settings, out)?;
+    out.push(end_of(settings))?;
+    Ok(())
+}
+
+// Appends the record for each refusal.
+pub(crate) fn push_records(
+    options: ArchiveOptions,
+    settings: Settings<'_>,
+    entries: &[Entry<'_>],
+    refusals: &[Refusal],
+    out: &mut Vec<u8>,
+) -> Result<(), AllocError>
+    ensures { OnOk result (out.new.items ≡ out.old.items ++ flat_map (refusal_record options
+        (settings_value settings.entry) (map entry_value entries.now)) refusals.now) }
+{
+    for refusal in refusals {
+        push_record(options, settings, entries, *refusal, out)?;
+    }
+    Ok(())
+}
+
+// Appends bytes as messages show them, and a space.
+fn push_word(bytes: &[u8], out: &mut Vec<u8>) -> Result<(), AllocError>
+    ensures { OnOk result (out.new.items ≡ out.old.items ++ (shown bytes.now ++ byte " " ∷ [])) }
+{
+    push_shown(bytes, out)?;
+    out.push(b' ')?;
+    Ok(())
+}
+
+// Appends the target of a hard link, which may be what is refused.
+fn push_or_target(entry: Entry<'_>, out: &mut Vec<u8>) -> Result<(), AllocError>
+    ensures { OnOk result (out.new.items ≡ out.old.items ++ or_target (entry_value entry.entry)) }
+{
+    if let Entry::HardLink(_, target) = entry {
+        out.extend_from_slice(b"this path or the target ")?;
+        push_word(target.bytes, out)?;
+    }
+    Ok(())
+}
+
+// Returns what an entry is.
+fn kind_text(entry: Entry<'_>) -> &'static [u8]
+    ensures { result.now ≡ kind_text (entry_value entry.entry) }
+{
+    match entry {
+        Entry::Directory(_) => b"the directory ",
+        Entry::File(_) => b"the file ",
+        Entry::Symlink(_, _) => b"the symbolic link ",
+        Entry::HardLink(_, _) => b"the hard link ",
+        Entry::Other(_) => b"the entry ",
+    }
+}
+
+// Appends the target of a hard link, which may be what another path is below.
+fn push_or_its_target(entry: Entry<'_>, out: &mut Vec<u8>) -> Result<(), AllocError>
+    ensures { OnOk result (out.new.items
+        ≡ out.old.items ++ or_its_target (entry_value entry.entry)) }
+{
+    if let Entry::HardLink(_, target) = entry {
+        out.extend_from_slice(b" or its target ")?;
+        push_shown(target.bytes, out)?;
+    }
+    Ok(())
+}
+
+// Appends the entry below which another path is.
+fn push_leaf(entry: Entry<'_>, out: &mut Vec<u8>) -> Result<(), AllocError>
+    ensures { OnOk result (out.new.items ≡ out.old.items ++ leaf_text (entry_value entry.entry)) }
+{
+    out.extend_from_slice(kind_text(entry))?;
+    push_shown(entry.path().bytes, out)?;
+    push_or_its_target(entry, out)
+}
+
+// Appends why an entry is refused.
+fn push_text(
+    reason: Reason,
+    entry: Entry<'_>,
+    cause: Entry<'_>,
+    out: &mut Vec<u8>,
+) -> Result<(), AllocError>
+    ensures { OnOk result (out.new.items ≡ out.old.items
+        ++ refusal_text reason (entry_value entry.entry) (entry_value cause.entry)) }
+{
+    match reason {
+        Reason::Name => {
+            push_or_target(entry, out)?;
+            out.extend_from_slice(b"has a root, has a .., or does not end in a name")?;
+        }
+        Reason::Kind => out.extend_from_slice(b"neither a directory, a file nor a link")?,
+        Reason::BelowLeaf => {
+            push_or_target(entry, out)?;
+            out.extend_from_slice(b"lies below ")?;
+            push_leaf(cause, out)?;
+        }
+        Reason::LinkUsedTwice => out.extend_from_slice(b"is a symbolic link, and used twice")?,
+        Reason::TargetIsLink => {
+            out.extend_from_slice(b"hard link to the link ")?;
+            push_shown(cause.path().bytes, out)?;
+        }
+        Reason::LeadsOut => {
+            out.extend_from_slice(b"leads out, to ")?;
+            push_shown(entry.target().bytes, out)?;
+        }
+    }
+    Ok(())
+}
+
+// Appends the message for a refusal.
+fn push_message(
+    entries: &[Entry<'_>],
+    refusal: Refusal,
+    out: &mut Vec<u8>,
+) -> Result<(), AllocError>
+    ensures { OnOk result (out.new.items ≡ out.old.items
+        ++ refusal_message (map entry_value entries.now) refusal) }
+{
+    let entry = entry_at(entries, refusal.entry);
+    let cause = entry_at(entries, refusal.cause);
+    out.extend_from_slice(b"upath: ")?;
+    push_shown(entry.path().bytes, out)?;
+    out.extend_from_slice(b": ")?;
+    push_text(refusal.reason, entry, cause, out)?;
+    out.push(b'\n')?;
+    Ok(())
+}
+
+// Appends the message for each refusal.
+pub(crate) fn push_messages(
+    entries: &[Entry<'_>],
+    refusals: &[Refusal],
+    out: &mut Vec<u8>,
+) -> Result<(), AllocError>
+    ensures { OnOk result (out.new.items ≡ out.old.items
+        ++ flat_map (refusal_message (map entry_value entries.now)) refusals.now) }
+{
+    for refusal in refusals {
+        push_message(entries, *refusal, out)?;
+    }
+    Ok(())
+}
+
+// Returns the number, from 1, of the record that is cut off in this input.
+fn cut_record(input: &[u8]) -> usize
+    ensures { result ≡ cut_record input.now }
+{
+    let mut count = 0;
+    for byte in input {
+        if *byte == 0 {
+            count += 1;
+        }
+    }
+    count / 3 + 1
+}
+
+// Appends the message for an input in which a record is cut off.
+pub(crate) fn push_cut(input: &[u8], out: &mut Vec<u8>) -> Result<(), AllocError>
+    ensures { OnOk result (out.new.items ≡ out.old.items ++ cut_line input.now) }
+{
+    let n = cut_record(input);
+    let line = format!(in *out.allocator(); "upath: record {n} is cut off\n")?;
+    out.extend_from_slice(line.as_bytes())?;
+    Ok(())
+}
