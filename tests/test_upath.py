@@ -209,7 +209,7 @@ class Given(Case):
     def test_help(self):
         """Help texts are those of tools/upath.txt, wherever they are asked for."""
         whole = TEXTS["general_help"](COMMON, COMMANDS, TASKS)
-        asked = [(it, whole) for it in ("--help", "-h", "help", "help cannon", "--help -x")]
+        asked = [(it, whole) for it in ("--help", "-h", "help", "help -x", "--help -x")]
         for it in COMMANDS:
             asked += [(line.format(it.name), TEXTS["command_help"](it)) for line in (
                 "{} --help", "{} -h -x", "help {}", "-h {}", "--help {} --version", "-z {} --help")]

@@ -262,13 +262,16 @@ class Arguments:
 
 
 def requested(words):
-    """Returns the text that `help`, `-h`, `--help` or `--version` asks for, or None."""
+    """Returns the text that `help`, `-h`, `--help` or `--version` asks for, or None. Raises wrong
+    usage if a word follows `help`, `-h` or `--help` that is neither a command nor an option."""
     first, (name, after) = words[:1], Arguments(words).asked(words)
     names = {it.name.encode(): it for it in COMMANDS}
     if first == [b"--version"]:
         return TEXTS["version"]()
     if first in ([b"help"], [b"-h"], [b"--help"]):
         name = words[1] if len(words) > 1 else b""
+        if name not in names and words[1:] and name[:1] != b"-":
+            raise Usage(f"{shown(name)}: unknown command")
     elif name not in names or after not in REQUESTS:
         return None
     elif after == [b"--version"]:
@@ -560,10 +563,10 @@ def records(data, end):
 
 def expected(words, data):
     """Returns the status and both outputs of a run with these arguments and this input."""
-    text = requested(words)
-    if text is not None:
-        return 0, "".join(f"{it}\n" for it in text).encode(), b""
     try:
+        text = requested(words)
+        if text is not None:
+            return 0, "".join(f"{it}\n" for it in text).encode(), b""
         call = Call(words)
     except Usage as error:
         return 2, b"", f"upath: {error}\nTry 'upath --help'.\n".encode()

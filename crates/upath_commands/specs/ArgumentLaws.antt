@@ -8,6 +8,7 @@ use Rattle.std.specs.Option.{is_none, is_some}
 use Rattle.std.specs.Str.{byte, bytes_eq}
 use Rattle.upath_commands.specs.declared.command.JoinRule.TheVariants.{Beneath}
 use Rattle.upath_commands.specs.declared.usage.UsageErrorKind.{UsageErrorKind}
+use Rattle.upath_commands.specs.declared.usage.UsageErrorKind.TheVariants.{UnknownCommand}
 use Rattle.upath_commands.specs.declared.usage.UsageErrorKind.TheVariants.{UnknownLetter}
 use Rattle.upath_commands.specs.Arguments.{first_word, meaning_of}
 use Rattle.upath_commands.specs.Invocations.{Canon, Each, Help, InvocationValue, Join, Meaning}
@@ -46,10 +47,21 @@ PathsAfterRoot = (root : List ℕ) (paths : List (List ℕ)) → IsTrue (is_plai
     → meaning_of (codes "join" ∷ codes "-z" ∷ codes "--beneath" ∷ root ∷ codes "--" ∷ paths)
     ≡ Ok (Each (Join Beneath root) null_only (Some paths))
 
--- `--help` as the first argument asks for help on what the next argument names, whatever follows
+-- `--help` as the first argument asks for help on the command that the next argument names,
+-- whatever follows
 abbrev pub HelpFirst : Type 0
-HelpFirst = (after : List (List ℕ))
-    → meaning_of (codes "--help" ∷ after) ≡ Ok (Help (first_word after))
+HelpFirst = (name : List ℕ) (after : List (List ℕ)) → IsTrue (is_some (verb_by_name name))
+    → meaning_of (codes "--help" ∷ name ∷ after) ≡ Ok (Help name)
+
+-- before another word it is wrong usage
+abbrev pub HelpUnknown : Type 0
+HelpUnknown = (word : List ℕ) (after : List (List ℕ)) → IsTrue (is_plain word)
+    → verb_by_name word ≡ None
+    → meaning_of (codes "--help" ∷ word ∷ after) ≡ Err (UnknownCommand, word)
+
+-- alone it asks for help in general
+abbrev pub HelpAlone : Type 0
+HelpAlone = meaning_of (codes "--help" ∷ []) ≡ Ok (Help [])
 
 -- `--help` just after a command asks for help on it, whatever options precede the command, and
 -- whatever follows

@@ -1,9 +1,10 @@
 -- The meaning of a list of arguments.
 use Rattle.std.specs.Prelude.{ℕ, Bool, true, false, ◌==◌, List, [], ◌∷◌, ◌++◌, length, Option}
-use Rattle.std.specs.Prelude.{Some, None, Ok, Err, codes, nat_le, nat_lt, option_map}
+use Rattle.std.specs.Prelude.{Some, None, Ok, Err, codes, nat_le, nat_lt, not, option_map}
 use Rattle.std.specs.Prelude.{if◌then◌else◌, unwrap_or}
 use Rattle.std.specs.Option.{is_some, option_or, option_to_list}
 use Rattle.std.specs.List.{before_first, filter_map, filter, find, last_or, list_any, position}
+use Rattle.std.specs.List.{starts_with}
 use Rattle.std.specs.Str.{byte, bytes_eq}
 use Rattle.upath_commands.specs.declared.command.ArchiveOptions.{ArchiveOptions}
 use Rattle.upath_commands.specs.declared.command.JoinRule.{JoinRule}
@@ -274,16 +275,18 @@ abbrev pub first_word : List (List ℕ) → List ℕ
 first_word [] = []
 first_word (word ∷ words) = word
 
--- what the first argument asks for in the place of a command
-abbrev pub asked_first : List (List ℕ) → Option InvocationValue
-asked_first [] = None
-asked_first (word ∷ words) =
-    option_map (λ asked. requested asked (first_word words)) (request_of word)
+-- what is asked for before these arguments: help is on the command that the first one names, unless
+-- that begins with a dash
+abbrev pub asked_with : Request → List (List ℕ) → Meaning
+asked_with request.Help (word ∷ words) =
+    if not (starts_with ◌==◌ word (codes "-")) then asked_of request.Help word (verb_by_name word)
+    else Ok (value.Help word)
+asked_with asked words = Ok (requested asked (first_word words))
 
--- the invocation that is asked for, or else this meaning
-abbrev pub request_or : Option InvocationValue → Meaning → Meaning
-request_or (Some invocation) meaning = Ok invocation
-request_or None meaning = meaning
+-- what the first argument asks for in the place of a command
+abbrev pub asked_first : List (List ℕ) → Option Meaning
+asked_first [] = None
+asked_first (word ∷ words) = option_map (λ asked. asked_with asked words) (request_of word)
 
 -- the meaning of these items
 abbrev pub meaning_of_items : List ItemValue → Meaning
@@ -294,4 +297,4 @@ meaning_of_items items =
 -- the meaning of these arguments
 unfoldable pub meaning_of : List (List ℕ) → Meaning
 meaning_of arguments =
-    request_or (asked_first arguments) (meaning_of_items (items_after None arguments))
+    unwrap_or (asked_first arguments) (meaning_of_items (items_after None arguments))

@@ -1,6 +1,6 @@
 //! Laws of arguments: facts about their meaning, each available to a proof that calls it.
-ghost use Rattle.upath_commands.specs.ArgumentLaws.{HelpAfterCommand, HelpFirst, LettersJoin};
-ghost use Rattle.upath_commands.specs.ArgumentLaws.{LettersJoinInKind};
+ghost use Rattle.upath_commands.specs.ArgumentLaws.{HelpAfterCommand, HelpAlone, HelpFirst};
+ghost use Rattle.upath_commands.specs.ArgumentLaws.{HelpUnknown, LettersJoin, LettersJoinInKind};
 ghost use Rattle.upath_commands.specs.ArgumentLaws.{OptionsFollowOperands, PathsAfterDashes};
 ghost use Rattle.upath_commands.specs.ArgumentLaws.{PathsAfterRoot, UnknownOptionFirst};
 ghost use Rattle.upath_commands.specs.ArgumentLaws.{ValueAfterEqualsSign};
@@ -19,11 +19,15 @@ pub fn paths_after_root()
     ensures { PathsAfterRoot }
 {}
 
-/// `--help` as the first argument asks for help, whatever follows.
+/// `--help` as the first argument asks for help on the command that the next argument names,
+/// whatever follows. Before another word it is wrong usage, and alone it asks for help in general.
 ///
-/// `upath --help cannon -x` asks for help, although there is no command `cannon`.
+/// `upath --help canon -x` asks for help on `canon`, although `-x` is no option, and
+/// `upath --help cannon` is wrong usage.
 pub fn help_first()
-    ensures { HelpFirst }
+    ensures command { HelpFirst }
+    ensures unknown { HelpUnknown }
+    ensures alone { HelpAlone }
 {}
 
 /// `--help` just after a command asks for help on it, whatever options precede the command, and

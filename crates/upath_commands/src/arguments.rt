@@ -1,6 +1,7 @@
 //! The meaning of a list of arguments.
 ghost use Rattle.std.specs.Prelude.{◌≡◌, ◌∷◌, [], IfErr, IfOk, map};
 ghost use Rattle.upath_commands.specs.Arguments.{archive_meaning, archive_options, asked_first};
+ghost use Rattle.upath_commands.specs.Arguments.{asked_with};
 ghost use Rattle.upath_commands.specs.Arguments.{command_meaning, each, each_after};
 ghost use Rattle.upath_commands.specs.Arguments.{equal_meaning, escapes_options, first_word};
 ghost use Rattle.upath_commands.specs.Arguments.{join_meaning, join_rule, meaning_of};
@@ -20,8 +21,8 @@ use crate::command::{
 use crate::items::{Item, items_of};
 use crate::options::{Flag, Request, Verb, is, request_by_word, verb_by_name};
 use crate::searches::{
-    dashes_at, fault_in, foreign_option, has, last_value, newline_fault, operands_in, request_in,
-    requested,
+    asked_of, dashes_at, fault_in, foreign_option, has, last_value, newline_fault, operands_in,
+    request_in, requested,
 };
 use crate::usage::{UsageError, UsageErrorKind};
 use crate::words::Words;
@@ -358,14 +359,25 @@ fn request_of(word: &[u8]) -> Option<Request>
     request_by_word(word)
 }
 
+// Returns what is asked for before these arguments. Help is on the command that the first one names,
+// unless that begins with a dash.
+fn asked_with<'a>(request: Request, words: &[Path<'a>]) -> Result<Invocation<'a>, UsageError<'a>>
+    ensures { meaning_value result ≡ asked_with request (map view_bytes words.now) }
+{
+    match (request, words) {
+        (Request::Help, [word, ..]) if !word.bytes.starts_with(b"-") => asked_of(request, *word),
+        _ => Ok(requested(request, first_word(words))),
+    }
+}
+
 // Returns what the first argument asks for in the place of a command.
-fn asked_first<'a>(arguments: &[Path<'a>]) -> Option<Invocation<'a>>
-    ensures { option_map invocation_value result ≡ asked_first (map view_bytes arguments.now) }
+fn asked_first<'a>(arguments: &[Path<'a>]) -> Option<Result<Invocation<'a>, UsageError<'a>>>
+    ensures { option_map meaning_value result ≡ asked_first (map view_bytes arguments.now) }
 {
     match arguments {
         [word, words @ ..] => {
             let request = request_of(word.bytes)?;
-            Some(requested(request, first_word(words)))
+            Some(asked_with(request, words))
         }
         [] => None,
     }
@@ -375,7 +387,8 @@ fn asked_first<'a>(arguments: &[Path<'a>]) -> Option<Invocation<'a>>
 ///
 /// The rules are those of GNU's programs, but that requests count only where they stand first:
 /// - `--help`, `-h` and `help` as the first argument ask for help on the command that the second
-///   argument names, or in general; `--version` asks for the version. So do `--help`, `-h` and
+///   argument names, or in general if that begins with a dash or is missing; `--version` asks for
+///   the version. So do `--help`, `-h` and
 ///   `--version` just after the command's name. Elsewhere they are wrong usage.
 /// - An argument that begins with `--` is a long option, and one that begins with `-` is one short
 ///   option for each letter after the dash. All others are operands, and so is a single `-`.
@@ -392,7 +405,8 @@ fn asked_first<'a>(arguments: &[Path<'a>]) -> Option<Invocation<'a>>
 /// follows it are paths, even if that is nothing. `archive` always reads the input.
 ///
 /// Of wrong usage, the first of these is reported:
-/// 1. a request just after a word that is no command: that word;
+/// 1. a word that is no command, just before a request or just after `--help`, `-h` or `help` as the
+///    first argument: that word;
 /// 2. an unknown option, an option without its value, a value for another option, or a request that
 ///    doesn't count;
 /// 3. no command, or an unknown one;
@@ -413,8 +427,8 @@ pub fn invocation_of<'a>(
     ensures { IfOk result (λ meaning. meaning_value meaning
         ≡ meaning_of (map view_bytes arguments.now)) }
 {
-    if let Some(invocation) = asked_first(arguments) {
-        return Ok(Ok(invocation));
+    if let Some(meaning) = asked_first(arguments) {
+        return Ok(meaning);
     }
     let items = items_of(alloc, arguments)?;
     let operands = operands_in(alloc, items.as_slice())?;

@@ -48,7 +48,10 @@ pub fn requested(request: Request, name: Path<'_>) -> Invocation<'_>
 }
 
 // Returns what is asked for just after this name, or wrong usage if no command has it.
-fn asked_of<'a>(request: Request, name: Path<'a>) -> Result<Invocation<'a>, UsageError<'a>>
+pub(crate) fn asked_of<'a>(
+    request: Request,
+    name: Path<'a>,
+) -> Result<Invocation<'a>, UsageError<'a>>
     ensures { meaning_value result ≡ asked_of request (view_bytes name.entry)
         (verb_by_name (view_bytes name.entry)) }
 {

@@ -1,7 +1,7 @@
 -- The items of arguments, and what is asked for by the first argument.
 use Rattle.std.proofs.Common.{◌≡◌, ◌≢◌, ◌<◌, ℕ, true, false, List, [], ◌∷◌, ◌++◌, map, codes}
 use Rattle.std.proofs.Common.{Option, Some, None, refl, sym, ap, ap₂, ◌∙◌, eqb, ne_eqb, arith}
-use Rattle.std.proofs.Common.{option_map, is_some, Ok}
+use Rattle.std.proofs.Common.{option_map, is_some, unwrap_or, Ok}
 use Rattle.std.specs.List.{All, list_all}
 use Rattle.std.specs.Str.{bytes_eq}
 use Rattle.std.proofs.lemmas.Bool.{eqb-false, eqb-true, false≢true}
@@ -16,7 +16,7 @@ use Rattle.upath_commands.specs.declared.options.Request.{Request}
 use Rattle.upath_commands.specs.declared.options.Verb.{Verb}
 use Rattle.upath_commands.specs.declared.usage.UsageErrorKind.TheVariants.{UnknownLetter}
 use Rattle.upath_commands.specs.Arguments.{asked_first, first_word, meaning_of, meaning_of_items}
-use Rattle.upath_commands.specs.Arguments.{asked_of, request_of, request_or, requested}
+use Rattle.upath_commands.specs.Arguments.{asked_of, asked_with, request_of, requested}
 use Rattle.upath_commands.specs.ArgumentLaws.{is_plain, short}
 use Rattle.upath_commands.specs.Items.{character, items_after, letter_item}
 use Rattle.upath_commands.specs.Items.{letter_items, operand}
@@ -92,7 +92,7 @@ request_of-short a letters h e = rw (ne_eqb a 45 h, e) refl
 pub first_asks_nothing : (argument : List ℕ) (after : List (List ℕ)) → request_of argument ≡ None
     → asked_first (argument ∷ after) ≡ None
 first_asks_nothing argument after h =
-    ap (option_map (λ asked. requested asked (first_word after))) h
+    ap (option_map (λ asked. asked_with asked after)) h
 
 -- nor do arguments that don't begin with a dash, before one that is no request
 pub not_asked : (before : List (List ℕ)) (argument : List ℕ) (after : List (List ℕ))
@@ -109,7 +109,7 @@ pub meaning_of-items : (arguments : List (List ℕ)) → asked_first arguments �
     → meaning_of arguments ≡ meaning_of_items (items_after None arguments)
 unfolding meaning_of
 meaning_of-items arguments h =
-    ap (λ asked. request_or asked (meaning_of_items (items_after None arguments))) h
+    ap (λ asked. unwrap_or asked (meaning_of_items (items_after None arguments))) h
 
 -- the name of a command doesn't begin with a dash
 pub verb-plain : (name : List ℕ) → is_some (verb_by_name name) ≡ true → is_plain name ≡ true
