@@ -28,6 +28,9 @@ _upath() {
         --or:*) ;;
         ::-*)
             found="$(_upath_options "$1") ${command:+$(_upath_options "$1" "$command")}"
+            if [ "$command" = archive ]; then
+                found=$(sed -E '/^(-p --pair| --or=)$/d' <<< "$found")
+            fi
             mapfile -t COMPREPLY < <(compgen -W "$found" -- "$word")
             [[ ${COMPREPLY[0]} == *= ]] && compopt -o nospace
             ;;

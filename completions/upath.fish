@@ -46,7 +46,11 @@ function __upath_next
                 echo --from=$it
             end
         case '::-*'
-            __upath_options $words[1]
+            if test "$command[1]" = archive
+                __upath_options $words[1] | string match -rv '^(-p|--pair|--or=)\t'
+            else
+                __upath_options $words[1]
+            end
             if set -q command[1]
                 __upath_options $words[1] $command[1]
             end

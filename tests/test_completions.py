@@ -1,10 +1,10 @@
 #!/usr/bin/env python3
 """Tests what the completions of upath offer in bash, zsh and fish, compared with tools/upath.txt.
 
-They offer the commands first, after `-` the options of the command and those of every command,
-directories as the value of `--from`, and files elsewhere. After `--` only files are offered. An
-operand that has the name of a command, and the value of an option, change nothing. In bash, lines
-are also typed with tabs, in a terminal.
+They offer the commands first, after `-` the options of the command and those of every command that
+it doesn't lack, directories as the value of `--from`, and files elsewhere. After `--` only files
+are offered. An operand that has the name of a command, and the value of an option, change nothing.
+In bash, lines are also typed with tabs, in a terminal.
 """
 import importlib.machinery
 import importlib.util
@@ -92,7 +92,9 @@ def after(line, words):
 
 def rows_of(command, common, other):
     """Yields the lines with this command, and what each has to offer."""
-    start, options = f"upath {command.name}", flags([*common, *command.options])
+    given = [it for it in (*common, *command.options)
+             if not {f"-{it.letter}", f"--{it.name}"} & {*command.lacks}]
+    start, options = f"upath {command.name}", flags(given)
     yield from (after(f"{start} {it}", options)
                 for it in ("-", "--", "a -", f"{other} --", f"--or {other} -", f"--or={other} --"))
     yield from (after(f"upath {it} {command.name} --", options)

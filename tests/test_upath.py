@@ -21,8 +21,8 @@ import tempfile
 import tty
 
 from support import ROOT, UPATH, Case, main, needs
-from upath_model import (COMMANDS, COMMON, NEEDED, TASKS, TEXTS, Call, Usage, all_parts, expected,
-                         key, order_of, requested)
+from upath_model import (COMMANDS, COMMON, NEEDED, TASKS, TEXTS, Call, Usage, all_parts,
+                         entries_of, expected, key, order_of, requested)
 
 SECONDS = 60
 # What the paths of random runs are made of, each with its frequency.
@@ -73,7 +73,7 @@ class Maker:
         return self.random.sample(found, len(found))
 
     def entries(self):
-        """Returns the records of entries that often clash. The last record may be cut off."""
+        """Returns entries that often clash: kinds, paths and targets."""
         found = []
         for _ in range(self.random.choice([0, 1, 2, 3, 4, 5, 6, 9])):
             kind = self.random.choice([b"d", b"d", b"f", b"f", b"l", b"l", b"h", b"h", b"o", b""])
@@ -82,9 +82,30 @@ class Maker:
                 k=self.random.choice([1, 1, 2, 3]))) for _ in range(2))
             if self.often(0.1):
                 path, target = self.path(b"\0"), self.path(b"\0")
-            found += [kind, path, target]
-        data = b"".join(it + b"\0" for it in found)
-        return data[:self.random.randrange(len(data) + 1)] if self.often(0.1) else data
+            found.append((kind, path, target))
+        return found
+
+    def archive(self, is_listed):
+        """Returns the entries of an archive as records, or as they are listed. Some bytes may be
+        missing or others."""
+        lines = [self.line(*it) if is_listed else b"\0".join(it) + b"\0"
+                 for it in self.entries()]
+        data = bytearray(b"".join(lines))
+        if data and self.often(0.2):
+            data[self.random.randrange(len(data))] = self.random.choice(b"\0 \"\\/0x-\n\xff")
+        if self.often(0.1):
+            data = data[:self.random.randrange(len(data) + 1)]
+        return bytes(data)
+
+    def line(self, kind, path, target):
+        """Returns an entry as GNU tar lists it. A path has a byte or more there."""
+        letter = {b"f": b"-", b"o": b"p", b"": b"C"}.get(kind, kind)
+        words = {b"l": b" -> ", b"h": b" link to "}.get(kind)
+        columns = self.random.choice([
+            b"rwxr-xr-x 0/0 0 2026-11-30 12:00", b"rwsr-sr-T 1000/100     12 1970-01-01 00:00",
+            b"rw-r--r-- 7/8 8,0 -1-01-01 23:59", b"--------- 0/0 9  -62135596801"])
+        name = quoted(path or b"a")
+        return letter + columns + b" " + name + (words + quoted(target) if words else b"") + b"\n"
 
     def option(self, option):
         """Returns an option as one argument or as two."""
@@ -114,10 +135,18 @@ class Maker:
             at = self.random.randrange(len(words) + 1)
             words[at:at + self.random.randrange(2)] = [self.random.choice(HOSTILE)]
         if command.name == "archive":
-            return words, self.entries()
+            return words, self.archive(b"--tar-list" in words)
         end = b"\0" if is_null else b"\n"
         data = b"".join(it + end for it in self.paths(command, 30, end))
         return words, data[:-1] if self.often(0.2) else data
+
+
+def quoted(name):
+    """Returns a name as GNU tar quotes it with --quoting-style=c."""
+    letters = dict(zip(b'\a\b\t\n\v\f\r"\\', b'abtnvfr"\\'))
+    return b'"%b"' % b"".join(
+        b"\\%c" % letters[it] if it in letters
+        else bytes([it]) if 32 <= it <= 126 else b"\\%03o" % it for it in name)
 
 
 def call(words, data=b"", **options):

@@ -537,14 +537,60 @@ def refusal_text(reason, entry, cause):
             "out": f"leads out, to {shown(target)}"}[reason]
 
 
-def archive(call, data):
-    """Returns the status and both outputs of `archive` for this input."""
+# A line of what `LC_ALL=C tar -tvP --numeric-owner --quoting-style=c` prints, without its end.
+NUMBER, QUOTED = rb"[0-9]+", rb'"((?:[^"\\]|\\[^0-7]|\\[0-7]{3})*)"'
+DATE = rb"-?[0-9]+-[0-9]{2}-[0-9]{2} +[0-9]{2}:[0-9]{2}|-?[0-9]+"
+LINE = re.compile(rb"([-dClhbcp])[-rwxsStT]{9} %b/%b +%b(?:,%b)? +(?:%b) +%b(?:( -> | link to )%b)?"
+                  % (NUMBER, NUMBER, NUMBER, NUMBER, DATE, QUOTED, QUOTED))
+LETTERS = dict(zip(b'abtnvfr"\\', b'\a\b\t\n\v\f\r"\\'))
+
+
+def unquoted(text):
+    """Returns the name that is quoted like this, or None if no name is."""
+    found = []
+    for it in re.findall(rb"\\[0-7]{3}|\\?.", text, re.S):
+        byte = it[0] if len(it) == 1 else int(it[1:], 8) if len(it) == 4 else LETTERS.get(it[1])
+        is_printed = len(it) == 1 and 32 <= byte <= 126
+        is_octal = len(it) == 4 and byte <= 255 and not 32 <= byte <= 126 and byte \
+            and byte not in LETTERS.values()
+        if not (is_printed or is_octal or len(it) == 2 and byte is not None):
+            return None
+        found.append(byte)
+    return bytes(found)
+
+
+def listed_entry(line):
+    """Returns the entry that is listed by a line, or None if none is."""
+    found = LINE.fullmatch(line)
+    if not found:
+        return None
+    kind, name, words, target = found.groups()
+    kind = {b"-": b"f", b"C": b"f"}.get(kind, kind)
+    name, target = unquoted(name), unquoted(target or b"")
+    if not name or target is None or words != {b"l": b" -> ", b"h": b" link to "}.get(kind):
+        return None
+    return kind, name, target
+
+
+def entries_of(call, data):
+    """Returns the entries of an input, and why it is refused as a whole, or None."""
+    if "tar-list" in call.options:
+        *lines, rest = data.split(b"\n")
+        entries = [listed_entry(it) for it in lines] + [None] * (rest != b"")
+        if None in entries:
+            return [], f"line {entries.index(None) + 1}: not a line of tar's listing"
+        return entries, None if entries else "no entries"
     *fields, rest = data.split(b"\0")
     if rest or len(fields) % 3:
-        return 1, b"", f"upath: record {len(fields) // 3 + 1} is cut off\n".encode()
-    entries = [*zip(fields[::3], fields[1::3], fields[2::3])]
-    if not entries:
-        return 1, b"", b"upath: no entries\n"
+        return [], f"record {len(fields) // 3 + 1} is cut off"
+    return [*zip(fields[::3], fields[1::3], fields[2::3])], None if fields else "no entries"
+
+
+def archive(call, data):
+    """Returns the status and both outputs of `archive` for this input."""
+    entries, wrong = entries_of(call, data)
+    if wrong:
+        return 1, b"", f"upath: {wrong}\n".encode()
     output, messages = b"", ""
     for reason, number, cause in refusals_of(entries, "closed" in call.options):
         path = entries[number][1]

@@ -254,15 +254,17 @@ Example:\n\
 `upath --help` shows the options of every command.\n";
 
 const ARCHIVE: &[u8] = b"\
-Usage: upath archive [--closed] [--reason] [OPTION]...\n\
+Usage: upath archive [--tar-list] [--closed] [--reason] [OPTION]...\n\
 \n\
 Prints the entries by which an archive could write outside.\n\
 \n\
-\x20     --closed  print symbolic links that lead out, too\n\
-\x20     --reason  print a reason and a tab before each path: `name`, `kind`,\n\
-\x20               `below`, `twice`, `target` or `out`\n\
+\x20     --tar-list  read what GNU tar prints with LC_ALL=C and -tvP --numeric-\n\
+\x20                 owner --quoting-style=c\n\
+\x20     --closed    print symbolic links that lead out, too\n\
+\x20     --reason    print a reason and a tab before each path: `name`, `kind`,\n\
+\x20                 `below`, `twice`, `target` or `out`\n\
 \n\
-Reads entries from standard input, three fields each, with a NUL after each\n\
+Without --tar-list, reads three fields for each entry, with a NUL after each\n\
 field: the kind (d for a directory, f for a file, l for a symbolic link, h for a\n\
 hard link; others are refused), the path, and the target of a link or nothing.\n\
 \n\
@@ -271,7 +273,7 @@ removed by programs that extract these entries, in any order, and do not follow\
 a symbolic link that they have just made. With --closed, nor by programs that\n\
 do, such as unzip and 7z, and afterwards no path leads out of the directory.\n\
 \n\
-Take the list from the program that extracts, with the options that change\n\
+Take the list from the program that extracts, with its options that change\n\
 names.\n\
 \n\
 Example:\n\

@@ -11,6 +11,7 @@ pub mod StepLemmas
 pub mod WaitLemmas
 pub mod RunLemmas
 pub mod ArchiveLemmas
+pub mod DecisionLemmas
 pub mod PathLemmas
 pub mod BlockLemmas
 pub mod AnswerLemmas

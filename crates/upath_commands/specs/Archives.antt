@@ -1,13 +1,12 @@
 -- What `archive` prints of the entries that are refused.
-use Rattle.std.specs.Prelude.{◌≡◌, ◌≢◌, ◌+◌, ◌/◌, ◌==◌, ◌&&◌, not, ℕ, Bool, true, false, List}
-use Rattle.std.specs.Prelude.{[], ◌∷◌, ◌++◌, Option, map, option_map}
-use Rattle.std.specs.Prelude.{Some, None, IsSomeAnd, codes, count_by, decimal, if◌then◌else◌}
-use Rattle.std.specs.Prelude.{slice_index_or}
+use Rattle.std.specs.Prelude.{◌≡◌, ◌≢◌, ◌⊎◌, ◌+◌, ◌/◌, ◌==◌, ◌&&◌, not, ℕ, Bool, true, false}
+use Rattle.std.specs.Prelude.{List, [], ◌∷◌, ◌++◌, Option, Some, None, codes, count_by, decimal}
+use Rattle.std.specs.Prelude.{if◌then◌else◌, slice_index_or}
 use Rattle.std.specs.List.{flat_map}
 use Rattle.std.specs.Str.{byte}
 use Rattle.path_archive.specs.Entries.{EntryValue, DirectoryEntry, FileEntry, SymlinkEntry}
 use Rattle.path_archive.specs.Entries.{HardLinkEntry, OtherEntry, path_of}
-use Rattle.path_archive.specs.EntryViews.{entry_value, target_of}
+use Rattle.path_archive.specs.EntryViews.{target_of}
 use Rattle.path_archive.specs.Records.{entries_in}
 use Rattle.path_archive.specs.Refusals.{Decides, numbered_from}
 use Rattle.path_archive.specs.Rule.{AcceptedAt}
@@ -18,46 +17,22 @@ use Rattle.path_archive.specs.declared.refusal.Reason.TheVariants.{Name, Kind, B
 use Rattle.path_archive.specs.declared.refusal.Reason.TheVariants.{LinkUsedTwice, TargetIsLink}
 use Rattle.path_archive.specs.declared.refusal.Reason.TheVariants.{LeadsOut}
 use Rattle.path_archive.specs.declared.refusal.Refusal.{Refusal}
+use Rattle.tar_listing.specs.Form.{IsListing, IsRefusedAt}
 use Rattle.upath_commands.specs.Answers.{end_of}
 use Rattle.upath_commands.specs.Arguments.{has_newline}
 use Rattle.upath_commands.specs.Invocations.{SettingsValue}
 use Rattle.upath_commands.specs.Refusals.{reason_line}
 use Rattle.upath_commands.specs.Shown.{shown}
 use Rattle.upath_commands.specs.declared.archive.Decision.{Decision}
-use Rattle.upath_commands.specs.declared.archive.Found.{Found as FoundOf}
 use Rattle.upath_commands.specs.declared.command.ArchiveOptions.{ArchiveOptions}
 
 -- the level that the options ask for
 abbrev pub level_of : ArchiveOptions → Level
 level_of options = if options.closed then Closed else Inside
 
--- no record of the input is cut off, and its entries, one or more, are accepted
-abbrev pub IsSafe : ArchiveOptions → List ℕ → Type 0
-IsSafe options input = IsSomeAnd (entries_in input) (λ entries.
-    (entries ≢ []) × AcceptedAt (level_of options) entries)
-
--- the entries of an input and their refusals; None if a record is cut off
-abbrev pub Found : Type 0
-Found = Option (List EntryValue × List Refusal)
-
--- these are the entries of the input, and these refusals decide them
-abbrev pub IsFound : ArchiveOptions → List ℕ → Found → Type 0
-IsFound options input None = entries_in input ≡ None
-IsFound options input (Some found) = (entries_in input ≡ Some found.0)
-    × Decides (level_of options) (numbered_from 0 found.0) found.1
-
 -- the entry with the number n
 abbrev pub entry_in : List EntryValue → ℕ → EntryValue
 entry_in entries n = slice_index_or entries n (OtherEntry [])
-
--- the entries and refusals, with the bytes that their views point to
-abbrev pub found_value : Option FoundOf → Found
-found_value found = option_map (λ f. (map entry_value f.entries.items, f.refusals.items)) found
-
--- no record is cut off, there is an entry, and none is refused
-abbrev pub is_safe : Found → Bool
-is_safe (Some (e ∷ entries, [])) = true
-is_safe found = false
 
 -- the number, from 1, of the record that is cut off: each record before it has three NULs
 abbrev pub cut_record : List ℕ → ℕ
@@ -128,37 +103,76 @@ abbrev pub cut_line : List ℕ → List ℕ
 cut_line input =
     codes "upath: record " ++ (decimal (cut_record input) ++ codes " is cut off\n")
 
--- what is written for these entries and refusals, unless `quiet`
-abbrev pub refusal_records : ArchiveOptions → SettingsValue → Found → List ℕ
-refusal_records options settings None = []
-refusal_records options settings (Some (entries, refusals)) =
-    flat_map (refusal_record options settings entries) refusals
+-- the message for a line that isn't of the form of a listing
+abbrev pub refused_line : ℕ → List ℕ
+refused_line n = codes "upath: line " ++ (decimal n ++ codes ": not a line of tar's listing\n")
 
--- the messages for these entries and refusals, unless `quiet`
-abbrev pub refusal_messages : List ℕ → Found → List ℕ
-refusal_messages input None = cut_line input
-refusal_messages input (Some ([], refusals)) = codes "upath: no entries\n"
-refusal_messages input (Some (e ∷ entries, refusals)) =
-    flat_map (refusal_message (e ∷ entries)) refusals
+-- an input, which is a listing or records, is of these entries
+abbrev pub IsInput : Bool → List ℕ → List EntryValue → Type 0
+IsInput true input entries = IsListing input entries
+IsInput false input entries = entries_in input ≡ Some entries
 
--- what is written for these entries and refusals
-abbrev pub found_output : ArchiveOptions → SettingsValue → Found → List ℕ
-found_output options settings found =
-    if settings.quiet then [] else refusal_records options settings found
+-- an input is refused as a whole, with this message: a line isn't of the form, or a record is cut
+-- off
+abbrev pub IsNoInput : Bool → List ℕ → List ℕ → Type 0
+IsNoInput true input line = (n : ℕ) × IsRefusedAt input n × (line ≡ refused_line n)
+IsNoInput false input line = (entries_in input ≡ None) × (line ≡ cut_line input)
 
--- the messages for these entries and refusals
-abbrev pub found_messages : SettingsValue → List ℕ → Found → List ℕ
-found_messages settings input found =
-    if settings.quiet then [] else refusal_messages input found
+-- there are entries, and all are accepted
+abbrev pub AreSafe : ArchiveOptions → List EntryValue → Type 0
+AreSafe options entries = (entries ≢ []) × AcceptedAt (level_of options) entries
 
--- P holds of what `archive` writes and of its messages
-abbrev pub OnArchive : ArchiveOptions → SettingsValue → List ℕ → (List ℕ → List ℕ → Type 0)
+-- so are the entries of the input
+abbrev pub IsSafeIn : Bool → ArchiveOptions → List ℕ → Type 0
+IsSafeIn listing options input =
+    (entries : List EntryValue) × IsInput listing input entries × AreSafe options entries
+
+abbrev pub IsSafe : ArchiveOptions → List ℕ → Type 0
+IsSafe options input = IsSafeIn options.tar_list options input
+
+-- what is written for these refusals of entries
+abbrev pub entries_output : ArchiveOptions → SettingsValue → List EntryValue → List Refusal
+    → List ℕ
+entries_output options settings entries refusals =
+    if settings.quiet then [] else flat_map (refusal_record options settings entries) refusals
+
+-- the messages for these refusals of entries, unless `quiet`
+abbrev pub refusal_lines : List EntryValue → List Refusal → List ℕ
+refusal_lines [] refusals = codes "upath: no entries\n"
+refusal_lines (e ∷ entries) refusals = flat_map (refusal_message (e ∷ entries)) refusals
+
+-- the messages for these refusals of entries
+abbrev pub entries_messages : SettingsValue → List EntryValue → List Refusal → List ℕ
+entries_messages settings entries refusals =
+    if settings.quiet then [] else refusal_lines entries refusals
+
+-- P holds of what is written for these entries and of the messages, by refusals that decide them
+abbrev pub OnEntries : ArchiveOptions → SettingsValue → List EntryValue
+    → (List ℕ → List ℕ → Type 0) → Type 0
+OnEntries options settings entries P =
+    (refusals : List Refusal) × Decides (level_of options) (numbered_from 0 entries) refusals
+    × P (entries_output options settings entries refusals)
+    (entries_messages settings entries refusals)
+
+-- P holds of what is written for an input, which is a listing or records, and of the messages
+abbrev pub OnInput : Bool → ArchiveOptions → SettingsValue → List ℕ
+    → (List ℕ → List ℕ → Type 0) → Type 0
+OnInput listing options settings input P =
+    ((line : List ℕ) × IsNoInput listing input line × P [] (if settings.quiet then [] else line))
+    ⊎ ((entries : List EntryValue) × IsInput listing input entries
+    × OnEntries options settings entries P)
+
+-- the same of what `archive` writes
+unfoldable pub OnArchive : ArchiveOptions → SettingsValue → List ℕ → (List ℕ → List ℕ → Type 0)
     → Type 0
-OnArchive options settings input P =
-    (found : Found) × IsFound options input found
-    × P (found_output options settings found) (found_messages settings input found)
+OnArchive options settings input P = OnInput options.tar_list options settings input P
 
 -- this is the output and these are the messages
 abbrev pub IsText : Decision → List ℕ → List ℕ → Type 0
 IsText decision output messages =
     (decision.output.items ≡ output) × (decision.messages.items ≡ messages)
+
+-- there are entries, and no refusals
+abbrev pub none_refused : List EntryValue → List Refusal → Bool
+none_refused (e ∷ entries) [] = true
+none_refused entries refusals = false

@@ -102,8 +102,11 @@ escapes_options items =
 
 -- the options of `archive`
 abbrev pub archive_options : List ItemValue → ArchiveOptions
-archive_options items =
-    record { closed = has items option.Closed; with_reason = has items option.Reason }
+archive_options items = record {
+  tar_list = has items option.TarList;
+  closed = has items option.Closed;
+  with_reason = has items option.Reason;
+}
 
 -- the options of `under`
 abbrev pub under_options : List ItemValue → UnderOptions

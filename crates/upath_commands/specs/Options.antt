@@ -102,6 +102,7 @@ options =
     ∷ row option.Inverted (Some (byte "v")) None (λ v. only_escapes v || only_under v)
     ∷ row option.Reason None (Some (codes "reason")) (λ v. only_escapes v || only_archive v)
     ∷ row option.Closed None (Some (codes "closed")) only_archive
+    ∷ row option.TarList None (Some (codes "tar-list")) only_archive
     ∷ row option.Strip None (Some (codes "strip")) only_under
     ∷ row option.ByComponents None (Some (codes "by-components")) only_under
     ∷ row option.Check (Some (byte "c")) None only_sort
@@ -127,6 +128,7 @@ option_number option.Check = 13
 option_number option.Unique = 14
 option_number option.Reversed = 15
 option_number option.Closed = 16
+option_number option.TarList = 17
 
 -- the options are the same
 abbrev pub same_option : Flag → Flag → Bool

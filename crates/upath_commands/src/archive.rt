@@ -1,8 +1,10 @@
 //! The command `archive`, which decides whether the entries of an archive are accepted.
-ghost use Rattle.std.specs.Prelude.{◌≡◌, ◌++◌, ◌↔◌, [], IfErr, IfOk, IfSome, IsTrue, OnErr, OnOk};
-ghost use Rattle.std.specs.Prelude.{◌⊎◌, false, true};
-ghost use Rattle.upath_commands.specs.Archives.{found_messages, found_output, found_value, IsFound};
-ghost use Rattle.upath_commands.specs.Archives.{IsSafe, IsText, OnArchive, is_safe, level_of};
+ghost use Rattle.std.specs.Prelude.{◌≡◌, ◌++◌, ◌↔◌, ◌⊎◌, [], IfErr, IfOk, IfSome, IsTrue, OnErr};
+ghost use Rattle.std.specs.Prelude.{OnOk, false, if◌then◌else◌, map, true};
+ghost use Rattle.path_archive.specs.EntryViews.{entry_value};
+ghost use Rattle.upath_commands.specs.Archives.{IsSafe, IsSafeIn, IsText, OnArchive, OnInput};
+ghost use Rattle.upath_commands.specs.Archives.{cut_line, entries_messages, entries_output};
+ghost use Rattle.upath_commands.specs.Archives.{level_of, none_refused, refused_line};
 ghost use Rattle.upath_commands.specs.Invocations.{settings_value};
 ghost use Rattle.upath_commands.specs.Outputs.{is_read_error, is_write_error};
 ghost use Rattle.upath_commands.specs.Replies.{answers_failed, answers_flushed, IsNew, state_of};
@@ -12,19 +14,14 @@ ghost use Rattle.upath_commands.specs.Watched.{has_failed, watched_inner};
 use crate::command::{ArchiveOptions, Settings};
 use crate::input::read_all;
 use crate::output::RunError;
-use crate::refused::{push_cut, push_messages, push_records};
+use crate::refused::{push_cut, push_messages, push_records, push_refused_line};
 use crate::replies::Replies;
 use crate::watched::Watched;
 use path_archive::{Entry, Level, Refusal, entries, refusals};
 use std::alloc::{AllocError, Global};
 use std::io::{Read, Write};
-
-// The entries of an input, and their refusals.
-#[derive(Drop)]
-pub(crate) struct Found<'a> {
-    pub(crate) entries: Vec<Entry<'a>>,
-    pub(crate) refusals: Vec<Refusal>,
-}
+use tar_listing::laws::listing_reads_back;
+use tar_listing::records_of;
 
 // What is written, the messages, and the answer.
 #[derive(Drop)]
@@ -45,81 +42,172 @@ fn level_of(options: ArchiveOptions) -> Level
     }
 }
 
-// Returns the entries of an input and their refusals, or `None` if a record is cut off.
-fn find(
-    alloc: Global,
-    options: ArchiveOptions,
-    input: &[u8],
-) -> Result<Option<Found<'_>>, AllocError>
-    ensures found { IfOk result (λ found. IsFound options input.now (found_value found)) }
-    ensures safe { IfOk result (λ found.
-        (is_safe (found_value found) ≡ true) ↔ IsSafe options input.now) }
+// Returns true if there are entries, and none is refused.
+fn none_refused(entries: &[Entry<'_>], refusals: &[Refusal]) -> bool
+    ensures { result ≡ none_refused (map entry_value entries.now) refusals.now }
 {
-    let Some(entries) = entries(alloc, input)? else {
-        return Ok(None);
-    };
-    let Some(refusals) = refusals(alloc, input, level_of(options))? else {
-        return Ok(None);
-    };
-    Ok(Some(Found { entries, refusals }))
+    !entries.is_empty() && refusals.is_empty()
 }
 
-// Returns true if no record is cut off, there is an entry, and none is refused.
-fn is_safe(found: &Option<Found<'_>>) -> bool
-    ensures { result ≡ is_safe (found_value found.now) }
-{
-    match found {
-        Some(found) => !found.entries.is_empty() && found.refusals.is_empty(),
-        None => false,
-    }
-}
-
-// Appends what is written for these entries and refusals, unless `quiet`.
+// Appends what is written for these refusals of entries.
 fn push_output(
     options: ArchiveOptions,
     settings: Settings<'_>,
-    found: &Option<Found<'_>>,
+    entries: &[Entry<'_>],
+    refusals: &[Refusal],
     out: &mut Vec<u8>,
 ) -> Result<(), AllocError>
-    ensures { let value = settings_value settings.entry in OnOk result (out.new.items
-        ≡ out.old.items ++ found_output options value (found_value found.now)) }
+    ensures { OnOk result (out.new.items ≡ out.old.items ++ entries_output options
+        (settings_value settings.entry) (map entry_value entries.now) refusals.now) }
 {
     if settings.quiet {
         return Ok(());
     }
-    if let Some(Found { entries, refusals }) = found {
-        push_records(
-            options,
-            settings,
-            entries.as_slice(),
-            refusals.as_slice(),
-            out,
-        )?;
+    push_records(options, settings, entries, refusals, out)
+}
+
+// Appends the messages for these refusals of entries.
+fn push_lines(
+    settings: Settings<'_>,
+    entries: &[Entry<'_>],
+    refusals: &[Refusal],
+    out: &mut Vec<u8>,
+) -> Result<(), AllocError>
+    ensures { OnOk result (out.new.items ≡ out.old.items ++ entries_messages
+        (settings_value settings.entry) (map entry_value entries.now) refusals.now) }
+{
+    if settings.quiet {
+        return Ok(());
+    }
+    if entries.is_empty() {
+        out.extend_from_slice(b"upath: no entries\n")?;
+        return Ok(());
+    }
+    push_messages(entries, refusals, out)
+}
+
+// Returns what is written for these refusals of entries, the messages and the answer.
+fn decide_entries(
+    alloc: Global,
+    options: ArchiveOptions,
+    settings: Settings<'_>,
+    entries: &[Entry<'_>],
+    refusals: &[Refusal],
+) -> Result<Decision, AllocError>
+    ensures texts { let value = settings_value settings.entry in
+        let those = map entry_value entries.now in IfOk result (λ decision.
+        IsText decision (entries_output options value those refusals.now)
+        (entries_messages value those refusals.now)) }
+    ensures safe { IfOk result (λ decision.
+        decision.is_safe ≡ none_refused (map entry_value entries.now) refusals.now) }
+{
+    let mut output = Vec::new(alloc);
+    push_output(options, settings, entries, refusals, &mut output)?;
+    let mut messages = Vec::new(alloc);
+    push_lines(settings, entries, refusals, &mut messages)?;
+    Ok(Decision {
+        output,
+        messages,
+        is_safe: none_refused(entries, refusals),
+    })
+}
+
+// Appends a message, unless `quiet`.
+fn push_line(settings: Settings<'_>, line: &[u8], out: &mut Vec<u8>) -> Result<(), AllocError>
+    ensures { OnOk result (out.new.items ≡ out.old.items
+        ++ (if (settings_value settings.entry).quiet then [] else line.now)) }
+{
+    if !settings.quiet {
+        out.extend_from_slice(line)?;
     }
     Ok(())
 }
 
-// Appends the messages for these entries and refusals, unless `quiet`.
-fn push_found(
-    settings: Settings<'_>,
-    input: &[u8],
-    found: &Option<Found<'_>>,
-    out: &mut Vec<u8>,
-) -> Result<(), AllocError>
-    ensures { let value = settings_value settings.entry in OnOk result (out.new.items
-        ≡ out.old.items ++ found_messages value input.now (found_value found.now)) }
+// Returns the decision on an input that is refused as a whole, with this message.
+fn refuse(alloc: Global, settings: Settings<'_>, line: &[u8]) -> Result<Decision, AllocError>
+    ensures texts { IfOk result (λ decision. IsText decision []
+        (if (settings_value settings.entry).quiet then [] else line.now)) }
+    ensures safe { IfOk result (λ decision. decision.is_safe ≡ false) }
 {
-    if settings.quiet {
-        return Ok(());
+    let mut messages = Vec::new(alloc);
+    push_line(settings, line, &mut messages)?;
+    Ok(Decision {
+        output: Vec::new(alloc),
+        messages,
+        is_safe: false,
+    })
+}
+
+// Returns the decision on records of which one is cut off.
+fn refuse_records(
+    alloc: Global,
+    settings: Settings<'_>,
+    records: &[u8],
+) -> Result<Decision, AllocError>
+    ensures texts { IfOk result (λ decision. IsText decision []
+        (if (settings_value settings.entry).quiet then [] else cut_line records.now)) }
+    ensures safe { IfOk result (λ decision. decision.is_safe ≡ false) }
+{
+    let mut line = Vec::new(alloc);
+    push_cut(records, &mut line)?;
+    refuse(alloc, settings, line.as_slice())
+}
+
+// Returns the decision on a listing whose line with this number isn't of the form.
+fn refuse_line(alloc: Global, settings: Settings<'_>, n: usize) -> Result<Decision, AllocError>
+    ensures texts { IfOk result (λ decision. IsText decision []
+        (if (settings_value settings.entry).quiet then [] else refused_line n)) }
+    ensures safe { IfOk result (λ decision. decision.is_safe ≡ false) }
+{
+    let mut line = Vec::new(alloc);
+    push_refused_line(n, &mut line)?;
+    refuse(alloc, settings, line.as_slice())
+}
+
+// Returns what is written for records, the messages and the answer.
+fn decide_records(
+    alloc: Global,
+    options: ArchiveOptions,
+    settings: Settings<'_>,
+    records: &[u8],
+) -> Result<Decision, AllocError>
+    ensures texts { IfOk result (λ decision.
+        OnInput false options (settings_value settings.entry) records.now (IsText decision)) }
+    ensures safe { IfOk result (λ decision.
+        (decision.is_safe ≡ true) ↔ IsSafeIn false options records.now) }
+{
+    let Some(entries) = entries(alloc, records)? else {
+        return refuse_records(alloc, settings, records);
+    };
+    let Some(refusals) = refusals(alloc, records, level_of(options))? else {
+        return refuse_records(alloc, settings, records);
+    };
+    decide_entries(
+        alloc,
+        options,
+        settings,
+        entries.as_slice(),
+        refusals.as_slice(),
+    )
+}
+
+// Returns what is written for a listing, the messages and the answer.
+fn decide_listing(
+    alloc: Global,
+    options: ArchiveOptions,
+    settings: Settings<'_>,
+    listing: &[u8],
+) -> Result<Decision, AllocError>
+    ensures texts { IfOk result (λ decision.
+        OnInput true options (settings_value settings.entry) listing.now (IsText decision)) }
+    ensures safe { IfOk result (λ decision.
+        (decision.is_safe ≡ true) ↔ IsSafeIn true options listing.now) }
+{
+    listing_reads_back();
+    match records_of(alloc, listing)? {
+        Ok(records) => decide_records(alloc, options, settings, records.as_slice()),
+        Err(line) => refuse_line(alloc, settings, line),
     }
-    match found {
-        None => push_cut(input, out)?,
-        Some(found) if found.entries.is_empty() => {
-            out.extend_from_slice(b"upath: no entries\n")?;
-        }
-        Some(found) => push_messages(found.entries.as_slice(), found.refusals.as_slice(), out)?,
-    }
-    Ok(())
 }
 
 // Returns what is written for an input, the messages and the answer.
@@ -134,16 +222,11 @@ fn decide(
     ensures safe { IfOk result (λ decision.
         (decision.is_safe ≡ true) ↔ IsSafe options input.now) }
 {
-    let found = find(alloc, options, input)?;
-    let mut output = Vec::new(alloc);
-    push_output(options, settings, &found, &mut output)?;
-    let mut messages = Vec::new(alloc);
-    push_found(settings, input, &found, &mut messages)?;
-    Ok(Decision {
-        output,
-        messages,
-        is_safe: is_safe(&found),
-    })
+    if options.tar_list {
+        decide_listing(alloc, options, settings, input)
+    } else {
+        decide_records(alloc, options, settings, input)
+    }
 }
 
 // Writes the messages and the output, and flushes.

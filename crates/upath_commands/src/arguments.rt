@@ -56,6 +56,7 @@ fn archive_options(items: &[Item<'_>]) -> ArchiveOptions
     ensures { result ≡ archive_options (map item_value items.now) }
 {
     ArchiveOptions {
+        tar_list: has(items, Flag::TarList),
         closed: has(items, Flag::Closed),
         with_reason: has(items, Flag::Reason),
     }
@@ -359,8 +360,8 @@ fn request_of(word: &[u8]) -> Option<Request>
     request_by_word(word)
 }
 
-// Returns what is asked for before these arguments. Help is on the command that the first one names,
-// unless that begins with a dash.
+// Returns what is asked for before these arguments. Help is on the command that the first one
+// names, unless that begins with a dash.
 fn asked_with<'a>(request: Request, words: &[Path<'a>]) -> Result<Invocation<'a>, UsageError<'a>>
     ensures { meaning_value result ≡ asked_with request (map view_bytes words.now) }
 {
@@ -405,8 +406,8 @@ fn asked_first<'a>(arguments: &[Path<'a>]) -> Option<Result<Invocation<'a>, Usag
 /// follows it are paths, even if that is nothing. `archive` always reads the input.
 ///
 /// Of wrong usage, the first of these is reported:
-/// 1. a word that is no command, just before a request or just after `--help`, `-h` or `help` as the
-///    first argument: that word;
+/// 1. a word that is no command, just before a request or just after `--help`, `-h` or `help` as
+///    the first argument: that word;
 /// 2. an unknown option, an option without its value, a value for another option, or a request that
 ///    doesn't count;
 /// 3. no command, or an unknown one;

@@ -33,6 +33,8 @@ pub struct EscapesOptions {
 /// `upath archive --closed` sets `closed`.
 #[derive(Clone, Copy)]
 pub struct ArchiveOptions {
+    /// The input is a listing of GNU tar's, and not records.
+    pub tar_list: bool,
     /// A symbolic link that leads out is refused, as at the level `Closed`.
     pub closed: bool,
     /// The reason is printed before each path.
@@ -134,7 +136,7 @@ pub enum Invocation<'a> {
     Version,
     /// Compare two paths. Nothing is printed, and the status answers.
     Equal(Settings<'a>, Path<'a>, Path<'a>),
-    /// Print the entries that are refused of the archive whose records are on standard input.
+    /// Print the entries that are refused of the archive whose entries are on standard input.
     Archive(ArchiveOptions, Settings<'a>),
     /// Run a command for each of these paths, or for the paths on standard input.
     Each(Command<'a>, Settings<'a>, Option<Vec<Path<'a>>>),

@@ -45,6 +45,8 @@ pub enum Flag {
     Reversed,
     /// `--closed`.
     Closed,
+    /// `--tar-list`.
+    TarList,
 }
 
 /// A command, without its options and operands.
@@ -138,6 +140,7 @@ pub fn option_by_name(name: &[u8]) -> Option<Flag>
         _ if is(name, b"from") => Some(Flag::From),
         _ if is(name, b"reason") => Some(Flag::Reason),
         _ if is(name, b"closed") => Some(Flag::Closed),
+        _ if is(name, b"tar-list") => Some(Flag::TarList),
         _ if is(name, b"strip") => Some(Flag::Strip),
         _ if is(name, b"by-components") => Some(Flag::ByComponents),
         _ => None,
@@ -186,7 +189,7 @@ pub fn has_option(verb: Verb, option: Flag) -> bool
         Flag::From => matches!(verb, Verb::Relative),
         Flag::Inverted => matches!(verb, Verb::Escapes | Verb::Under),
         Flag::Reason => matches!(verb, Verb::Escapes | Verb::Archive),
-        Flag::Closed => matches!(verb, Verb::Archive),
+        Flag::Closed | Flag::TarList => matches!(verb, Verb::Archive),
         Flag::Strip | Flag::ByComponents => matches!(verb, Verb::Under),
         Flag::Check | Flag::Unique | Flag::Reversed => matches!(verb, Verb::Sort),
         Flag::Pair | Flag::Or => !matches!(verb, Verb::Archive),

@@ -7,6 +7,7 @@ ghost use Rattle.upath_commands.specs.Archives.{cut_line, cut_record, entry_in, 
 ghost use Rattle.upath_commands.specs.Archives.{leaf_text, or_its_target, or_target, printed_path};
 ghost use Rattle.upath_commands.specs.Archives.{reason_name};
 ghost use Rattle.upath_commands.specs.Archives.{refusal_message, refusal_record, refusal_text};
+ghost use Rattle.upath_commands.specs.Archives.{refused_line};
 ghost use Rattle.upath_commands.specs.Invocations.{settings_value};
 ghost use Rattle.upath_commands.specs.Shown.{shown};
 
@@ -232,6 +233,15 @@ pub(crate) fn push_cut(input: &[u8], out: &mut Vec<u8>) -> Result<(), AllocError
 {
     let n = cut_record(input);
     let line = format!(in *out.allocator(); "upath: record {n} is cut off\n")?;
+    out.extend_from_slice(line.as_bytes())?;
+    Ok(())
+}
+
+// Appends the message for a line, with this number, that isn't of the form of a listing.
+pub(crate) fn push_refused_line(n: usize, out: &mut Vec<u8>) -> Result<(), AllocError>
+    ensures { OnOk result (out.new.items ≡ out.old.items ++ refused_line n) }
+{
+    let line = format!(in *out.allocator(); "upath: line {n}: not a line of tar's listing\n")?;
     out.extend_from_slice(line.as_bytes())?;
     Ok(())
 }

@@ -261,6 +261,16 @@ fn inputs(rt: HostRuntime) {
             "1|x\0|upath: x: leads out, to /\n",
         ),
         ("archive -q", "f\0/a\0\0", "1||"),
+        (
+            "archive --tar-list",
+            "-rw-r--r-- 0/0 5 2026-01-31 12:00 \"/a\"\n",
+            "1|/a\n|upath: /a: has a root, has a .., or does not end in a name\n",
+        ),
+        (
+            "archive --tar-list",
+            "f\0a\0\0",
+            "1||upath: line 1: not a line of tar's listing\n",
+        ),
         ("archive --", "", "1||upath: no entries\n"),
         (
             "archive",

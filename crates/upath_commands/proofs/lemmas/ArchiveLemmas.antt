@@ -1,9 +1,10 @@
 -- What invocations print.
-use Rattle.std.proofs.Common.{◌≡◌, inl, inr, ℕ, Bool, List, [], Ok, Err}
+use Rattle.std.proofs.Common.{◌≡◌, inl, inr, ℕ, Bool, List, [], Ok, Err, subst}
+use Rattle.upath_commands.specs.declared.archive.Decision.{Decision}
 use Rattle.upath_commands.specs.declared.command.ArchiveOptions.{ArchiveOptions}
 use Rattle.upath_commands.specs.declared.output.RunError.TheVariants.{Arguments}
 use Rattle.upath_commands.specs.declared.runs.Texts.{Texts}
-use Rattle.upath_commands.specs.Archives.{OnArchive}
+use Rattle.upath_commands.specs.Archives.{IsText, OnArchive}
 use Rattle.upath_commands.specs.Invocations.{InvocationValue, Meaning, SettingsValue}
 use Rattle.upath_commands.specs.Invocations.{Help, Version, Equal, Archive, Each}
 use Rattle.upath_commands.specs.Outputs.{Tells, error_line}
@@ -16,7 +17,20 @@ module _ (P Q : List ℕ → List ℕ → Type 0)
   -- what follows of what `archive` prints
   pub OnArchive-then : (options : ArchiveOptions) (settings : SettingsValue) (input : List ℕ)
       → OnArchive options settings input P → OnArchive options settings input Q
-  OnArchive-then options settings input (found, is, h) = (found, is, f _ _ h)
+  unfolding OnArchive
+  OnArchive-then options settings input (inl (line, none, h)) = inl (line, none, f _ _ h)
+  OnArchive-then options settings input (inr (entries, is, (refusals, decides, h))) =
+      inr (entries, is, (refusals, decides, f _ _ h))
+
+-- what holds of the decision's texts, which are what `archive` prints
+pub OnArchive-of : (P : List ℕ → List ℕ → Type 0) (decision : Decision)
+    (options : ArchiveOptions) (settings : SettingsValue) (input : List ℕ)
+    → P decision.output.items decision.messages.items
+    → OnArchive options settings input (IsText decision) → OnArchive options settings input P
+OnArchive-of P decision options settings input h =
+    OnArchive-then (IsText decision) P
+    (λ output messages is. subst (λ output. P output messages) is.0
+    (subst (λ messages. P decision.output.items messages) is.1 h)) options settings input
 
 -- the line for an error was written, after what was printed before it
 pub OnBegun-failed : (old mid new : State) (line : List ℕ) (texts : Texts)

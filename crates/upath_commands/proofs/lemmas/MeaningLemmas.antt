@@ -90,7 +90,8 @@ module _ (xs ys : List ItemValue) (same : SameOptions xs ys) (name : List ℕ) (
   escapes_options-same = rw (same.flags option.Inverted, same.flags option.Reason) refl
 
   archive_options-same : archive_options xs ≡ archive_options ys
-  archive_options-same = rw (same.flags option.Closed, same.flags option.Reason) refl
+  archive_options-same =
+      rw (same.flags option.TarList, same.flags option.Closed, same.flags option.Reason) refl
 
   archive_meaning-same : (operands : List (List ℕ))
       → archive_meaning (words_of xs name n) operands

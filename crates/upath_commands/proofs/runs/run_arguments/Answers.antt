@@ -1,4 +1,4 @@
-use Rattle.std.proofs.Common.{refl}
+use Rattle.std.proofs.Common.{refl, sym}
 use Rattle.upath_commands.specs.Arguments.{meaning_of}
 use Rattle.upath_commands.specs.Records.{paths_of}
 use Rattle.upath_commands.specs.Runs.{hides_errors}
@@ -12,6 +12,10 @@ returns-in-Err-clause-err g c =
     let meaning = meaning_of (paths_of c.args.arguments.now) in
     IfSome-all _ (λ input. OnBegun-arguments _ _ (hides_errors meaning) c.args.texts meaning input
     refl (Tells-none _ _))
+
+pub returns-in-Ok-Ok-clause-err : goal.returns-in-Ok-Ok-clause-err
+returns-in-Ok-Ok-clause-err g c =
+    rw (sym (rw c.in-Ok-Ok.field-0-is at c.in-Ok-Ok.ensures)) c.run_invocation.ensures.err
 
 pub returns-in-Ok-Err-clause-read : goal.returns-in-Ok-Err-clause-read
 returns-in-Ok-Err-clause-read g c =
