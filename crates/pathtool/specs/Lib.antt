@@ -2,8 +2,6 @@ pub mod Fields
 pub mod EditFields
 pub mod Walks
 pub mod Tables
-pub mod Watched
-pub mod Calls
 pub mod Answers
 pub mod Steps
 pub mod Quoted

@@ -2,11 +2,11 @@
 ghost use Rattle.std.specs.Prelude.{◌≡◌, ◌↔◌, false, IsTrue, IfOk, OnOk, OnErr, IfErr, IfSome};
 ghost use Rattle.std.specs.Prelude.{Some, IsErrOf, ◌⊎◌};
 ghost use Rattle.std.specs.Fmt.{padded};
-ghost use Rattle.std.specs.Io.KnownBytes.{Appends, Consumes, IsAtEnd, Keeps};
-ghost use Rattle.pathtool.specs.Watched.{has_failed, has_ended, is_flushed, watched_inner};
-ghost use Rattle.pathtool.specs.Watched.{AppendsPrefix};
-ghost use Rattle.pathtool.specs.Calls.{Many, ReadsUntilNone, WritesSome, WritesUntilNone};
-ghost use Rattle.pathtool.specs.Calls.{WritesAndFlushes};
+ghost use Rattle.std.specs.Io.KnownBytes.{Appends, Consumes, IsAtEnd};
+ghost use Rattle.byte_streams.specs.Watched.{has_failed, has_ended, is_flushed, watched_inner};
+ghost use Rattle.byte_streams.specs.Watched.{AppendsPrefix};
+ghost use Rattle.byte_streams.specs.Calls.{Many, ReadsUntilNone, WritesSome, WritesUntilNone};
+ghost use Rattle.byte_streams.specs.Calls.{WritesAndFlushes};
 ghost use Rattle.std.specs.declared.io.Error.{Error as IoError};
 ghost use Rattle.pathtool.specs.Answers.{output_of};
 ghost use Rattle.pathtool.specs.RunError.{error_text};
@@ -16,6 +16,7 @@ use crate::commands::push_answer_line;
 use crate::fields::first_line;
 use crate::io_traits::{Sink, Source};
 use crate::watched::Watched;
+use byte_streams::write_all;
 use std::alloc::{AllocError, Global};
 use std::error::Error;
 use std::fmt;
@@ -89,31 +90,6 @@ fn read_to_end<R: Source>(alloc: Global, reader: &mut Watched<R>) -> Result<Vec<
     }
 }
 
-// Writes all of `bytes`. After an error a prefix of `bytes` has been written.
-fn write_all<W: Sink>(writer: &mut Watched<W>, bytes: &[u8]) -> Result<(), RunError>
-    requires { has_failed writer.old ≡ false }
-    ensures ok { OnOk result (Appends (W.contents (watched_inner writer.old))
-        (W.contents (watched_inner writer.new)) bytes.now) }
-    ensures err { OnErr result (AppendsPrefix (W.contents (watched_inner writer.old))
-        (W.contents (watched_inner writer.new)) bytes.now) }
-    ensures write { IsErrOf result RunError.Write ↔ IsTrue (has_failed writer.new) }
-    ensures only_write { IfErr result (λ error. error ≡ RunError.Write) }
-    ensures writes { OnOk result (Many (WritesSome W.write_gives) (watched_inner writer.old)
-        (watched_inner writer.new)) }
-    ensures gave_up { OnErr result (WritesUntilNone W.write_gives (watched_inner writer.old)
-        (watched_inner writer.new)) }
-{
-    let mut at = 0;
-    while at < bytes.len() {
-        match writer.write_once(&bytes[at..]) {
-            Ok(0) => return Err(RunError::Write),
-            Ok(count) => at += count,
-            Err(_) => return Err(RunError::Write),
-        }
-    }
-    Ok(())
-}
-
 // Writes the answer to each line of the input, and a newline after each answer.
 fn write_answers<W: Sink>(
     alloc: Global,
@@ -138,8 +114,10 @@ fn write_answers<W: Sink>(
         let (line, rest) = first_line(unanswered);
         answer.clear();
         push_answer_line(line, &mut answer)?;
-        write_all(writer, answer.as_slice())?;
-        unanswered = rest;
+        match write_all(writer, answer.as_slice()) {
+            Ok(()) => unanswered = rest,
+            Err(_) => return Err(RunError::Write),
+        }
     }
     Ok(())
 }

@@ -1,5 +1,3 @@
 -- The lines of the input, and the bytes that are written for them.
 pub mod SplitLemmas
-pub mod CallLemmas
-pub mod WriteLemmas
 pub mod LoopLemmas

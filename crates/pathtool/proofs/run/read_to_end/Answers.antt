@@ -1,6 +1,6 @@
 use Rattle.std.proofs.Common.{rules, arith, inl, refl}
 use Rattle.std.proofs.lemmas.Grind.{common_steps}
-use Rattle.pathtool.proofs.lemmas.lines.CallLemmas.{Many-none, Many-more}
+use Rattle.byte_streams.proofs.lemmas.CallLemmas.{Many-none, Many-more}
 use Rattle.pathtool.proofs.run.read_to_end.Goals as goal
 
 pub loop-count-init : goal.loop-count-init

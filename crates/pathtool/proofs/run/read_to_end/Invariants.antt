@@ -1,7 +1,7 @@
 use Rattle.std.proofs.Common.{◌≡◌, ◌^◌, ◌-◌, false, vec_len}
 use Rattle.std.specs.Io.KnownBytes.{Consumes}
-use Rattle.pathtool.specs.Calls.{Many, ReadsSome}
-use Rattle.pathtool.specs.Watched.{has_failed, has_ended, watched_inner}
+use Rattle.byte_streams.specs.Calls.{Many, ReadsSome}
+use Rattle.byte_streams.specs.Watched.{has_failed, has_ended, watched_inner}
 use Rattle.pathtool.proofs.run.read_to_end.Given as goal
 
 abbrev pub invariant-loop-count : goal.invariant-loop-count

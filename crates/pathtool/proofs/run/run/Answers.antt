@@ -1,8 +1,8 @@
 use Rattle.std.proofs.Common.{◌∙◌, [], ap, append-nil, inl, refl}
 use Rattle.std.proofs.KnownBytes.{Appends-kept, Consumes-whole}
 use Rattle.pathtool.specs.Answers.{output_of}
-use Rattle.pathtool.proofs.lemmas.lines.CallLemmas.{Many-none}
-use Rattle.pathtool.proofs.lemmas.lines.WriteLemmas.{AppendsPrefix-of, OnErr-of}
+use Rattle.byte_streams.proofs.lemmas.CallLemmas.{Many-none}
+use Rattle.byte_streams.proofs.lemmas.WriteLemmas.{AppendsPrefix-of, OnErr-of}
 use Rattle.pathtool.proofs.run.run.Goals as goal
 
 pub returns-then-is_err-clause-err : goal.returns-then-is_err-clause-err

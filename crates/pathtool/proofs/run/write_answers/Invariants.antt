@@ -1,8 +1,8 @@
 use Rattle.std.proofs.Common.{◌≡◌, ◌++◌, List, ℕ, false, length}
 use Rattle.std.specs.Io.KnownBytes.{Appends}
 use Rattle.pathtool.specs.Answers.{output_of}
-use Rattle.pathtool.specs.Calls.{Many, WritesSome}
-use Rattle.pathtool.specs.Watched.{has_failed, watched_inner}
+use Rattle.byte_streams.specs.Calls.{Many, WritesSome}
+use Rattle.byte_streams.specs.Watched.{has_failed, watched_inner}
 use Rattle.pathtool.proofs.run.write_answers.Given as goal
 
 abbrev pub invariant-loop-unanswered : goal.invariant-loop-unanswered

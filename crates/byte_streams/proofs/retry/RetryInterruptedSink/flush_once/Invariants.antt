@@ -1,6 +1,6 @@
 use Rattle.std.specs.Io.KnownBytes.{Keeps}
-use Rattle.pathtool.specs.Calls.{Calls, Interrupts, retry_inner}
-use Rattle.pathtool.proofs.retry.RetryInterruptedSink.flush_once.Given as goal
+use Rattle.byte_streams.specs.Calls.{Calls, Interrupts, retry_inner}
+use Rattle.byte_streams.proofs.retry.RetryInterruptedSink.flush_once.Given as goal
 
 abbrev pub invariant-loop-tries : goal.invariant-loop-tries
 invariant-loop-tries g l =

@@ -1,8 +1,8 @@
 use Rattle.std.proofs.Common.{rules, arith, inl, inr, Err}
 use Rattle.std.proofs.KnownBytes.{Keeps-trans}
-use Rattle.pathtool.specs.Calls.Calls.{none}
-use Rattle.pathtool.proofs.lemmas.lines.CallLemmas.{Calls-more}
-use Rattle.pathtool.proofs.retry.RetryInterruptedSink.write_once.Goals as goal
+use Rattle.byte_streams.specs.Calls.Calls.{none}
+use Rattle.byte_streams.proofs.lemmas.CallLemmas.{Calls-more}
+use Rattle.byte_streams.proofs.retry.RetryInterruptedSink.flush_once.Goals as goal
 
 pub loop-tries-init : goal.loop-tries-init
 loop-tries-init g c = (search rules, none)
@@ -32,7 +32,7 @@ returns-clause-single_call g c = (
   (
     _,
     c.loop-tries.invariant.1,
-    c.write_once-2.ensures.single_call,
+    c.flush_once-2.ensures.single_call,
     inr (omega (arith, c.loop-tries.auto.tries-end, c.loop-tries-test.false)),
   ),
 )

@@ -1,8 +1,8 @@
 use Rattle.std.proofs.Common.{rules, arith, inl, inr, Err}
 use Rattle.std.proofs.KnownBytes.{Keeps-trans}
-use Rattle.pathtool.specs.Calls.Calls.{none}
-use Rattle.pathtool.proofs.lemmas.lines.CallLemmas.{Calls-more}
-use Rattle.pathtool.proofs.retry.RetryInterruptedSource.read_once.Goals as goal
+use Rattle.byte_streams.specs.Calls.Calls.{none}
+use Rattle.byte_streams.proofs.lemmas.CallLemmas.{Calls-more}
+use Rattle.byte_streams.proofs.retry.RetryInterruptedSource.read_once.Goals as goal
 
 pub loop-tries-init : goal.loop-tries-init
 loop-tries-init g c = (search rules, none)

@@ -5,8 +5,8 @@ use Rattle.std.specs.Prelude.{◌≡◌, ℕ, suc, ◌-◌, ◌^◌, ◌<◌, �
 use Rattle.std.specs.IoError.{error_kind}
 use Rattle.std.specs.declared.io.ErrorKind.TheVariants.{Interrupted}
 use Rattle.std.specs.declared.io.Error.{Error}
-use Rattle.pathtool.specs.declared.std_io.StdIo.{StdIo}
-use Rattle.pathtool.specs.declared.retry.RetryInterrupted.{RetryInterrupted}
+use Rattle.byte_streams.specs.declared.std_io.StdIo.{StdIo}
+use Rattle.byte_streams.specs.declared.retry.RetryInterrupted.{RetryInterrupted}
 
 -- the reader or writer of the standard library
 abbrev pub std_io_inner : {T : Type 0} → StdIo T → T
@@ -52,6 +52,11 @@ abbrev pub WritesNone : {S : Type 0} → (S → List ℕ → Result ℕ Error �
     → S → S → Type 0
 WritesNone gives s t =
     (b : List ℕ) × ((r : Result ℕ Error) × IfOk r (λ n. n ≡ 0) × gives s b r t)
+
+-- any number of writes that wrote at least one byte each, and then one that wrote no byte or failed
+abbrev pub WritesThenNone : {S : Type 0} → (S → List ℕ → Result ℕ Error → S → Type 0)
+    → S → S → Type 0
+WritesThenNone gives s t = (u : _) × Many (WritesSome gives) s u × WritesNone gives u t
 
 -- any number of writes that wrote at least one byte each, and then at most one that wrote no byte
 -- or failed

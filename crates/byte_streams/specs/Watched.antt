@@ -2,7 +2,7 @@
 use Rattle.std.specs.Prelude.{ℕ, Bool, false, ◌&&◌, ◌==◌, not, Result, Ok, Err, List, take}
 use Rattle.std.specs.Prelude.{Option}
 use Rattle.std.specs.Io.KnownBytes.{Appends}
-use Rattle.pathtool.specs.declared.watched.Watched.{Watched}
+use Rattle.byte_streams.specs.declared.watched.Watched.{Watched}
 
 -- the watched source or sink
 abbrev pub watched_inner : {T : Type 0} → Watched T → T

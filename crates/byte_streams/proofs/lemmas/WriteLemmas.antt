@@ -5,7 +5,7 @@ use Rattle.std.proofs.Common.{sym, ap, subst, ◌∙◌, append_assoc, take-appe
 use Rattle.std.proofs.Math.Seq.{take-append_seam}
 use Rattle.std.proofs.KnownBytes.{Appends-trans}
 use Rattle.std.specs.Io.KnownBytes.{Appends}
-use Rattle.pathtool.specs.Watched.{AppendsPrefix}
+use Rattle.byte_streams.specs.Watched.{AppendsPrefix}
 
 -- if `done` was appended, and `all` starts with `done`, a prefix of `all` was appended
 pub AppendsPrefix-of : (a b : Option (List ℕ)) (done rest all : List ℕ) → Appends a b done

@@ -1,8 +1,8 @@
 -- Calls in a row, followed by more calls.
 use Rattle.std.proofs.Common.{ℕ, suc, ◌+◌, add-one, List, Result}
 use Rattle.std.specs.declared.io.Error.{Error}
-use Rattle.pathtool.specs.Calls.{Calls, Many, WritesSome, WritesUntilNone}
-use Rattle.pathtool.specs.Calls.Calls.{none, more}
+use Rattle.byte_streams.specs.Calls.{Calls, Many, WritesSome, WritesUntilNone}
+use Rattle.byte_streams.specs.Calls.Calls.{none, more}
 
 -- any number of calls, followed by one more call, are again any number of calls
 pub Many-more : {S : Type 0} {call : S → S → Type 0} {s u t : S} → Many call s u → call u t

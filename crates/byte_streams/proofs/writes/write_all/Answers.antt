@@ -4,8 +4,8 @@ use Rattle.std.proofs.lemmas.List.{take_rest}
 use Rattle.std.specs.Io.KnownBytes.{Appends}
 use Rattle.std.proofs.KnownBytes.{Appends-trans}
 use Rattle.std.proofs.lemmas.Grind.{common_steps}
-use Rattle.pathtool.proofs.lemmas.lines.CallLemmas.{Many-none, Many-more}
-use Rattle.pathtool.proofs.run.write_all.Goals as goal
+use Rattle.byte_streams.proofs.lemmas.CallLemmas.{Many-none, Many-more}
+use Rattle.byte_streams.proofs.writes.write_all.Goals as goal
 
 pub loop-at-init : goal.loop-at-init
 loop-at-init g c =

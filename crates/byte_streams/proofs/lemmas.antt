@@ -1,0 +1,3 @@
+-- The lemmas, by subject.
+pub mod CallLemmas
+pub mod WriteLemmas
