@@ -1,7 +1,7 @@
 //! Callers of `extend` and `from_iter`: pushing paths that fit into the capacity never fails.
-ghost use Rattle.std.specs.Prelude.{◌≡◌, ◌≤◌, ◌+◌, false, [], fold, length, IsOk};
+ghost use Rattle.std.specs.Prelude.{◌≡◌, ◌≤◌, ◌+◌, ◌-◌, false, [], fold, length, IsOk};
 ghost use Rattle.std.specs.List.{AllByRecursion};
-ghost use Rattle.unix_path.specs.Buffers.{capacity, path_bytes, spare_capacity, bytes_of_each};
+ghost use Rattle.unix_path.specs.Buffers.{capacity, path_bytes, bytes_of_each};
 ghost use Rattle.unix_path.specs.Joins.{join_of};
 ghost use Rattle.unix_path.specs.Parts.{is_rooted};
 
@@ -33,7 +33,7 @@ fn extend_by_these(buffer: &mut PathBuf, paths: &[Path<'_>]) -> Result<(), Alloc
 
 fn extend_in_spare_capacity(buffer: &mut PathBuf, paths: &[Path<'_>]) -> Result<(), AllocError>
     ensures { fold (λ sum path. sum + (1 + length path.bytes.now)) 0 paths.now
-        ≤ spare_capacity buffer.old
+        ≤ capacity buffer.old - length (path_bytes buffer.old)
         → IsOk result }
 {
     buffer.extend(paths.iter().copied())
