@@ -1,6 +1,6 @@
 -- What `archive` prints of the entries that are refused.
 use Rattle.std.specs.Prelude.{◌≡◌, ◌≢◌, ◌⊎◌, ◌+◌, ◌/◌, ◌==◌, ◌&&◌, not, ℕ, Bool, true, false}
-use Rattle.std.specs.Prelude.{List, [], ◌∷◌, ◌++◌, Option, Some, None, codes, count_by, decimal}
+use Rattle.std.specs.Prelude.{List, [], ◌∷◌, ◌++◌, Some, None, codes, count_by, decimal}
 use Rattle.std.specs.Prelude.{if◌then◌else◌, slice_index_or}
 use Rattle.std.specs.List.{flat_map}
 use Rattle.std.specs.Str.{byte}

@@ -1,5 +1,5 @@
 -- What `archive` decides.
-use Rattle.std.proofs.Common.{◌≡◌, ◌≢◌, ◌⊎◌, ◌↔◌, inl, inr, ℕ, Bool, true, false, List, []}
+use Rattle.std.proofs.Common.{◌≡◌, ◌≢◌, ◌↔◌, inl, inr, ℕ, Bool, true, false, List, []}
 use Rattle.std.proofs.Common.{◌∷◌, Option, Some, None, refl, sym, subst, ◌∙◌, true≢false}
 use Rattle.std.proofs.Common.{if◌then◌else◌}
 use Rattle.path_archive.specs.Entries.{EntryValue}
