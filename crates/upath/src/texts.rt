@@ -47,8 +47,8 @@ Exit status:\n\
 \x20 0  every path has a result. escapes: no path escapes. under: a path is\n\
 \x20    printed. archive: every entry is accepted. equal: they are equal. sort -c:\n\
 \x20    the paths are in order\n\
-\x20 1  a path has no result or is refused. escapes, under, archive, equal, sort\n\
-\x20    -c: otherwise\n\
+\x20 1  a path has no result or is refused. escapes, under, sort -c, archive,\n\
+\x20    equal: otherwise\n\
 \x20 2  wrong usage; nothing was read or written\n\
 \x20 3  a read, a write or an allocation failed\n\
 \n\
