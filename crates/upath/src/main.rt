@@ -6,11 +6,12 @@
 
 mod texts;
 
+use byte_streams::{RetryInterrupted, StdIo, Watched};
 use std::alloc::AllocError;
 use std::env::{Env, FillError};
 use std::process::ExitCode;
 use texts::{COMMANDS, GENERAL, VERSION};
-use upath_commands::{Replies, RunError, Texts, Watched, argument_paths, run_arguments};
+use upath_commands::{Replies, RunError, Texts, argument_paths, run_arguments};
 
 // Returns the argument with this index, or `None` after the last one.
 fn argument_at(rt: &HostRuntime, index: usize) -> Result<Option<Vec<u8>>, AllocError> {
@@ -51,8 +52,10 @@ fn answer(rt: &HostRuntime, arguments: &[Vec<u8>]) -> Result<u8, RunError> {
         version: VERSION,
         commands: &COMMANDS,
     };
-    let mut reader = Watched::new(rt.reader());
-    let mut replies = Replies::new(rt.alloc(), std::io::writer(rt), rt.stderr());
+    let mut reader = Watched::new(RetryInterrupted::new(StdIo::new(rt.reader())));
+    let output = RetryInterrupted::new(StdIo::new(std::io::writer(rt)));
+    let errors = RetryInterrupted::new(StdIo::new(rt.stderr()));
+    let mut replies = Replies::new(rt.alloc(), output, errors);
     run_arguments(
         rt.alloc(),
         paths.as_slice(),

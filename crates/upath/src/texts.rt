@@ -76,7 +76,8 @@ dac8208d650f15bf.\n\
 \n\
 Proved, for readers and writers whose bytes are known: what is written and the\n\
 exit status are those of the definitions in crates/upath_commands/specs. Of\n\
-standard streams no contract can state the bytes.\n";
+standard streams no contract can state the bytes, but which calls of theirs\n\
+failed.\n";
 
 const CANON: &[u8] = b"\
 Usage: upath canon [OPTION]... [--] [PATH]...\n\

@@ -1,4 +1,7 @@
 -- The lemmas, by subject.
+pub mod CallLemmas
+pub mod GiveLemmas
+pub mod EndLemmas
 pub mod OutputLemmas
 pub mod RecordLemmas
 pub mod SelectionLemmas

@@ -18,7 +18,6 @@ pub mod Commands
 pub mod Refusals
 pub mod Tasks
 pub mod Usage
-pub mod Watched
 pub mod Outputs
 pub mod Replies
 pub mod Archives

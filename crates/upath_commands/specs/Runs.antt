@@ -1,23 +1,28 @@
 -- What an invocation prints, and its exit status.
 use Rattle.std.specs.Prelude.{◌≡◌, ◌⊎◌, ◌↔◌, ℕ, Bool, true, false, List, [], ◌++◌, take}
-use Rattle.std.specs.Prelude.{Option, Some, None, Ok, Err, find, if◌then◌else◌}
+use Rattle.std.specs.Prelude.{Option, Some, None, Result, Ok, Err, find, if◌then◌else◌}
+use Rattle.std.specs.Prelude.{IfErr, IfOk, IfSome, OnErr, OnOk}
 use Rattle.std.specs.Io.KnownBytes.{Appends}
 use Rattle.std.specs.List.{list_all, list_any}
 use Rattle.std.specs.Option.{option_map_or}
 use Rattle.std.specs.Ordering.{is_eq}
 use Rattle.std.specs.Str.{bytes_eq}
+use Rattle.byte_streams.specs.Watched.{AppendsPrefix}
+use Rattle.byte_streams.specs.declared.io_traits.Sink.{Ghosts as Sink}
 use Rattle.unix_path.specs.Order.{values_cmp}
 use Rattle.unix_path.specs.Parts.{values}
 use Rattle.upath_commands.specs.Answers.{end_of}
 use Rattle.upath_commands.specs.Archives.{IsSafe, OnArchive}
 use Rattle.upath_commands.specs.Invocations.{CommandValue, SettingsValue, InvocationValue, Meaning}
 use Rattle.upath_commands.specs.Invocations.{Help, Version, Equal, Archive, Each, Under}
-use Rattle.upath_commands.specs.Outputs.{AppendsPrefix, Tells, TellsPrefix}
+use Rattle.upath_commands.specs.Outputs.{Ended, Speaks, Tells}
 use Rattle.upath_commands.specs.Records.{records_of}
-use Rattle.upath_commands.specs.Replies.{State}
+use Rattle.upath_commands.specs.Replies.{Broken, GaveThis, OfPrinted, State, state_of}
 use Rattle.upath_commands.specs.Sorting.{chosen}
 use Rattle.upath_commands.specs.Tasks.{TaskValue, answers, messages_of, output_of}
 use Rattle.upath_commands.specs.Usage.{usage_line}
+use Rattle.upath_commands.specs.declared.output.RunError.{RunError}
+use Rattle.upath_commands.specs.declared.replies.Replies.{Replies}
 use Rattle.upath_commands.specs.declared.runs.Texts.{Texts}
 
 -- the paths to be answered: those of the arguments, or if there are none the records of the input
@@ -54,7 +59,7 @@ reads_input (Archive options settings) = true
 reads_input _ = false
 
 -- P holds of what an invocation writes and of its messages
-abbrev pub OnPrinted : Texts → InvocationValue → List ℕ → (List ℕ → List ℕ → Type 0) → Type 0
+abbrev pub OnPrinted : Texts → InvocationValue → List ℕ → OfPrinted → Type 0
 OnPrinted texts (Help name) input P = P (help_text texts name) []
 OnPrinted texts Version input P = P texts.version.now []
 OnPrinted texts (Equal settings a b) input P = P [] []
@@ -65,7 +70,7 @@ OnPrinted texts (Each command settings paths) input P =
     P (output_of task those) (messages_of task those)
 
 -- the same after an error: if it came before `archive` decided, nothing was printed
-abbrev pub OnBegun : Texts → InvocationValue → List ℕ → (List ℕ → List ℕ → Type 0) → Type 0
+abbrev pub OnBegun : Texts → InvocationValue → List ℕ → OfPrinted → Type 0
 OnBegun texts (Archive options settings) input P =
     P [] [] ⊎ OnArchive options settings input P
 OnBegun texts invocation input P = OnPrinted texts invocation input P
@@ -96,12 +101,12 @@ input_if is_read input = if is_read then input else Some []
 
 -- P holds of what is written for arguments with this meaning and of the messages: for paths that
 -- are not answered and entries that are refused, or for wrong usage
-abbrev pub OnReplies : Texts → Meaning → List ℕ → (List ℕ → List ℕ → Type 0) → Type 0
+abbrev pub OnReplies : Texts → Meaning → List ℕ → OfPrinted → Type 0
 OnReplies texts (Ok invocation) input P = OnPrinted texts invocation input P
 OnReplies texts (Err usage) input P = P [] (usage_line usage)
 
 -- the same after an error
-abbrev pub OnBegunReplies : Texts → Meaning → List ℕ → (List ℕ → List ℕ → Type 0) → Type 0
+abbrev pub OnBegunReplies : Texts → Meaning → List ℕ → OfPrinted → Type 0
 OnBegunReplies texts (Ok invocation) input P = OnBegun texts invocation input P
 OnBegunReplies texts (Err usage) input P = P [] (usage_line usage)
 
@@ -122,17 +127,45 @@ abbrev pub hides_errors : Meaning → Bool
 hides_errors (Ok invocation) = is_quiet invocation
 hides_errors (Err usage) = false
 
+-- for a known input the output and the messages for these paths were added, and the result is the
+-- answer of the command; after an error prefixes of them were added
+abbrev pub GaveFor : {W E : Type 0} → Sink W → Sink E → TaskValue → Result Bool RunError
+    → Replies W E → Replies W E → Option (List ℕ) → (List ℕ → List (List ℕ)) → Type 0
+GaveFor w e task result old new input paths = GaveThis w e result old new input
+    (λ input. output_of task (paths input)) (λ input. messages_of task (paths input))
+    (λ input. command_yes task (paths input))
+
 -- the output was written, after the pending bytes, and the messages
 pub record Done (old new : State) (output messages : List ℕ) : Type 0 where
   pub wrote : Appends old.written new.written (old.pending ++ output)
   pub said : Tells old.is_deaf new.is_deaf old.told new.told messages
 
--- prefixes of the output and of the messages were written
-pub record Broken (old new : State) (output messages : List ℕ) : Type 0 where
-  pub wrote : AppendsPrefix old.written new.written (old.pending ++ output)
-  pub said : TellsPrefix old.is_deaf new.is_deaf old.told new.told messages
-
 -- a prefix of the output was written, and a prefix of the messages and then this line
 pub record Failed (old new : State) (output messages line : List ℕ) : Type 0 where
   pub wrote : AppendsPrefix old.written new.written (old.pending ++ output)
   pub said : (n : ℕ) × Tells old.is_deaf new.is_deaf old.told new.told (take n messages ++ line)
+
+-- for a known input an output and messages were written of which `printed` says what they are, and
+-- the result is its answer; after an error prefixes of those that `begun` tells
+pub record Ran {W E : Type 0} (w : Sink W) (e : Sink E) (result : Result Bool RunError)
+    (old new : Replies W E) (input : Option (List ℕ)) (printed begun : List ℕ → OfPrinted → Type 0)
+    (is_answer : List ℕ → Bool → Type 0) : Type 0 where
+  pub ok : OnOk result (IfSome input (λ input.
+      printed input (Done (state_of w e old) (state_of w e new))))
+  pub answer : IfOk result (λ is. IfSome input (λ input. is_answer input is))
+  pub err : OnErr result (IfSome input (λ input.
+      begun input (Broken (state_of w e old) (state_of w e new))))
+  pub ended : Ended w result old.answers new.answers
+  pub speaks : Speaks e old.messages new.messages
+
+-- for a known input an output and messages were written of which `printed` says what they are;
+-- after an error prefixes of those that `begun` tells, and then this line
+pub record Reported {W E A : Type 0} (w : Sink W) (e : Sink E) (result : Result A RunError)
+    (old new : Replies W E) (input : Option (List ℕ)) (printed begun : List ℕ → OfPrinted → Type 0)
+    (line : RunError → List ℕ) : Type 0 where
+  pub ok : OnOk result (IfSome input (λ input.
+      printed input (Done (state_of w e old) (state_of w e new))))
+  pub err : IfErr result (λ error. IfSome input (λ input.
+      begun input (λ output messages.
+      Failed (state_of w e old) (state_of w e new) output messages (line error))))
+  pub speaks : Speaks e old.messages new.messages

@@ -1,25 +1,23 @@
 //! The command `archive`, which decides whether the entries of an archive are accepted.
-ghost use Rattle.std.specs.Prelude.{◌≡◌, ◌++◌, ◌↔◌, ◌⊎◌, [], IfErr, IfOk, IfSome, IsTrue, OnErr};
-ghost use Rattle.std.specs.Prelude.{OnOk, false, if◌then◌else◌, map, true};
+ghost use Rattle.std.specs.Prelude.{◌≡◌, ◌++◌, ◌↔◌, ◌⊎◌, [], IfErr, IfOk, OnOk, Some};
+ghost use Rattle.std.specs.Prelude.{false, if◌then◌else◌, map, true};
+ghost use Rattle.byte_streams.specs.Watched.{has_failed, watched_inner};
 ghost use Rattle.path_archive.specs.EntryViews.{entry_value};
 ghost use Rattle.upath_commands.specs.Archives.{IsSafe, IsSafeIn, IsText, OnArchive, OnInput};
 ghost use Rattle.upath_commands.specs.Archives.{cut_line, entries_messages, entries_output};
 ghost use Rattle.upath_commands.specs.Archives.{level_of, none_refused, refused_line};
 ghost use Rattle.upath_commands.specs.Invocations.{settings_value};
-ghost use Rattle.upath_commands.specs.Outputs.{is_read_error, is_write_error};
-ghost use Rattle.upath_commands.specs.Replies.{answers_failed, answers_flushed, IsNew, state_of};
-ghost use Rattle.upath_commands.specs.Runs.{Broken, Done};
-ghost use Rattle.upath_commands.specs.Watched.{has_failed, watched_inner};
+ghost use Rattle.upath_commands.specs.Replies.{answers_failed, Gave, GaveThis, IsNew, ReadCalls};
 
 use crate::command::{ArchiveOptions, Settings};
 use crate::input::read_all;
+use crate::messages::send;
 use crate::output::RunError;
 use crate::refused::{push_cut, push_messages, push_records, push_refused_line};
 use crate::replies::Replies;
-use crate::watched::Watched;
+use byte_streams::{Sink, Source, Watched};
 use path_archive::{Entry, Level, Refusal, entries, refusals};
 use std::alloc::{AllocError, Global};
-use std::io::{Read, Write};
 use tar_listing::laws::listing_reads_back;
 use tar_listing::records_of;
 
@@ -229,28 +227,24 @@ fn decide(
     }
 }
 
-// Writes the messages and the output, and flushes.
-fn reply<W: Write, E: Write>(
+// Writes the messages, and adds the output. Returns the answer.
+fn give_decision<W: Sink, E: Sink>(
     decision: &Decision,
     replies: &mut Replies<W, E>,
-) -> Result<(), RunError>
+) -> Result<bool, RunError>
     requires { answers_failed replies.old ≡ false }
-    ensures ok { OnOk result (Done
-        (state_of W.contents E.contents replies.old) (state_of W.contents E.contents replies.new)
-        decision.now.output.items decision.now.messages.items) }
-    ensures err { OnErr result (Broken
-        (state_of W.contents E.contents replies.old) (state_of W.contents E.contents replies.new)
-        decision.now.output.items decision.now.messages.items) }
-    ensures write { answers_failed replies.new ≡ is_write_error result }
-    ensures flushed { OnOk result (IsTrue (answers_flushed replies.new)) }
+    ensures gave { GaveThis W.Sink E.Sink result replies.old replies.new (Some [])
+        (λ _. decision.now.output.items) (λ _. decision.now.messages.items)
+        (λ _. decision.now.is_safe) }
     ensures no_read { IfErr result (λ error. (error ≡ RunError.Read) → ⊥) }
 {
-    replies.messages.report_text(decision.messages.as_slice());
-    replies.answers.write_text(decision.output.as_slice())
+    send(&mut replies.messages, decision.messages.as_slice());
+    replies.answers.add(decision.output.as_slice())?;
+    Ok(decision.is_safe)
 }
 
 // Decides whether the entries of the input are accepted. Returns the answer.
-pub(crate) fn run_archive<R: Read, W: Write, E: Write>(
+pub(crate) fn give_archive<R: Source, W: Sink, E: Sink>(
     alloc: Global,
     options: ArchiveOptions,
     settings: Settings<'_>,
@@ -258,24 +252,14 @@ pub(crate) fn run_archive<R: Read, W: Write, E: Write>(
     replies: &mut Replies<W, E>,
 ) -> Result<bool, RunError>
     requires read { has_failed reader.old ≡ false }
-    requires new { IsNew (state_of W.contents E.contents replies.old) }
-    ensures ok { OnOk result (IfSome (R.remaining (watched_inner reader.old)) (λ input.
-        OnArchive options (settings_value settings.entry) input (Done
-        (state_of W.contents E.contents replies.old)
-        (state_of W.contents E.contents replies.new)))) }
-    ensures yes { IfOk result (λ yes. IfSome (R.remaining (watched_inner reader.old)) (λ input.
-        (yes ≡ true) ↔ IsSafe options input)) }
-    ensures err { let old = state_of W.contents E.contents replies.old in
-        let new = state_of W.contents E.contents replies.new in
-        OnErr result (IfSome (R.remaining (watched_inner reader.old)) (λ input.
-        Broken old new [] []
-        ⊎ OnArchive options (settings_value settings.entry) input (Broken old new))) }
-    ensures write { answers_failed replies.new ≡ is_write_error result }
-    ensures read { has_failed reader.new ≡ is_read_error result }
-    ensures flushed { OnOk result (IsTrue (answers_flushed replies.new)) }
+    requires new { IsNew replies.old }
+    ensures gave { let value = settings_value settings.entry in
+        Gave W.Sink E.Sink result replies.old replies.new (R.remaining (watched_inner reader.old))
+        (OnArchive options value) (λ input P. P [] [] ⊎ OnArchive options value input P)
+        (λ input is. (is ≡ true) ↔ IsSafe options input) }
+    ensures reads { ReadCalls R.Source result reader.old reader.new }
 {
     let input = read_all(alloc, reader)?;
     let decision = decide(alloc, options, settings, input.as_slice())?;
-    reply(&decision, replies)?;
-    Ok(decision.is_safe)
+    give_decision(&decision, replies)
 }

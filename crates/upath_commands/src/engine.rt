@@ -1,57 +1,49 @@
 //! Answers paths, one after the other: operands, and the records of an input as they are read.
-ghost use Rattle.std.specs.Prelude.{◌≡◌, ◌++◌, ◌∷◌, [], ℕ, List, IfErr, IfSome, OnOk, OnErr};
-ghost use Rattle.std.specs.Prelude.{false};
+ghost use Rattle.std.specs.Prelude.{◌≡◌, ◌++◌, ◌∷◌, [], ℕ, List, OnOk, false};
+ghost use Rattle.byte_streams.specs.Watched.{has_failed};
 ghost use Rattle.upath_commands.specs.Answers.{end_of};
 ghost use Rattle.upath_commands.specs.Records.{paths_of, records_of};
-ghost use Rattle.upath_commands.specs.Outputs.{is_read_error, is_write_error};
-ghost use Rattle.upath_commands.specs.Replies.{Answered, answers_failed, state_of, Stopped};
+ghost use Rattle.upath_commands.specs.Replies.{answers_failed, Replied, RepliedTo};
 ghost use Rattle.upath_commands.specs.Selections.{selected, taken};
 ghost use Rattle.upath_commands.specs.Tasks.{task_value};
-ghost use Rattle.upath_commands.specs.Watched.{has_failed, watched_inner};
 
 use crate::input::{BLOCK, read_some};
+use crate::messages::report;
 use crate::output::RunError;
 use crate::push::end_of;
 use crate::records::records_in;
 use crate::replies::{Replies, Tally};
 use crate::selection::Selection;
 use crate::task::Task;
-use crate::watched::Watched;
+use byte_streams::{Sink, Source, Watched};
 use std::alloc::Global;
-use std::io::{Read, Write};
 use unix_bytes::internal::after_last;
 use unix_path::Path;
 
 // Answers a path, or writes the message for it.
-fn answer_path<W: Write, E: Write>(
+fn answer_path<W: Sink, E: Sink>(
     task: &Task<'_>,
     path: Path<'_>,
     replies: &mut Replies<W, E>,
 ) -> Result<(), RunError>
     requires { answers_failed replies.old ≡ false }
-    ensures ok { OnOk result (Answered (task_value task.now)
-        (state_of W.contents E.contents replies.old) (state_of W.contents E.contents replies.new)
-        (path.entry.bytes.now ∷ [])) }
-    ensures err { OnErr result (Stopped (task_value task.now)
-        (state_of W.contents E.contents replies.old) (state_of W.contents E.contents replies.new)
-        (path.entry.bytes.now ∷ [])) }
-    ensures write { answers_failed replies.new ≡ is_write_error result }
-    ensures no_read { IfErr result (λ error. (error ≡ RunError.Read) → ⊥) }
+    ensures { Replied W.Sink E.Sink (task_value task.now) result replies.old replies.new
+        (path.entry.bytes.now ∷ []) }
 {
     let is_answered = replies.answers.answer(task, path)?;
-    if !is_answered {
-        replies.messages.report(task, path)?;
-    }
     let Tally { all, any } = replies.tally;
     replies.tally = Tally {
         all: all && is_answered,
         any: any || is_answered,
     };
-    Ok(())
+    if is_answered {
+        return Ok(());
+    }
+    report(&mut replies.messages, &mut replies.line, task, path)
 }
 
 // Answers a path, if it is selected.
-fn answer_next<W: Write, E: Write>(
+fn answer_next<W: Sink, E: Sink>(
     alloc: Global,
     task: &Task<'_>,
     selection: &mut Selection,
@@ -59,17 +51,11 @@ fn answer_next<W: Write, E: Write>(
     replies: &mut Replies<W, E>,
 ) -> Result<(), RunError>
     requires { answers_failed replies.old ≡ false }
-    ensures ok { OnOk result (Answered (task_value task.now)
-        (state_of W.contents E.contents replies.old) (state_of W.contents E.contents replies.new)
-        (taken selection.old path.entry.bytes.now)) }
-    ensures err { OnErr result (Stopped (task_value task.now)
-        (state_of W.contents E.contents replies.old) (state_of W.contents E.contents replies.new)
-        (taken selection.old path.entry.bytes.now)) }
+    ensures replied { Replied W.Sink E.Sink (task_value task.now) result replies.old replies.new
+        (taken selection.old path.entry.bytes.now) }
     ensures rest { OnOk result ((paths : List (List ℕ))
         → selected selection.old (path.entry.bytes.now ∷ paths)
         ≡ taken selection.old path.entry.bytes.now ++ selected selection.new paths) }
-    ensures write { answers_failed replies.new ≡ is_write_error result }
-    ensures no_read { IfErr result (λ error. (error ≡ RunError.Read) → ⊥) }
 {
     if selection.take(alloc, path)? {
         return answer_path(task, path, replies);
@@ -78,7 +64,7 @@ fn answer_next<W: Write, E: Write>(
 }
 
 // Answers each of these paths that is selected.
-pub(crate) fn answer_paths<W: Write, E: Write>(
+pub(crate) fn answer_paths<W: Sink, E: Sink>(
     alloc: Global,
     task: &Task<'_>,
     selection: &mut Selection,
@@ -86,17 +72,11 @@ pub(crate) fn answer_paths<W: Write, E: Write>(
     replies: &mut Replies<W, E>,
 ) -> Result<(), RunError>
     requires { answers_failed replies.old ≡ false }
-    ensures ok { OnOk result (Answered (task_value task.now)
-        (state_of W.contents E.contents replies.old) (state_of W.contents E.contents replies.new)
-        (selected selection.old (paths_of paths.now))) }
-    ensures err { OnErr result (Stopped (task_value task.now)
-        (state_of W.contents E.contents replies.old) (state_of W.contents E.contents replies.new)
-        (selected selection.old (paths_of paths.now))) }
+    ensures replied { Replied W.Sink E.Sink (task_value task.now) result replies.old replies.new
+        (selected selection.old (paths_of paths.now)) }
     ensures rest { OnOk result ((more : List (List ℕ))
         → selected selection.old (paths_of paths.now ++ more)
         ≡ selected selection.old (paths_of paths.now) ++ selected selection.new more) }
-    ensures write { answers_failed replies.new ≡ is_write_error result }
-    ensures no_read { IfErr result (λ error. (error ≡ RunError.Read) → ⊥) }
 {
     let mut index = 0;
     while index < paths.len() {
@@ -107,7 +87,7 @@ pub(crate) fn answer_paths<W: Write, E: Write>(
 }
 
 // Answers each record of these bytes that is selected.
-fn answer_records<W: Write, E: Write>(
+fn answer_records<W: Sink, E: Sink>(
     alloc: Global,
     task: &Task<'_>,
     selection: &mut Selection,
@@ -115,17 +95,11 @@ fn answer_records<W: Write, E: Write>(
     replies: &mut Replies<W, E>,
 ) -> Result<(), RunError>
     requires { answers_failed replies.old ≡ false }
-    ensures ok { let value = task_value task.now in OnOk result (Answered value
-        (state_of W.contents E.contents replies.old) (state_of W.contents E.contents replies.new)
-        (selected selection.old (records_of (end_of value.settings) bytes.now))) }
-    ensures err { let value = task_value task.now in OnErr result (Stopped value
-        (state_of W.contents E.contents replies.old) (state_of W.contents E.contents replies.new)
-        (selected selection.old (records_of (end_of value.settings) bytes.now))) }
+    ensures replied { Replied W.Sink E.Sink (task_value task.now) result replies.old replies.new
+        (selected selection.old (records_of (end_of (task_value task.now).settings) bytes.now)) }
     ensures rest { let records = records_of (end_of (task_value task.now).settings) bytes.now in
         OnOk result ((more : List (List ℕ)) → selected selection.old (records ++ more)
         ≡ selected selection.old records ++ selected selection.new more) }
-    ensures write { answers_failed replies.new ≡ is_write_error result }
-    ensures no_read { IfErr result (λ error. (error ≡ RunError.Read) → ⊥) }
 {
     let paths = records_in(alloc, bytes, end_of(task.settings))?;
     answer_paths(alloc, task, selection, paths.as_slice(), replies)
@@ -133,7 +107,7 @@ fn answer_records<W: Write, E: Write>(
 
 // Answers each record of an input that is selected. Before each read all answers are written. A
 // record is answered once its end is read, or the end of the input.
-pub(crate) fn answer_input<R: Read, W: Write, E: Write>(
+pub(crate) fn answer_input<R: Source, W: Sink, E: Sink>(
     alloc: Global,
     task: &Task<'_>,
     selection: &mut Selection,
@@ -142,16 +116,9 @@ pub(crate) fn answer_input<R: Read, W: Write, E: Write>(
 ) -> Result<(), RunError>
     requires write { answers_failed replies.old ≡ false }
     requires read { has_failed reader.old ≡ false }
-    ensures ok { let value = task_value task.now in
-        OnOk result (IfSome (R.remaining (watched_inner reader.old)) (λ input. Answered value
-        (state_of W.contents E.contents replies.old) (state_of W.contents E.contents replies.new)
-        (selected selection.old (records_of (end_of value.settings) input)))) }
-    ensures err { let value = task_value task.now in
-        OnErr result (IfSome (R.remaining (watched_inner reader.old)) (λ input. Stopped value
-        (state_of W.contents E.contents replies.old) (state_of W.contents E.contents replies.new)
-        (selected selection.old (records_of (end_of value.settings) input)))) }
-    ensures write { answers_failed replies.new ≡ is_write_error result }
-    ensures read { has_failed reader.new ≡ is_read_error result }
+    ensures { let value = task_value task.now in
+        RepliedTo R.Source W.Sink E.Sink value result reader.old reader.new replies.old replies.new
+        (λ input. selected selection.old (records_of (end_of value.settings) input)) }
 {
     let end = end_of(task.settings);
     let mut chunk = [0u8; BLOCK];
@@ -173,6 +140,5 @@ pub(crate) fn answer_input<R: Read, W: Write, E: Write>(
         records.clear();
         records.extend_from_slice(&read[len..])?;
     }
-    reader.give_up();
-    Err(RunError::Read)
+    Err(RunError::Memory)
 }

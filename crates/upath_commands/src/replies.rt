@@ -1,9 +1,9 @@
 //! What a run prints: answers and messages, and whether the paths are answered.
-ghost use Rattle.std.specs.Prelude.{◌≡◌};
+ghost use Rattle.std.specs.Prelude.{◌≡◌, false};
 
-use crate::output::{Messages, Output};
+use crate::output::Output;
+use byte_streams::{Sink, Watched};
 use std::alloc::Global;
-use std::io::Write;
 
 // Whether all paths so far were answered, and whether any was.
 #[derive(Clone, Copy)]
@@ -18,23 +18,27 @@ pub(crate) struct Tally {
 #[derive(Drop)]
 pub struct Replies<W, E> {
     pub(crate) answers: Output<W>,
-    pub(crate) messages: Messages<E>,
+    pub(crate) messages: Watched<E>,
+    pub(crate) line: Vec<u8>,
     pub(crate) tally: Tally,
 }
 
-impl<W: Write, E: Write> Replies<W, E> {
-    ghost use Rattle.upath_commands.specs.Replies.{new_state, state_of};
+impl<W: Sink, E: Sink> Replies<W, E> {
+    ghost use Rattle.upath_commands.specs.Replies.{answers_to, is_deaf, IsNew, messages_to};
 
-    /// Creates replies to these writers, before any path.
+    /// Creates replies to these sinks, before any path.
     ///
     /// `Replies::new(alloc, output, errors)` prints messages to `errors`.
     pub fn new(alloc: Global, answers: W, messages: E) -> Replies<W, E>
-        ensures { state_of W.contents E.contents result
-            ≡ new_state (W.contents answers) (E.contents messages) }
+        ensures new { IsNew result }
+        ensures answers { answers_to result ≡ answers }
+        ensures messages { messages_to result ≡ messages }
+        ensures failed { is_deaf result ≡ false }
     {
         Replies {
             answers: Output::new(alloc, answers),
-            messages: Messages::new(alloc, messages),
+            messages: Watched::new(messages),
+            line: Vec::new(alloc),
             tally: Tally {
                 all: true,
                 any: false,

@@ -1,30 +1,31 @@
 //! What is done for a list of arguments.
-ghost use Rattle.std.specs.Prelude.{◌≡◌, ◌<◌, [], IfOk, IfErr, IfSome, OnOk, OnErr, None, true};
-ghost use Rattle.std.specs.Prelude.{◌↔◌, false, if◌then◌else◌, IsErrAnd, IsErrOf, IsTrue};
-ghost use Rattle.std.specs.Ordering.{is_eq};
-ghost use Rattle.unix_path.specs.Order.{values_cmp};
-ghost use Rattle.unix_path.specs.Parts.{values};
+ghost use Rattle.std.specs.Prelude.{◌≡◌, ◌<◌, ◌↔◌, ◌⊎◌, [], false, true, None, Some, Ok, Err};
+ghost use Rattle.std.specs.Prelude.{IfErr, IfOk, IfSome, IsErrAnd, IsErrOf, IsTrue, OnErr, OnOk};
+ghost use Rattle.std.specs.declared.io.Error.{Error as IoError};
+ghost use Rattle.byte_streams.specs.Calls.{Many, ReadsUntilNone, WritesAndFlushes, WritesSome};
+ghost use Rattle.byte_streams.specs.Calls.{WritesThenNone, WritesUntilNone};
+ghost use Rattle.byte_streams.specs.Watched.{has_failed, watched_inner};
 ghost use Rattle.upath_commands.specs.Arguments.{meaning_of};
 ghost use Rattle.upath_commands.specs.Invocations.{command_value, invocation_value, usage_value};
-ghost use Rattle.upath_commands.specs.Outputs.{error_line, is_read_error, is_write_error};
-ghost use Rattle.upath_commands.specs.Outputs.{IsOfWrite};
+ghost use Rattle.upath_commands.specs.Outputs.{Ended, error_line, IsOfWrite};
 ghost use Rattle.upath_commands.specs.Records.{paths_of};
-ghost use Rattle.upath_commands.specs.Replies.{Answered, answers_failed, answers_flushed, IsNew};
-ghost use Rattle.upath_commands.specs.Replies.{state_of, Stopped};
-ghost use Rattle.upath_commands.specs.Runs.{asked, Broken, command_yes, Done, Failed, help_text};
-ghost use Rattle.upath_commands.specs.Runs.{hides_errors, input_if, is_quiet, IsAnswer, IsStatus};
-ghost use Rattle.upath_commands.specs.Runs.{IsStatusOf, OnBegun, OnBegunReplies, OnPrinted};
-ghost use Rattle.upath_commands.specs.Runs.{OnReplies, reads, reads_input, yes_of};
+ghost use Rattle.upath_commands.specs.Replies.{answers_failed, answers_flushed, answers_to};
+ghost use Rattle.upath_commands.specs.Replies.{Gave, GaveThis, is_deaf, IsNew, messages_to};
+ghost use Rattle.upath_commands.specs.Replies.{ReadCalls, Replied, RepliedTo, state_of};
+ghost use Rattle.upath_commands.specs.Runs.{asked, Done, Failed, GaveFor, help_text, hides_errors};
+ghost use Rattle.upath_commands.specs.Runs.{input_if, is_quiet, IsAnswer, IsStatus, IsStatusOf};
+ghost use Rattle.upath_commands.specs.Runs.{OnBegun, OnBegunReplies, OnPrinted, OnReplies, Ran};
+ghost use Rattle.upath_commands.specs.Runs.{reads, reads_input, Reported, yes_of};
 ghost use Rattle.upath_commands.specs.Sorting.{chosen, is_gathered};
-ghost use Rattle.upath_commands.specs.Tasks.{messages_of, output_of, task_value};
+ghost use Rattle.upath_commands.specs.Tasks.{task_value};
 ghost use Rattle.upath_commands.specs.Usage.{usage_line};
-ghost use Rattle.upath_commands.specs.Watched.{has_failed, watched_inner};
 
-use crate::archive::run_archive;
+use crate::archive::give_archive;
 use crate::arguments::invocation_of;
 use crate::command::{Command, Invocation};
 use crate::engine::{answer_input, answer_paths};
 use crate::input::read_all;
+use crate::messages::{report_error, report_usage};
 use crate::output::RunError;
 use crate::push::end_of;
 use crate::records::records_in;
@@ -33,9 +34,8 @@ use crate::selection::Selection;
 use crate::sorting::{choose, is_gathered, is_uniq};
 use crate::task::Task;
 use crate::usage::UsageError;
-use crate::watched::Watched;
+use byte_streams::{Sink, Source, Watched};
 use std::alloc::Global;
-use std::io::{Read, Write};
 use unix_path::Path;
 
 /// The help text of a command.
@@ -75,7 +75,7 @@ fn help_text<'a>(texts: Texts<'a>, name: &[u8]) -> &'a [u8]
 }
 
 // Answers these paths, of a command that needs all of them before it answers.
-fn answer_gathered<W: Write, E: Write>(
+fn answer_gathered<W: Sink, E: Sink>(
     alloc: Global,
     task: &Task<'_>,
     mut paths: Vec<Path<'_>>,
@@ -83,62 +83,24 @@ fn answer_gathered<W: Write, E: Write>(
 ) -> Result<(), RunError>
     requires write { answers_failed replies.old ≡ false }
     requires gathered { is_gathered (command_value task.now.command) ≡ true }
-    ensures ok { let value = task_value task.now in OnOk result (Answered value
-        (state_of W.contents E.contents replies.old) (state_of W.contents E.contents replies.new)
-        (chosen value.command (paths_of paths.entry.items))) }
-    ensures err { let value = task_value task.now in OnErr result (Stopped value
-        (state_of W.contents E.contents replies.old) (state_of W.contents E.contents replies.new)
-        (chosen value.command (paths_of paths.entry.items))) }
-    ensures write { answers_failed replies.new ≡ is_write_error result }
-    ensures no_read { IfErr result (λ error. (error ≡ RunError.Read) → ⊥) }
+    ensures { let value = task_value task.now in Replied W.Sink E.Sink value result replies.old
+        replies.new (chosen value.command (paths_of paths.entry.items)) }
 {
     choose(task.command, &mut paths)?;
     let all = &mut Selection::All;
     answer_paths(alloc, task, all, paths.as_slice(), replies)
 }
 
-// Answers the records of the input, of a command that needs all of them before it answers.
-fn gather_input<R: Read, W: Write, E: Write>(
-    alloc: Global,
-    task: &Task<'_>,
-    reader: &mut Watched<R>,
-    replies: &mut Replies<W, E>,
-) -> Result<(), RunError>
-    requires write { answers_failed replies.old ≡ false }
-    requires read { has_failed reader.old ≡ false }
-    requires gathered { is_gathered (command_value task.now.command) ≡ true }
-    ensures ok { let value = task_value task.now in
-        OnOk result (IfSome (R.remaining (watched_inner reader.old)) (λ input. Answered value
-        (state_of W.contents E.contents replies.old) (state_of W.contents E.contents replies.new)
-        (asked value.command value.settings None input))) }
-    ensures err { let value = task_value task.now in
-        OnErr result (IfSome (R.remaining (watched_inner reader.old)) (λ input. Stopped value
-        (state_of W.contents E.contents replies.old) (state_of W.contents E.contents replies.new)
-        (asked value.command value.settings None input))) }
-    ensures write { answers_failed replies.new ≡ is_write_error result }
-    ensures read { has_failed reader.new ≡ is_read_error result }
-{
-    let input = read_all(alloc, reader)?;
-    let paths = records_in(alloc, input.as_slice(), end_of(task.settings))?;
-    answer_gathered(alloc, task, paths, replies)
-}
-
 // Answers these paths.
-fn answer_operands<W: Write, E: Write>(
+fn answer_operands<W: Sink, E: Sink>(
     alloc: Global,
     task: &Task<'_>,
     paths: &[Path<'_>],
     replies: &mut Replies<W, E>,
 ) -> Result<(), RunError>
     requires { answers_failed replies.old ≡ false }
-    ensures ok { let value = task_value task.now in OnOk result (Answered value
-        (state_of W.contents E.contents replies.old) (state_of W.contents E.contents replies.new)
-        (chosen value.command (paths_of paths.now))) }
-    ensures err { let value = task_value task.now in OnErr result (Stopped value
-        (state_of W.contents E.contents replies.old) (state_of W.contents E.contents replies.new)
-        (chosen value.command (paths_of paths.now))) }
-    ensures write { answers_failed replies.new ≡ is_write_error result }
-    ensures no_read { IfErr result (λ error. (error ≡ RunError.Read) → ⊥) }
+    ensures { let value = task_value task.now in Replied W.Sink E.Sink value result replies.old
+        replies.new (chosen value.command (paths_of paths.now)) }
 {
     if is_gathered(task.command) {
         let paths = Vec::from_slice(alloc, paths)?;
@@ -148,8 +110,8 @@ fn answer_operands<W: Write, E: Write>(
     answer_paths(alloc, task, &mut selection, paths, replies)
 }
 
-// Answers the records of the input.
-fn answer_records_read<R: Read, W: Write, E: Write>(
+// Answers the records of the input, of a command that needs all of them before it answers.
+fn gather_input<R: Source, W: Sink, E: Sink>(
     alloc: Global,
     task: &Task<'_>,
     reader: &mut Watched<R>,
@@ -157,16 +119,28 @@ fn answer_records_read<R: Read, W: Write, E: Write>(
 ) -> Result<(), RunError>
     requires write { answers_failed replies.old ≡ false }
     requires read { has_failed reader.old ≡ false }
-    ensures ok { let value = task_value task.now in
-        OnOk result (IfSome (R.remaining (watched_inner reader.old)) (λ input. Answered value
-        (state_of W.contents E.contents replies.old) (state_of W.contents E.contents replies.new)
-        (asked value.command value.settings None input))) }
-    ensures err { let value = task_value task.now in
-        OnErr result (IfSome (R.remaining (watched_inner reader.old)) (λ input. Stopped value
-        (state_of W.contents E.contents replies.old) (state_of W.contents E.contents replies.new)
-        (asked value.command value.settings None input))) }
-    ensures write { answers_failed replies.new ≡ is_write_error result }
-    ensures read { has_failed reader.new ≡ is_read_error result }
+    requires gathered { is_gathered (command_value task.now.command) ≡ true }
+    ensures { let value = task_value task.now in
+        RepliedTo R.Source W.Sink E.Sink value result reader.old reader.new replies.old replies.new
+        (asked value.command value.settings None) }
+{
+    let input = read_all(alloc, reader)?;
+    let paths = records_in(alloc, input.as_slice(), end_of(task.settings))?;
+    answer_gathered(alloc, task, paths, replies)
+}
+
+// Answers the records of the input.
+fn answer_records_read<R: Source, W: Sink, E: Sink>(
+    alloc: Global,
+    task: &Task<'_>,
+    reader: &mut Watched<R>,
+    replies: &mut Replies<W, E>,
+) -> Result<(), RunError>
+    requires write { answers_failed replies.old ≡ false }
+    requires read { has_failed reader.old ≡ false }
+    ensures { let value = task_value task.now in
+        RepliedTo R.Source W.Sink E.Sink value result reader.old reader.new replies.old replies.new
+        (asked value.command value.settings None) }
 {
     if is_gathered(task.command) {
         return gather_input(alloc, task, reader, replies);
@@ -185,131 +159,53 @@ fn yes_of(command: Command<'_>, tally: Tally) -> bool
     }
 }
 
-// Flushes, once a command has answered its paths. Returns the answer.
-fn finish<W: Write, E: Write>(
-    command: Command<'_>,
-    replies: &mut Replies<W, E>,
-) -> Result<bool, RunError>
-    requires { answers_failed replies.old ≡ false }
-    ensures ok { OnOk result (Done
-        (state_of W.contents E.contents replies.old)
-        (state_of W.contents E.contents replies.new) [] []) }
-    ensures yes { let state = state_of W.contents E.contents replies.old in IfOk result (λ yes.
-        yes ≡ yes_of (command_value command.entry) state.all state.any) }
-    ensures err { OnErr result (Broken
-        (state_of W.contents E.contents replies.old)
-        (state_of W.contents E.contents replies.new) [] []) }
-    ensures write { answers_failed replies.new ≡ is_write_error result }
-    ensures flushed { OnOk result (IsTrue (answers_flushed replies.new)) }
-    ensures no_read { IfErr result (λ error. (error ≡ RunError.Read) → ⊥) }
-{
-    replies.answers.finish()?;
-    Ok(yes_of(command, replies.tally))
-}
-
-// Runs a command for these paths. Returns its answer.
-fn run_operands<W: Write, E: Write>(
+// Answers these paths. Returns the answer of the command.
+fn give_operands<W: Sink, E: Sink>(
     alloc: Global,
     task: &Task<'_>,
     paths: &[Path<'_>],
     replies: &mut Replies<W, E>,
 ) -> Result<bool, RunError>
-    requires { IsNew (state_of W.contents E.contents replies.old) }
-    ensures ok { let value = task_value task.now in
-        let paths = chosen value.command (paths_of paths.now) in
-        OnOk result (Done
-        (state_of W.contents E.contents replies.old) (state_of W.contents E.contents replies.new)
-        (output_of value paths) (messages_of value paths)) }
-    ensures yes { let value = task_value task.now in IfOk result (λ yes.
-        yes ≡ command_yes value (chosen value.command (paths_of paths.now))) }
-    ensures err { let value = task_value task.now in
-        let paths = chosen value.command (paths_of paths.now) in
-        OnErr result (Broken
-        (state_of W.contents E.contents replies.old) (state_of W.contents E.contents replies.new)
-        (output_of value paths) (messages_of value paths)) }
-    ensures write { answers_failed replies.new ≡ is_write_error result }
-    ensures flushed { OnOk result (IsTrue (answers_flushed replies.new)) }
+    requires { IsNew replies.old }
+    ensures gave { let value = task_value task.now in GaveFor W.Sink E.Sink value result replies.old
+        replies.new (Some []) (λ _. chosen value.command (paths_of paths.now)) }
     ensures no_read { IfErr result (λ error. (error ≡ RunError.Read) → ⊥) }
 {
     answer_operands(alloc, task, paths, replies)?;
-    finish(task.command, replies)
+    Ok(yes_of(task.command, replies.tally))
 }
 
-// Runs a command for the records of the input. Returns its answer.
-fn run_input<R: Read, W: Write, E: Write>(
+// Answers the records of the input. Returns the answer of the command.
+fn give_input<R: Source, W: Sink, E: Sink>(
     alloc: Global,
     task: &Task<'_>,
     reader: &mut Watched<R>,
     replies: &mut Replies<W, E>,
 ) -> Result<bool, RunError>
     requires read { has_failed reader.old ≡ false }
-    requires new { IsNew (state_of W.contents E.contents replies.old) }
-    ensures ok { let value = task_value task.now in
-        OnOk result (IfSome (R.remaining (watched_inner reader.old)) (λ input.
-        let paths = asked value.command value.settings None input in
-        Done
-        (state_of W.contents E.contents replies.old) (state_of W.contents E.contents replies.new)
-        (output_of value paths) (messages_of value paths))) }
-    ensures yes { let value = task_value task.now in IfOk result (λ yes.
-        IfSome (R.remaining (watched_inner reader.old)) (λ input.
-        yes ≡ command_yes value (asked value.command value.settings None input))) }
-    ensures err { let value = task_value task.now in
-        OnErr result (IfSome (R.remaining (watched_inner reader.old)) (λ input.
-        let paths = asked value.command value.settings None input in
-        Broken
-        (state_of W.contents E.contents replies.old) (state_of W.contents E.contents replies.new)
-        (output_of value paths) (messages_of value paths))) }
-    ensures write { answers_failed replies.new ≡ is_write_error result }
-    ensures read { has_failed reader.new ≡ is_read_error result }
-    ensures flushed { OnOk result (IsTrue (answers_flushed replies.new)) }
+    requires new { IsNew replies.old }
+    ensures gave { let value = task_value task.now in GaveFor W.Sink E.Sink value result replies.old
+        replies.new (R.remaining (watched_inner reader.old))
+        (asked value.command value.settings None) }
+    ensures reads { ReadCalls R.Source result reader.old reader.new }
 {
     answer_records_read(alloc, task, reader, replies)?;
-    finish(task.command, replies)
+    Ok(yes_of(task.command, replies.tally))
 }
 
-// Writes a text, and flushes. Returns true.
-fn run_text<W: Write, E: Write>(text: &[u8], replies: &mut Replies<W, E>) -> Result<bool, RunError>
+// Adds a text. Returns true.
+fn give_text<W: Sink, E: Sink>(text: &[u8], replies: &mut Replies<W, E>) -> Result<bool, RunError>
     requires { answers_failed replies.old ≡ false }
-    ensures ok { OnOk result (Done
-        (state_of W.contents E.contents replies.old)
-        (state_of W.contents E.contents replies.new) text.now []) }
-    ensures yes { IfOk result (λ yes. yes ≡ true) }
-    ensures err { OnErr result (Broken
-        (state_of W.contents E.contents replies.old)
-        (state_of W.contents E.contents replies.new) text.now []) }
-    ensures write { answers_failed replies.new ≡ is_write_error result }
-    ensures flushed { OnOk result (IsTrue (answers_flushed replies.new)) }
+    ensures gave { GaveThis W.Sink E.Sink result replies.old replies.new (Some [])
+        (λ _. text.now) (λ _. []) (λ _. true) }
     ensures no_read { IfErr result (λ error. (error ≡ RunError.Read) → ⊥) }
 {
-    replies.answers.write_text(text)?;
+    replies.answers.add(text)?;
     Ok(true)
 }
 
-// Returns true if and only if two paths are equal, and flushes.
-fn run_equal<W: Write, E: Write>(
-    path: Path<'_>,
-    other: Path<'_>,
-    replies: &mut Replies<W, E>,
-) -> Result<bool, RunError>
-    requires { answers_failed replies.old ≡ false }
-    ensures ok { OnOk result (Done
-        (state_of W.contents E.contents replies.old)
-        (state_of W.contents E.contents replies.new) [] []) }
-    ensures yes { IfOk result (λ yes.
-        yes ≡ is_eq (values_cmp (values path.entry.bytes.now) (values other.entry.bytes.now))) }
-    ensures err { OnErr result (Broken
-        (state_of W.contents E.contents replies.old)
-        (state_of W.contents E.contents replies.new) [] []) }
-    ensures write { answers_failed replies.new ≡ is_write_error result }
-    ensures flushed { OnOk result (IsTrue (answers_flushed replies.new)) }
-    ensures no_read { IfErr result (λ error. (error ≡ RunError.Read) → ⊥) }
-{
-    replies.answers.finish()?;
-    Ok(path == other)
-}
-
-// Does what an invocation asks for. Returns its answer.
-fn run<R: Read, W: Write, E: Write>(
+// Gives the answers that an invocation asks for. Returns whether the answer is yes.
+fn give<R: Source, W: Sink, E: Sink>(
     alloc: Global,
     invocation: &Invocation<'_>,
     texts: Texts<'_>,
@@ -317,35 +213,21 @@ fn run<R: Read, W: Write, E: Write>(
     replies: &mut Replies<W, E>,
 ) -> Result<bool, RunError>
     requires read { has_failed reader.old ≡ false }
-    requires new { IsNew (state_of W.contents E.contents replies.old) }
-    ensures ok { let value = invocation_value invocation.now in
-        OnOk result (IfSome (input_if (reads_input value)
-        (R.remaining (watched_inner reader.old))) (λ input.
-        OnPrinted texts.entry value input (Done
-        (state_of W.contents E.contents replies.old)
-        (state_of W.contents E.contents replies.new)))) }
-    ensures yes { let value = invocation_value invocation.now in IfOk result (λ yes.
-        IfSome (input_if (reads_input value)
-        (R.remaining (watched_inner reader.old))) (λ input.
-        IsAnswer value input yes)) }
-    ensures err { let value = invocation_value invocation.now in
-        OnErr result (IfSome (input_if (reads_input value)
-        (R.remaining (watched_inner reader.old))) (λ input.
-        OnBegun texts.entry value input (Broken
-        (state_of W.contents E.contents replies.old)
-        (state_of W.contents E.contents replies.new)))) }
+    requires new { IsNew replies.old }
+    ensures gave { let value = invocation_value invocation.now in
+        Gave W.Sink E.Sink result replies.old replies.new
+        (input_if (reads_input value) (R.remaining (watched_inner reader.old)))
+        (OnPrinted texts.entry value) (OnBegun texts.entry value) (IsAnswer value) }
+    ensures reads { ReadCalls R.Source result reader.old reader.new }
     ensures unread { reads_input (invocation_value invocation.now) ≡ false
         → reader.new ≡ reader.old }
-    ensures write { answers_failed replies.new ≡ is_write_error result }
-    ensures read { has_failed reader.new ≡ is_read_error result }
-    ensures flushed { OnOk result (IsTrue (answers_flushed replies.new)) }
 {
     match invocation {
-        Invocation::Help(name) => run_text(help_text(texts, name.bytes), replies),
-        Invocation::Version => run_text(texts.version, replies),
-        Invocation::Equal(_, path, other) => run_equal(*path, *other, replies),
+        Invocation::Help(name) => give_text(help_text(texts, name.bytes), replies),
+        Invocation::Version => give_text(texts.version, replies),
+        Invocation::Equal(_, path, other) => Ok(path == other),
         Invocation::Archive(options, settings) => {
-            run_archive(alloc, *options, *settings, reader, replies)
+            give_archive(alloc, *options, *settings, reader, replies)
         }
         Invocation::Each(command, settings, paths) => {
             let task = Task {
@@ -353,11 +235,34 @@ fn run<R: Read, W: Write, E: Write>(
                 settings: *settings,
             };
             match paths {
-                Some(paths) => run_operands(alloc, &task, paths.as_slice(), replies),
-                None => run_input(alloc, &task, reader, replies),
+                Some(paths) => give_operands(alloc, &task, paths.as_slice(), replies),
+                None => give_input(alloc, &task, reader, replies),
             }
         }
     }
+}
+
+// Gives the answers that an invocation asks for, and flushes. Returns whether the answer is yes.
+fn run<R: Source, W: Sink, E: Sink>(
+    alloc: Global,
+    invocation: &Invocation<'_>,
+    texts: Texts<'_>,
+    reader: &mut Watched<R>,
+    replies: &mut Replies<W, E>,
+) -> Result<bool, RunError>
+    requires read { has_failed reader.old ≡ false }
+    requires new { IsNew replies.old }
+    ensures ran { let value = invocation_value invocation.now in
+        Ran W.Sink E.Sink result replies.old replies.new
+        (input_if (reads_input value) (R.remaining (watched_inner reader.old)))
+        (OnPrinted texts.entry value) (OnBegun texts.entry value) (IsAnswer value) }
+    ensures reads { ReadCalls R.Source result reader.old reader.new }
+    ensures unread { reads_input (invocation_value invocation.now) ≡ false
+        → reader.new ≡ reader.old }
+{
+    let yes = give(alloc, invocation, texts, reader, replies)?;
+    replies.answers.finish()?;
+    Ok(yes)
 }
 
 // Returns true if nothing is to be printed.
@@ -373,7 +278,7 @@ fn is_quiet(invocation: &Invocation<'_>) -> bool
 }
 
 // Does what an invocation asks for. Returns the exit status, and writes a message for an error.
-fn run_invocation<R: Read, W: Write, E: Write>(
+fn run_invocation<R: Source, W: Sink, E: Sink>(
     alloc: Global,
     invocation: &Invocation<'_>,
     texts: Texts<'_>,
@@ -381,61 +286,49 @@ fn run_invocation<R: Read, W: Write, E: Write>(
     replies: &mut Replies<W, E>,
 ) -> Result<u8, RunError>
     requires read { has_failed reader.old ≡ false }
-    requires new { IsNew (state_of W.contents E.contents replies.old) }
-    ensures ok { let value = invocation_value invocation.now in
-        OnOk result (IfSome (input_if (reads_input value)
-        (R.remaining (watched_inner reader.old))) (λ input.
-        OnPrinted texts.entry value input (Done
-        (state_of W.contents E.contents replies.old)
-        (state_of W.contents E.contents replies.new)))) }
+    requires new { IsNew replies.old }
+    ensures reported { let value = invocation_value invocation.now in
+        Reported W.Sink E.Sink result replies.old replies.new
+        (input_if (reads_input value) (R.remaining (watched_inner reader.old)))
+        (OnPrinted texts.entry value) (OnBegun texts.entry value) (error_line (is_quiet value)) }
     ensures status { let value = invocation_value invocation.now in IfOk result (λ status.
-        IfSome (input_if (reads_input value)
-        (R.remaining (watched_inner reader.old))) (λ input.
+        IfSome (input_if (reads_input value) (R.remaining (watched_inner reader.old))) (λ input.
         IsStatusOf value input status)) }
-    ensures range { IfOk result (λ status. status < 3) }
-    ensures err { let value = invocation_value invocation.now in IfErr result (λ error.
-        IfSome (input_if (reads_input value)
-        (R.remaining (watched_inner reader.old))) (λ input.
-        OnBegun texts.entry value input (λ output messages. Failed
-        (state_of W.contents E.contents replies.old) (state_of W.contents E.contents replies.new)
-        output messages (error_line (is_quiet value) error)))) }
+    ensures range { IfOk result (λ status. status < 2) }
+    ensures ended { Ended W.Sink result replies.old.answers replies.new.answers }
+    ensures reads { ReadCalls R.Source result reader.old reader.new }
     ensures unread { reads_input (invocation_value invocation.now) ≡ false
         → reader.new ≡ reader.old }
-    ensures write { answers_failed replies.new ≡ is_write_error result }
-    ensures read { has_failed reader.new ≡ is_read_error result }
-    ensures flushed { OnOk result (IsTrue (answers_flushed replies.new)) }
 {
     match run(alloc, invocation, texts, reader, replies) {
         Ok(true) => Ok(0),
         Ok(false) => Ok(1),
         Err(error) => {
-            replies.messages.report_error(is_quiet(invocation), error);
+            report_error(&mut replies.messages, is_quiet(invocation), error);
             Err(error)
         }
     }
 }
 
 // Writes the message for wrong usage. Returns the exit status.
-fn refuse<W: Write, E: Write>(
+fn refuse<W: Sink, E: Sink>(
+    alloc: Global,
     usage: UsageError<'_>,
     replies: &mut Replies<W, E>,
 ) -> Result<u8, RunError>
-    requires { IsNew (state_of W.contents E.contents replies.old) }
-    ensures ok { OnOk result (Done
-        (state_of W.contents E.contents replies.old) (state_of W.contents E.contents replies.new)
-        [] (usage_line (usage_value usage.entry))) }
+    requires { IsNew replies.old }
+    ensures reported { let line = usage_line (usage_value usage.entry) in
+        Reported W.Sink E.Sink result replies.old replies.new (Some []) (λ _ P. P [] line)
+        (λ _ P. P [] line) (error_line false) }
     ensures status { IfOk result (λ status. status ≡ 2) }
-    ensures err { IfErr result (λ error. Failed
-        (state_of W.contents E.contents replies.old) (state_of W.contents E.contents replies.new)
-        [] (usage_line (usage_value usage.entry)) (error_line false error)) }
-    ensures write { answers_failed replies.new ≡ is_write_error result }
-    ensures no_read { IfErr result (λ error. (error ≡ RunError.Read) → ⊥) }
+    ensures only_memory { IfErr result (λ error. error ≡ RunError.Memory) }
+    ensures unwritten { replies.new.answers ≡ replies.old.answers }
 {
-    match replies.messages.report_usage(usage) {
+    match report_usage(alloc, &mut replies.messages, usage) {
         Ok(()) => Ok(2),
-        Err(error) => {
-            replies.messages.report_error(false, error);
-            Err(error)
+        Err(_) => {
+            report_error(&mut replies.messages, false, RunError::Memory);
+            Err(RunError::Memory)
         }
     }
 }
@@ -448,7 +341,7 @@ fn refuse<W: Write, E: Write>(
 /// given, nobody reads the output any more, or the error is `Arguments`, which the caller reports.
 ///
 /// For `equal`, `a` and `a/.` the status is 0.
-pub fn run_arguments<R: Read, W: Write, E: Write>(
+pub fn run_arguments<R: Source, W: Sink, E: Sink>(
     alloc: Global,
     arguments: &[Path<'_>],
     texts: Texts<'_>,
@@ -456,43 +349,62 @@ pub fn run_arguments<R: Read, W: Write, E: Write>(
     replies: &mut Replies<W, E>,
 ) -> Result<u8, RunError>
     requires reader { has_failed reader.old ≡ false }
-    requires new { IsNew (state_of W.contents E.contents replies.old) }
+    requires new { IsNew replies.old }
 
     // What is written and the status, for a known input.
-    ensures ok { let meaning = meaning_of (paths_of arguments.now) in
-        OnOk result (IfSome (input_if (reads meaning)
-        (R.remaining (watched_inner reader.old))) (λ input.
-        OnReplies texts.entry meaning input (Done
-        (state_of W.contents E.contents replies.old)
-        (state_of W.contents E.contents replies.new)))) }
+    ensures ok { let meaning = meaning_of (paths_of arguments.now) in OnOk result
+        (IfSome (input_if (reads meaning) (R.remaining (watched_inner reader.old))) (λ input.
+        OnReplies texts.entry meaning input
+        (Done (state_of W.Sink E.Sink replies.old) (state_of W.Sink E.Sink replies.new)))) }
     ensures status { let meaning = meaning_of (paths_of arguments.now) in IfOk result (λ status.
-        IfSome (input_if (reads meaning)
-        (R.remaining (watched_inner reader.old))) (λ input.
+        IfSome (input_if (reads meaning) (R.remaining (watched_inner reader.old))) (λ input.
         IsStatus meaning input status)) }
     ensures range { IfOk result (λ status. status < 3) }
 
-    // What is left of both after an error, and the message for it.
+    // After an error: prefixes of the output and of the messages, and the message for the error.
     ensures err { let meaning = meaning_of (paths_of arguments.now) in IfErr result (λ error.
-        IfSome (input_if (reads meaning)
-        (R.remaining (watched_inner reader.old))) (λ input.
-        OnBegunReplies texts.entry meaning input (λ output messages. Failed
-        (state_of W.contents E.contents replies.old) (state_of W.contents E.contents replies.new)
+        IfSome (input_if (reads meaning) (R.remaining (watched_inner reader.old))) (λ input.
+        OnBegunReplies texts.entry meaning input (λ output messages.
+        Failed (state_of W.Sink E.Sink replies.old) (state_of W.Sink E.Sink replies.new)
         output messages (error_line (hides_errors meaning) error)))) }
 
     // The error is `Read` if and only if a read has failed, and `Write` or `Closed` if and only if
     // a write or a flush of answers has failed.
     ensures read { IsErrOf result RunError.Read ↔ IsTrue (has_failed reader.new) }
     ensures write { IsErrAnd result IsOfWrite ↔ IsTrue (answers_failed replies.new) }
-    ensures flushed { IfOk result (λ status. status < 2
-        → IsTrue (answers_flushed replies.new)) }
 
-    // Nothing is read but for `archive` and for a command without paths.
+    // The reads: each returned bytes, but for the last. There is none but for `archive` and for a
+    // command without paths.
+    ensures reads { ReadsUntilNone R.read_gives (watched_inner reader.old)
+        (watched_inner reader.new) }
     ensures unread { reads (meaning_of (paths_of arguments.now)) ≡ false
         → reader.new ≡ reader.old }
+
+    // The writes of answers: each wrote bytes, but for the last one if it failed, and there is at
+    // most one flush, after all writes. For wrong usage there is neither.
+    ensures flushed { IfOk result (λ status. status < 2 → IsTrue (answers_flushed replies.new)) }
+    ensures flushes { IfOk result (λ status. status < 2
+        → WritesAndFlushes W.write_gives W.flush_gives (answers_to replies.old) (Ok tt)
+        (answers_to replies.new)) }
+    ensures unwritten { IfOk result (λ status. status ≡ 2
+        → answers_to replies.new ≡ answers_to replies.old) }
+    ensures gave_up { OnErr result
+        (WritesUntilNone W.write_gives (answers_to replies.old) (answers_to replies.new)
+        ⊎ ((error : IoError) × WritesAndFlushes W.write_gives W.flush_gives
+        (answers_to replies.old) (Err error) (answers_to replies.new))) }
+
+    // The writes of messages: each wrote bytes, but for the last one if it failed. There is none
+    // after that.
+    ensures spoke { is_deaf replies.new ≡ false
+        → Many (WritesSome E.write_gives) (messages_to replies.old) (messages_to replies.new) }
+    ensures deaf { is_deaf replies.old ≡ false → is_deaf replies.new ≡ true
+        → WritesThenNone E.write_gives (messages_to replies.old) (messages_to replies.new) }
+    ensures silent { is_deaf replies.old ≡ true
+        → messages_to replies.new ≡ messages_to replies.old }
 {
     match invocation_of(alloc, arguments) {
         Err(_) => Err(RunError::Arguments),
         Ok(Ok(invocation)) => run_invocation(alloc, &invocation, texts, reader, replies),
-        Ok(Err(usage)) => refuse(usage, replies),
+        Ok(Err(usage)) => refuse(alloc, usage, replies),
     }
 }

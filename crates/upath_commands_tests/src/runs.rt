@@ -1,9 +1,10 @@
 //! Whole runs: arguments and an input, and what is printed for them.
 
+use byte_streams::{StdIo, Watched};
 use std::alloc::{AllocError, Global};
 use std::io;
 use std::io::{ErrorKind, Read};
-use upath_commands::{HelpText, Replies, RunError, Texts, Watched, argument_paths, run_arguments};
+use upath_commands::{HelpText, Replies, RunError, Texts, argument_paths, run_arguments};
 
 const COMMANDS: [HelpText<'static>; 1] = [HelpText {
     name: b"canon",
@@ -34,8 +35,9 @@ fn printed<R: Read>(alloc: Global, line: &str, reader: &mut R) -> Result<Vec<u8>
     };
     let mut answers = Vec::new(alloc);
     let mut messages = Vec::new(alloc);
-    let mut reader = Watched::new(reader);
-    let mut replies = Replies::new(alloc, &mut answers, &mut messages);
+    let mut reader = Watched::new(StdIo::new(reader));
+    let answers_to = StdIo::new(&mut answers);
+    let mut replies = Replies::new(alloc, answers_to, StdIo::new(&mut messages));
     let result = run_arguments(alloc, paths.as_slice(), texts, &mut reader, &mut replies);
     drop(replies);
     let mut out = Vec::new(alloc);

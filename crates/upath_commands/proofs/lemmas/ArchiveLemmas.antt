@@ -8,8 +8,8 @@ use Rattle.upath_commands.specs.Archives.{IsText, OnArchive}
 use Rattle.upath_commands.specs.Invocations.{InvocationValue, Meaning, SettingsValue}
 use Rattle.upath_commands.specs.Invocations.{Help, Version, Equal, Archive, Each}
 use Rattle.upath_commands.specs.Outputs.{Tells, error_line}
-use Rattle.upath_commands.specs.Replies.{State}
-use Rattle.upath_commands.specs.Runs.{Broken, Failed, OnBegun, OnBegunReplies}
+use Rattle.upath_commands.specs.Replies.{Broken, State}
+use Rattle.upath_commands.specs.Runs.{Failed, OnBegun, OnBegunReplies, OnPrinted}
 use Rattle.upath_commands.proofs.lemmas.RunLemmas.{Failed-after, Failed-arguments}
 
 module _ (P Q : List ℕ → List ℕ → Type 0)
@@ -31,6 +31,26 @@ OnArchive-of P decision options settings input h =
     OnArchive-then (IsText decision) P
     (λ output messages is. subst (λ output. P output messages) is.0
     (subst (λ messages. P decision.output.items messages) is.1 h)) options settings input
+
+  -- what follows of what an invocation prints
+  pub OnPrinted-then : (texts : Texts) (invocation : InvocationValue) (input : List ℕ)
+      → OnPrinted texts invocation input P → OnPrinted texts invocation input Q
+  OnPrinted-then texts (Help name) input h = f _ _ h
+  OnPrinted-then texts Version input h = f _ _ h
+  OnPrinted-then texts (Equal settings a b) input h = f _ _ h
+  OnPrinted-then texts (Archive options settings) input h =
+      OnArchive-then options settings input h
+  OnPrinted-then texts (Each command settings paths) input h = f _ _ h
+
+  -- the same after an error
+  pub OnPrinted-begun : (texts : Texts) (invocation : InvocationValue) (input : List ℕ)
+      → OnPrinted texts invocation input P → OnBegun texts invocation input Q
+  OnPrinted-begun texts (Help name) input h = f _ _ h
+  OnPrinted-begun texts Version input h = f _ _ h
+  OnPrinted-begun texts (Equal settings a b) input h = f _ _ h
+  OnPrinted-begun texts (Archive options settings) input h =
+      inr (OnArchive-then options settings input h)
+  OnPrinted-begun texts (Each command settings paths) input h = f _ _ h
 
 -- the line for an error was written, after what was printed before it
 pub OnBegun-failed : (old mid new : State) (line : List ℕ) (texts : Texts)

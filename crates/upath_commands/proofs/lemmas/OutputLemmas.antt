@@ -1,51 +1,11 @@
 -- What is written and what waits in a buffer.
-use Rattle.std.proofs.Common.{◌≡◌, ℕ, Bool, List, [], ◌++◌, length, take, drop, Option, Some, None}
-use Rattle.std.proofs.Common.{Result, Ok, Err, OnErr, sym, ap, subst, ◌∙◌, append_assoc}
-use Rattle.std.proofs.Common.{append-nil, take-append-drop}
-use Rattle.std.proofs.Math.Seq.{take-append_seam}
-use Rattle.std.proofs.KnownBytes.{Appends-trans, Appends-nil, Keeps-trans}
-use Rattle.std.specs.Io.KnownBytes.{Appends, Keeps, WriteAppends}
-use Rattle.upath_commands.specs.Outputs.{AppendsPrefix, Emits, EmitsPrefix, Tells}
-
-kept-Appends : (a b c : Option (List ℕ)) (bs : List ℕ) → Keeps a b → Appends b c bs
-    → Appends a c bs
-kept-Appends None b c bs p q = tt
-kept-Appends (Some x) None c bs p q = absurd p
-kept-Appends (Some x) (Some y) None bs p q = absurd q
-kept-Appends (Some x) (Some y) (Some z) bs p q = q ∙ ap (λ l. l ++ bs) p
-
--- a write after calls that kept the known bytes
-pub WriteAppends-after : {E : Type 0} (a b c : Option (List ℕ)) (r : Result ℕ E) (bs : List ℕ)
-    → Keeps a b → WriteAppends b c r bs → WriteAppends a c r bs
-WriteAppends-after a b c (Ok n) bs p q = kept-Appends a b c (take n bs) p q
-WriteAppends-after a b c (Err e) bs p q = Keeps-trans a b c p q
-
--- if `done` was appended and `all` starts with it, a prefix of `all` was appended
-pub AppendsPrefix-of : (a b : Option (List ℕ)) (done rest all : List ℕ) → Appends a b done
-    → done ++ rest ≡ all → AppendsPrefix a b all
-AppendsPrefix-of a b done rest all h e = (
-  length done,
-  subst (Appends a b) (sym (take-append_seam done rest)
-      ∙ ap (take (length done)) e) h,
-)
-
--- if `done` was appended, and then a prefix of `next`, which follows `done` in `all`, a prefix of
--- `all` was appended
-pub AppendsPrefix-then : (a b c : Option (List ℕ)) (done next rest all : List ℕ)
-    → Appends a b done → AppendsPrefix b c next → done ++ (next ++ rest) ≡ all
-    → AppendsPrefix a c all
-AppendsPrefix-then a b c done next rest all h (n, k) e =
-    let front = take n next in
-    AppendsPrefix-of a c (done ++ front) (drop n next ++ rest) all
-    (Appends-trans a b c done front h k)
-    (append_assoc done front (drop n next ++ rest)
-    ∙ ap (λ l. done ++ l) (sym (append_assoc front (drop n next) rest)
-    ∙ ap (λ l. l ++ rest) (take-append-drop n next)) ∙ e)
-
--- a fact that holds in any case holds if the result is an error
-pub OnErr-of : {T E P : Type 0} (r : Result T E) → P → OnErr r P
-OnErr-of (Ok x) h = tt
-OnErr-of (Err e) h = h
+use Rattle.std.proofs.Common.{◌≡◌, ℕ, Bool, List, [], ◌++◌, Option, sym, ap, subst, ◌∙◌}
+use Rattle.std.proofs.Common.{append_assoc, append-nil}
+use Rattle.std.proofs.KnownBytes.{Appends-trans, Appends-nil}
+use Rattle.std.specs.Io.KnownBytes.{Appends}
+use Rattle.byte_streams.specs.Watched.{AppendsPrefix}
+use Rattle.byte_streams.proofs.lemmas.WriteLemmas.{AppendsPrefix-of, AppendsPrefix-then}
+use Rattle.upath_commands.specs.Outputs.{Emits, EmitsPrefix, Tells}
 
 -- nothing was written, and bytes were added to the buffer
 pub Emits-added : (a : Option (List ℕ)) (buffer rest bs : List ℕ) → rest ≡ buffer ++ bs
@@ -117,3 +77,7 @@ pub Tells-then : (a b c : Option (List ℕ)) (first second third : Bool) (xs ys 
 Tells-then a b c first second third xs ys p q =
     λ e. let (d, more) = q e in let (f, so_far) = p d in
     (f, Appends-trans a b c xs ys so_far more)
+
+-- nothing was written
+pub EmitsPrefix-none : (a : Option (List ℕ)) (buffer bs : List ℕ) → EmitsPrefix a a buffer bs
+EmitsPrefix-none a buffer bs = (0, Appends-nil a)

@@ -1,45 +1,46 @@
-use Rattle.std.proofs.Common.{◌≡◌, ap, sym, ◌∙◌}
+use Rattle.std.proofs.Common.{◌≡◌, rules, ap, sym, ◌∙◌}
+use Rattle.byte_streams.specs.Watched.{watched_inner}
 use Rattle.upath_commands.specs.Answers.{end_of}
 use Rattle.upath_commands.specs.Records.{paths_of, records_of}
 use Rattle.upath_commands.specs.Tasks.{task_value}
-use Rattle.upath_commands.specs.Watched.{watched_inner}
-use Rattle.upath_commands.proofs.lemmas.OutputLemmas.{OnErr-of}
-use Rattle.upath_commands.proofs.lemmas.ReplyLemmas.{not_read_error, on_err, on_ok, IfSome-all}
-use Rattle.upath_commands.proofs.lemmas.ReplyLemmas.{IfSome-use}
-use Rattle.upath_commands.proofs.lemmas.RunLemmas.{nothing_done}
+use Rattle.upath_commands.proofs.lemmas.CallLemmas.{reading_nothing}
+use Rattle.upath_commands.proofs.lemmas.ReplyLemmas.{not_read_error, on_err, on_ok, IfSome-use}
 use Rattle.upath_commands.proofs.runs.gather_input.Goals as goal
 
-pub returns-in_err-input-clause-err : goal.returns-in_err-input-clause-err
-returns-in_err-input-clause-err g c =
-    OnErr-of c.from_residual.result (IfSome-all _ (λ input. nothing_done _ _ _))
+pub returns-in_err-input : goal.returns-in_err-input
+returns-in_err-input g c =
+    let k = c.in_err-input.ensures.reads in
+    reading_nothing g.W.Sink g.E.Sink g.R.Source _ c.from_residual.result _ _ _ _ (search rules)
+    (k.failed ∙ search rules) (c.requires.write ∙ search rules) k.reads
 
-pub returns-in_err-paths-clause-err : goal.returns-in_err-paths-clause-err
-returns-in_err-paths-clause-err g c =
-    OnErr-of c.from_residual-in_err-paths.result (IfSome-all _ (λ input. nothing_done _ _ _))
+pub returns-in_err-paths : goal.returns-in_err-paths
+returns-in_err-paths g c =
+    let k = c.in_ok-input.ensures.reads in
+    reading_nothing g.W.Sink g.E.Sink g.R.Source _ c.from_residual-in_err-paths.result _ _ _ _
+    (search rules) (k.failed ∙ search rules) (c.requires.write ∙ search rules) k.reads
 
-pub returns-clause-ok : goal.returns-clause-ok
-returns-clause-ok g c =
-    on_ok c.answer_gathered.result
-    (λ h. IfSome-use (g.R.Read.remaining (watched_inner c.args.reader.now))
-    c.in_ok-input.ensures.bytes (λ input b.
-    let end = end_of (task_value c.args.task.now).settings in
-    let e : paths_of c.in_ok-paths.paths.items ≡ records_of end input = c.in_ok-paths.ensures
-    ∙ ap (λ end. records_of end c.as_slice.result.now) c.end_of.ensures
-    ∙ ap (records_of end) (c.as_slice.ensures.value ∙ b) in
-    rw (sym e) h)) c.answer_gathered.ensures.ok
-
-pub returns-clause-read : goal.returns-clause-read
-returns-clause-read g c =
-    c.in_ok-input.ensures.read
-    ∙ sym (not_read_error c.answer_gathered.result c.answer_gathered.ensures.no_read)
-
-pub returns-clause-err : goal.returns-clause-err
-returns-clause-err g c =
-    on_err c.answer_gathered.result
-    (λ h. IfSome-use (g.R.Read.remaining (watched_inner c.args.reader.now))
-    c.in_ok-input.ensures.bytes (λ input b.
-    let end = end_of (task_value c.args.task.now).settings in
-    let e : paths_of c.in_ok-paths.paths.items ≡ records_of end input = c.in_ok-paths.ensures
-    ∙ ap (λ end. records_of end c.as_slice.result.now) c.end_of.ensures
-    ∙ ap (records_of end) (c.as_slice.ensures.value ∙ b) in
-    rw (sym e) h)) c.answer_gathered.ensures.err
+pub returns : goal.returns
+returns g c =
+    let last = c.answer_gathered.ensures in
+    let end = end_of (task_value c.args.task.now).settings in record {
+      ok = on_ok c.answer_gathered.result
+          (λ h. IfSome-use (g.R.Source.remaining (watched_inner c.args.reader.now))
+          c.in_ok-input.ensures.bytes (λ input b.
+          let e : paths_of c.in_ok-paths.paths.items ≡ records_of end input = c.in_ok-paths.ensures
+          ∙ ap (λ end. records_of end c.as_slice.result.now) c.end_of.ensures
+          ∙ ap (records_of end) (c.as_slice.ensures.value ∙ b) in
+          rw (sym e) h)) last.ok;
+      err = on_err c.answer_gathered.result
+          (λ h. IfSome-use (g.R.Source.remaining (watched_inner c.args.reader.now))
+          c.in_ok-input.ensures.bytes (λ input b.
+          let e : paths_of c.in_ok-paths.paths.items ≡ records_of end input = c.in_ok-paths.ensures
+          ∙ ap (λ end. records_of end c.as_slice.result.now) c.end_of.ensures
+          ∙ ap (records_of end) (c.as_slice.ensures.value ∙ b) in
+          rw (sym e) h)) last.err;
+      called = last.called;
+      reads = record {
+        failed = c.in_ok-input.ensures.reads.failed
+            ∙ sym (not_read_error c.answer_gathered.result last.no_read);
+        reads = c.in_ok-input.ensures.reads.reads;
+      };
+    }

@@ -1,0 +1,81 @@
+//! Messages, whose failures are ignored.
+//!
+//! After a failed write nothing more is written.
+ghost use Rattle.std.specs.Prelude.{◌≡◌, [], false, IfErr, OnErr, OnOk};
+ghost use Rattle.upath_commands.specs.Invocations.{usage_value};
+ghost use Rattle.upath_commands.specs.Outputs.{error_line, Told};
+ghost use Rattle.upath_commands.specs.Refusals.{message_for};
+ghost use Rattle.upath_commands.specs.Tasks.{task_value};
+ghost use Rattle.upath_commands.specs.Usage.{usage_line};
+
+use crate::output::RunError;
+use crate::task::{Task, push_message};
+use crate::usage::{UsageError, push_usage};
+use byte_streams::{Sink, Watched, write_all};
+use std::alloc::{AllocError, Global};
+use unix_path::Path;
+
+// Writes a message, unless a write has failed before.
+pub(crate) fn send<E: Sink>(sink: &mut Watched<E>, message: &[u8])
+    ensures { Told E.Sink sink.old sink.new message.now }
+{
+    if !sink.failed() {
+        let _ = write_all(sink, message);
+    }
+}
+
+// Writes the message for a path that is not answered. `line` is a buffer for it.
+pub(crate) fn report<E: Sink>(
+    sink: &mut Watched<E>,
+    line: &mut Vec<u8>,
+    task: &Task<'_>,
+    path: Path<'_>,
+) -> Result<(), RunError>
+    ensures told { let value = task_value task.now in OnOk result (Told E.Sink sink.old sink.new
+        (message_for value.command value.settings path.entry.bytes.now)) }
+    ensures err { OnErr result (Told E.Sink sink.old sink.new []) }
+    ensures only_memory { IfErr result (λ error. error ≡ RunError.Memory) }
+{
+    line.clear();
+    push_message(task, path, line)?;
+    send(sink, line.as_slice());
+    Ok(())
+}
+
+// Writes the message for wrong usage.
+pub(crate) fn report_usage<E: Sink>(
+    alloc: Global,
+    sink: &mut Watched<E>,
+    error: UsageError<'_>,
+) -> Result<(), AllocError>
+    ensures told { OnOk result (Told E.Sink sink.old sink.new
+        (usage_line (usage_value error.entry))) }
+    ensures err { OnErr result (Told E.Sink sink.old sink.new []) }
+{
+    let mut line = Vec::new(alloc);
+    push_usage(error, &mut line)?;
+    send(sink, line.as_slice());
+    Ok(())
+}
+
+// Writes the message for an error of the run, unless `is_quiet`.
+pub(crate) fn report_error<E: Sink>(sink: &mut Watched<E>, is_quiet: bool, error: RunError)
+    ensures { Told E.Sink sink.old sink.new (error_line is_quiet error) }
+{
+    if !is_quiet {
+        send(sink, line_of(error));
+    }
+}
+
+// Returns the line for an error, which needs no memory. It is empty if nobody reads the output any
+// more, and for an error that the caller reports.
+fn line_of(error: RunError) -> &'static [u8]
+    ensures { result.now ≡ error_line false error }
+{
+    match error {
+        RunError::Read => b"upath: read error\n",
+        RunError::Write => b"upath: write error\n",
+        RunError::Memory => b"upath: out of memory\n",
+        RunError::Closed | RunError::Arguments => b"",
+    }
+}
