@@ -8,6 +8,7 @@ pub mod SelectionLemmas
 pub mod FirstLemmas
 pub mod SortingLemmas
 pub mod UniqueLemmas
+pub mod UsageLemmas
 pub mod DashLemmas
 pub mod ReplyLemmas
 pub mod StepLemmas

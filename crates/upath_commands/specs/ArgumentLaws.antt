@@ -10,11 +10,14 @@ use Rattle.upath_commands.specs.declared.command.JoinRule.TheVariants.{Beneath}
 use Rattle.upath_commands.specs.declared.usage.UsageErrorKind.{UsageErrorKind}
 use Rattle.upath_commands.specs.declared.usage.UsageErrorKind.TheVariants.{UnknownCommand}
 use Rattle.upath_commands.specs.declared.usage.UsageErrorKind.TheVariants.{UnknownLetter}
+use Rattle.upath_commands.specs.declared.options.Flag.{Flag}
+use Rattle.upath_commands.specs.declared.options.Verb.{Verb}
 use Rattle.upath_commands.specs.Arguments.{first_word, meaning_of}
 use Rattle.upath_commands.specs.Invocations.{Canon, Each, Help, InvocationValue, Join, Meaning}
 use Rattle.upath_commands.specs.Invocations.{SettingsValue}
 use Rattle.upath_commands.specs.Items.{value_awaited}
-use Rattle.upath_commands.specs.Options.{option_by_letter, request_by_word, verb_by_name}
+use Rattle.upath_commands.specs.Options.{has_option, option_by_letter, request_by_word}
+use Rattle.upath_commands.specs.Options.{verb_by_name}
 
 -- the argument doesn't begin with a dash
 abbrev pub is_plain : List ℕ → Bool
@@ -111,6 +114,23 @@ UnknownOptionFirst = (letter : ℕ) (word : List ℕ) (before after : List (List
     → option_by_letter letter ≡ None → letter ≢ byte "-" → letter ≢ byte "h"
     → meaning_of (word ∷ before ++ short (letter ∷ []) ∷ after)
     ≡ Err (UnknownLetter, letter ∷ [])
+
+-- among words that don't begin with a dash and a letter that is an option of some command, the first
+-- word, if it is no command, is the wrong usage that is reported
+abbrev pub UnknownCommandSecond : Type 0
+UnknownCommandSecond = (letter : ℕ) (flag : Flag) (word : List ℕ) (before after : List (List ℕ))
+    → IsTrue (list_all is_plain (word ∷ before)) → IsTrue (list_all is_plain after)
+    → word ≢ codes "help" → verb_by_name word ≡ None → option_by_letter letter ≡ Some flag
+    → meaning_of (word ∷ before ++ short (letter ∷ []) ∷ after) ≡ Err (UnknownCommand, word)
+
+-- if the first word is a command, it is the letter, if that is no option of this command
+abbrev pub ForeignOptionThird : Type 0
+ForeignOptionThird = (letter : ℕ) (flag : Flag) (name : List ℕ) (verb : Verb)
+    (before after : List (List ℕ))
+    → IsTrue (list_all is_plain before) → IsTrue (list_all is_plain after)
+    → verb_by_name name ≡ Some verb → option_by_letter letter ≡ Some flag
+    → has_option verb flag ≡ false
+    → meaning_of (name ∷ before ++ short (letter ∷ []) ∷ after) ≡ Err (UnknownLetter, letter ∷ [])
 
 -- a value means the same as the next argument and after a `=`
 abbrev pub ValueAfterEqualsSign : Type 0

@@ -2,7 +2,8 @@
 ghost use Rattle.upath_commands.specs.ArgumentLaws.{HelpAfterCommand, HelpAlone, HelpFirst};
 ghost use Rattle.upath_commands.specs.ArgumentLaws.{HelpUnknown, LettersJoin, LettersJoinInKind};
 ghost use Rattle.upath_commands.specs.ArgumentLaws.{OptionsFollowOperands, PathsAfterDashes};
-ghost use Rattle.upath_commands.specs.ArgumentLaws.{PathsAfterRoot, UnknownOptionFirst};
+ghost use Rattle.upath_commands.specs.ArgumentLaws.{ForeignOptionThird, PathsAfterRoot};
+ghost use Rattle.upath_commands.specs.ArgumentLaws.{UnknownCommandSecond, UnknownOptionFirst};
 ghost use Rattle.upath_commands.specs.ArgumentLaws.{ValueAfterEqualsSign};
 
 /// After `-z` and `--`, each argument is a path, whatever its bytes are, and nothing is read.
@@ -63,6 +64,22 @@ pub fn letters_join()
 /// `upath cannon -x` reports `-x`, and `upath join --beneath --verbatim -x` too.
 pub fn unknown_option_first()
     ensures { UnknownOptionFirst }
+{}
+
+/// If each option is one that some command has, a word that is no command is reported, before an
+/// option that it can't have and before operands.
+///
+/// `upath cannon -v` reports `cannon`.
+pub fn unknown_command_second()
+    ensures { UnknownCommandSecond }
+{}
+
+/// After a command, a short option that only other commands have is reported before operands that
+/// are missing, surplus or have a newline.
+///
+/// `upath strip -u` reports `-u`, and not that BASE is missing.
+pub fn foreign_option_third()
+    ensures { ForeignOptionThird }
 {}
 
 /// The value of `--from` means the same as an argument of its own and after a `=`.

@@ -9,7 +9,8 @@
 //! Five modules have laws, each of which a proof can use if it calls a function:
 //! - [`argument_laws`], of the meaning of arguments: `paths_after_dashes`, `paths_after_root`,
 //!   `help_first`, `help_after_command`, `options_follow_operands`, `letters_join`,
-//!   `value_after_equals_sign`, and of which wrong usage is reported: `unknown_option_first`;
+//!   `value_after_equals_sign`, and of which wrong usage is reported: `unknown_option_first`,
+//!   `unknown_command_second` and `foreign_option_third`;
 //! - [`answer_laws`], of what is printed: `escapes_tested`, `answers_are_never_empty`,
 //!   `output_reads_back` and `quiet_prints_nothing`;
 //! - [`sort_laws`], of what `sort` and `uniq` print: `sort_orders`, `uniq_keeps_firsts` and
