@@ -349,8 +349,8 @@ REQUESTS = [("--help", "/srv/--help"), ("-h", "/srv/-h"), ("--version", "/srv/--
             ("a b", "/srv/a b"), ("*", "/srv/*"), ("$(id)", "/srv/$(id)"), ("\\n", "/srv/\\n"),
             ("..", "1"), ("/etc", "1"), ("a/../../b", "1"), ("a\nb", "2"), ("\n", "2")]
 # The examples of `upath --help`, and what each prints in the directory that test_tasks makes.
-TASK_RESULTS = ["../evil\n", ".\0./bin\0./lib\0./lib/tool\0./x.tar\0", "./a\0-z\0", "/srv/-q\n",
-                "yes\n", "../lib/tool\n"]
+TASK_RESULTS = ["../evil\n", ".\0./bin\0./lib\0./lib/tool\0./list\0./x.tar\0", "./a\0-z\0",
+                "/srv/-q\n", "yes\n", "../lib/tool\n"]
 
 
 class Shells(Case):
@@ -478,6 +478,9 @@ class Shells(Case):
         with tarfile.open(f"{self.here}/x.tar", "w") as archive:
             for name in "a/b", "../evil":
                 archive.addfile(tarfile.TarInfo(name))
+        with open(f"{self.here}/list", "wb") as file:
+            file.write(self.run_in(["tar", "-tvP", "--numeric-owner", "--quoting-style=c", "-f",
+                                    "x.tar"], LC_ALL="C")[1])
         self.assertEqual(len(TASKS), len(TASK_RESULTS))
         for (what, line), wanted in zip(TASKS, TASK_RESULTS):
             with self.row(what):

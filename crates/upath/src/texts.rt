@@ -53,9 +53,9 @@ Exit status:\n\
 \x20 3  a read, a write or an allocation failed\n\
 \n\
 Examples:\n\
-\x20 the entries of an archive that would escape:\n\
-\x20   tar -tf x.tar | upath escapes\n\
-\x20 file names in order, each path once:\n\
+\x20 whether GNU tar may extract what it listed (see `upath archive --help`):\n\
+\x20   upath archive --tar-list < list\n\
+\x20 paths in order, each once (./a and a are two):\n\
 \x20   find . -print0 | upath sort -zu\n\
 \x20 the canonical form of each argument:\n\
 \x20   upath canon -z -- \"$@\"\n\

@@ -1,6 +1,6 @@
 //! The command `archive`, which decides whether the entries of an archive are accepted.
-ghost use Rattle.std.specs.Prelude.{◌≡◌, ◌++◌, ◌↔◌, ◌⊎◌, [], IfErr, IfOk, OnOk, Some};
-ghost use Rattle.std.specs.Prelude.{false, if◌then◌else◌, map, true};
+ghost use Rattle.std.specs.Prelude.{◌≡◌, ◌++◌, ◌↔◌, ◌⊎◌, [], Some, IfErr, IfOk, OnOk, false};
+ghost use Rattle.std.specs.Prelude.{if◌then◌else◌, map, true};
 ghost use Rattle.byte_streams.specs.Watched.{has_failed, watched_inner};
 ghost use Rattle.path_archive.specs.EntryViews.{entry_value};
 ghost use Rattle.upath_commands.specs.Archives.{IsSafe, IsSafeIn, IsText, OnArchive, OnInput};

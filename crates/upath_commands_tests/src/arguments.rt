@@ -97,6 +97,16 @@ fn push_invocation(out: &mut Vec<u8>, invocation: Invocation<'_>) -> Result<(), 
             push(out, "=", b)?;
             push_settings(out, settings)?;
         }
+        Invocation::Archive(options, settings) => {
+            out.extend_from_slice(b"archive")?;
+            if options.closed {
+                out.extend_from_slice(b" closed")?;
+            }
+            if options.tar_list {
+                out.extend_from_slice(b" tar-list")?;
+            }
+            push_settings(out, settings)?;
+        }
         Invocation::Each(command, settings, None) => {
             push_command(out, command)?;
             push_settings(out, settings)?;

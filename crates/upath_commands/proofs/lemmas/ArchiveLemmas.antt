@@ -22,16 +22,6 @@ module _ (P Q : List ℕ → List ℕ → Type 0)
   OnArchive-then options settings input (inr (entries, is, (refusals, decides, h))) =
       inr (entries, is, (refusals, decides, f _ _ h))
 
--- what holds of the decision's texts, which are what `archive` prints
-pub OnArchive-of : (P : List ℕ → List ℕ → Type 0) (decision : Decision)
-    (options : ArchiveOptions) (settings : SettingsValue) (input : List ℕ)
-    → P decision.output.items decision.messages.items
-    → OnArchive options settings input (IsText decision) → OnArchive options settings input P
-OnArchive-of P decision options settings input h =
-    OnArchive-then (IsText decision) P
-    (λ output messages is. subst (λ output. P output messages) is.0
-    (subst (λ messages. P decision.output.items messages) is.1 h)) options settings input
-
   -- what follows of what an invocation prints
   pub OnPrinted-then : (texts : Texts) (invocation : InvocationValue) (input : List ℕ)
       → OnPrinted texts invocation input P → OnPrinted texts invocation input Q
@@ -51,6 +41,16 @@ OnArchive-of P decision options settings input h =
   OnPrinted-begun texts (Archive options settings) input h =
       inr (OnArchive-then options settings input h)
   OnPrinted-begun texts (Each command settings paths) input h = f _ _ h
+
+-- what holds of the decision's texts, which are what `archive` prints
+pub OnArchive-of : (P : List ℕ → List ℕ → Type 0) (decision : Decision)
+    (options : ArchiveOptions) (settings : SettingsValue) (input : List ℕ)
+    → P decision.output.items decision.messages.items
+    → OnArchive options settings input (IsText decision) → OnArchive options settings input P
+OnArchive-of P decision options settings input h =
+    OnArchive-then (IsText decision) P
+    (λ output messages is. subst (λ output. P output messages) is.0
+    (subst (λ messages. P decision.output.items messages) is.1 h)) options settings input
 
 -- the line for an error was written, after what was printed before it
 pub OnBegun-failed : (old mid new : State) (line : List ℕ) (texts : Texts)

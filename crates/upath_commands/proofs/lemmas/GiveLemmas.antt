@@ -10,7 +10,8 @@ use Rattle.byte_streams.proofs.lemmas.CallLemmas.{Many-none}
 use Rattle.upath_commands.specs.Archives.{IsSafe, IsText, OnArchive}
 use Rattle.upath_commands.specs.Invocations.{SettingsValue}
 use Rattle.upath_commands.specs.Outputs.{Emitted, is_write_error, Told, unwritten}
-use Rattle.upath_commands.specs.Replies.{answers_failed, answers_to, Broken, Called, Gave, GaveThis}
+use Rattle.upath_commands.specs.Replies.{Added, answers_failed, answers_to, Broken, Called, Gave}
+use Rattle.upath_commands.specs.Replies.{GaveThis}
 use Rattle.upath_commands.specs.Replies.{is_deaf, IsNew, messages_to, OfPrinted, Replied, RepliedTo}
 use Rattle.upath_commands.specs.Replies.{state_of}
 use Rattle.upath_commands.specs.Runs.{GaveFor, yes_of}
@@ -19,6 +20,7 @@ use Rattle.upath_commands.specs.declared.archive.Decision.{Decision}
 use Rattle.upath_commands.specs.declared.command.ArchiveOptions.{ArchiveOptions}
 use Rattle.upath_commands.specs.declared.output.RunError.{RunError}
 use Rattle.upath_commands.specs.declared.replies.Replies.{Replies}
+use Rattle.upath_commands.proofs.lemmas.ArchiveLemmas.{OnArchive-of}
 use Rattle.upath_commands.proofs.lemmas.CallLemmas.{called_stopped, called_went, Speaks-none}
 use Rattle.upath_commands.proofs.lemmas.CallLemmas.{Told-none, went_none}
 use Rattle.upath_commands.proofs.lemmas.OutputLemmas.{Emits-added, EmitsPrefix-none, Tells-none}
@@ -190,8 +192,8 @@ module _ {W E : Type 0} (w : Sink W) (e : Sink E) where
       (λ input P. P [] [] ⊎ OnArchive options settings input P)
       (λ input is. (is ≡ true) ↔ IsSafe options input)
   gave_archive (Ok is) old new known options settings decision texts safe h = record {
-    ok = IfSome-then known (λ input (found, is_found, (o, m)).
-        (found, is_found, rw (sym o) (rw (sym m) h.ok))) texts;
+    ok = IfSome-then known (λ input t. OnArchive-of (Added (state_of w e old) (state_of w e new))
+        decision options settings input h.ok t) texts;
     answer = IfSome-then known (λ input s. rw h.answer s) safe;
     err = tt;
     called = h.called;
@@ -199,7 +201,8 @@ module _ {W E : Type 0} (w : Sink W) (e : Sink E) where
   gave_archive (Err error) old new known options settings decision texts safe h = record {
     ok = tt;
     answer = tt;
-    err = IfSome-then known (λ input (found, is_found, (o, m)).
-        inr (found, is_found, rw (sym o) (rw (sym m) h.err))) texts;
+    err = IfSome-then known (λ input t. inr (OnArchive-of
+        (Broken (state_of w e old) (state_of w e new)) decision options settings input h.err t))
+        texts;
     called = h.called;
   }

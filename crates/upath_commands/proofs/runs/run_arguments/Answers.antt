@@ -1,4 +1,4 @@
-use Rattle.std.proofs.Common.{inl, refl}
+use Rattle.std.proofs.Common.{inl, refl, sym}
 use Rattle.byte_streams.proofs.lemmas.CallLemmas.{Many-none}
 use Rattle.byte_streams.proofs.lemmas.WriteLemmas.{OnErr-of}
 use Rattle.upath_commands.specs.Arguments.{meaning_of}
@@ -31,3 +31,7 @@ pub returns-in-Ok-Err-clause-gave_up : goal.returns-in-Ok-Err-clause-gave_up
 returns-in-Ok-Err-clause-gave_up g c =
     OnErr-of c.refuse.result
     (rw c.refuse.ensures.unwritten (inl (_, Many-none _, inl refl)))
+
+pub returns-in-Ok-Ok-clause-err : goal.returns-in-Ok-Ok-clause-err
+returns-in-Ok-Ok-clause-err g c =
+    rw (sym (rw c.in-Ok-Ok.field-0-is at c.in-Ok-Ok.ensures)) c.run_invocation.ensures.reported.err
