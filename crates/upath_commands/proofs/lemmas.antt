@@ -9,6 +9,7 @@ pub mod FirstLemmas
 pub mod SortingLemmas
 pub mod UniqueLemmas
 pub mod UsageLemmas
+pub mod FormLemmas
 pub mod DashLemmas
 pub mod ReplyLemmas
 pub mod StepLemmas
