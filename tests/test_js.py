@@ -28,7 +28,7 @@ PACKAGE = "bindings/js"
 # The files of the package.
 FILES = {"package.json", "README.md", "LICENSE-APACHE", "LICENSE-MIT", "NOTICES.txt",
          "unix_path.mjs", "unix_path.d.ts", "unix_path.wasm"}
-# A test in the output of Node, what it lacks if it was left out, and what is said of it.
+# A test in the output of Node, what it lacks if it was left out, and its message.
 RESULT = re.compile(r"^(not )?ok \d+ - (.*?)(?: # SKIP (.*))?\n((?:  .*\n)*)", re.M)
 MEMORY64 = "--experimental-wasm-memory64"
 

@@ -404,7 +404,7 @@ RESULTS = {
 
 
 def answered(call, path):
-    """Returns the results for a path, and what is said of it if it has none."""
+    """Returns the results for a path, and the message if it has none."""
     try:
         return RESULTS[call.name](call, path), None
     except Refused as reason:

@@ -366,7 +366,7 @@ same_text (b ∷ s) (c ∷ t) x y p q e =
     let l = same_text s t x y bs.1 cs.1 others in
     (ap₂ (λ b bs. b ∷ bs) one l.0, l.1)
 
--- what is said of the value in a `Some`
+-- what holds of the value in a `Some`
 pub at_some : {A : Type 0} (P : A → Type 0) (o : Option A) (x : A) → o ≡ Some x → IfSome o P → P x
 at_some P o x e h = subst (λ o. IfSome o P) e h
 

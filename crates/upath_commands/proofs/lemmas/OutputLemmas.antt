@@ -71,7 +71,7 @@ Emits-finish_fail a b c first second xs (v, p, e) q =
 pub Tells-none : (a : Option (List ℕ)) (failed : Bool) → Tells failed failed a a []
 Tells-none a failed = λ e. (e, Appends-nil a)
 
--- xs was reported, and then ys
+-- reporting xs and then ys reports `xs ++ ys`
 pub Tells-then : (a b c : Option (List ℕ)) (first second third : Bool) (xs ys : List ℕ)
     → Tells first second a b xs → Tells second third b c ys → Tells first third a c (xs ++ ys)
 Tells-then a b c first second third xs ys p q =

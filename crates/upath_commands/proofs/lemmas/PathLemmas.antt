@@ -74,7 +74,7 @@ module _ (task : TaskValue) (first selection : Selection) (all : List (List ℕ)
       (sym (append-nil h.done) ∙ ap (λ l. h.done ++ l) (sym (selected-nil selection))
       ∙ h.rest [] ∙ ap (selected first) (append-nil all)) h.answered
 
-  -- what is selected of paths that come later
+  -- the selection from later paths
   pub Passed-rest : Passed task first selection all [] old new → (more : List (List ℕ))
       → selected first (all ++ more) ≡ selected first all ++ selected selection more
   Passed-rest h more =
