@@ -287,10 +287,11 @@ class Examples(Case):
     def test_unpacked(self):
         """An archive is unpacked, unless an entry could be written outside, it is cut off, or the
         directory exists."""
-        good = [("d", "a"), ("f", "a/b"), ("l", "c", "/etc"), ("h", "d", "a/b")]
+        good = [("d", "a"), ("f", "a/b"), ("l", "c", "a/b"), ("h", "d", "a/b")]
         for entries, printed in ((good, b""), ([*good, ("f", "../evil")], b"../evil\n"),
                                  ([*good, ("f", "/evil")], b"/evil\n"),
                                  ([*good, ("f", "c/new")], b"c/new\n"),
+                                 ([*good, ("l", "e", "/etc")], b"e\n"),
                                  ([*good, ("h", "e", "../../evil")], b"e\n"),
                                  ([*good, ("f", "c")], b"c\n")):
             with self.row(entries):

@@ -1,5 +1,6 @@
 #!/bin/sh
-# Unpacks the archive x.tar into the new directory `new`, unless it can't be listed or a program that
-# extracts its entries could write outside. The entries through which it could are printed.
+# Unpacks the archive x.tar into the new directory `new`, unless it can't be listed, a program that
+# extracts its entries could write outside, or a link leads out. The entries at fault are printed.
 LC_ALL=C tar -tvP --numeric-owner --quoting-style=c -f x.tar > list &&
-    upath archive --tar-list < list && mkdir new && tar -xf x.tar -C new
+    upath archive --closed --tar-list < list && mkdir new &&
+    tar -xf x.tar --no-same-owner --no-same-permissions -C new

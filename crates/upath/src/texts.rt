@@ -269,13 +269,15 @@ Without --tar-list, reads three fields for each entry, with a NUL after each\n\
 field: the kind (d for a directory, f for a file, l for a symbolic link, h for a\n\
 hard link; others are refused), the path, and the target of a link or nothing.\n\
 \n\
-Exit status 0: nothing outside a new, empty directory is created, changed or\n\
-removed by programs that extract these entries, in any order, and do not follow\n\
-a symbolic link that they have just made. With --closed, nor by programs that\n\
-do, such as unzip and 7z, and afterwards no path leads out of the directory.\n\
+Exit status 0: GNU tar may extract these entries into a new, empty directory;\n\
+nothing outside is created, changed or removed. With --closed so may programs\n\
+that follow a symbolic link which they have just made, such as unzip and 7z, and\n\
+afterwards no path leads out of the directory. 1: an entry was refused, there is\n\
+none, or the input is malformed: do not extract.\n\
 \n\
-Take the list from the program that extracts, with its options that change\n\
-names.\n\
+List with the program that extracts, to a file and not to a pipe. If it gets\n\
+options that change names, such as --strip-components, list with these and, for\n\
+GNU tar, with --show-transformed-names.\n\
 \n\
 Example:\n\
 \x20 $ printf 'l\\0x\\0/etc\\0f\\0x/new\\0\\0' | upath archive\n\
