@@ -102,9 +102,10 @@ pub Done-forms : (old new : State) (texts : Texts) (meaning : Meaning) (input : 
     ↔ (Appends old.written new.written (old.pending ++ output_for texts meaning input)
     × Tells old.is_deaf new.is_deaf old.told new.told (messages_for meaning input))
 Done-forms old new texts meaning input other =
-    let forms = OnReplies-forms (Done old new) texts meaning input other in
-    (λ h. let d = forms.0 h in (d.wrote, d.said),
-    λ (wrote, said). forms.1 record { wrote = wrote; said = said })
+    let forms = OnReplies-forms (Done old new) texts meaning input other in (
+      λ h. let d = forms.0 h in (d.wrote, d.said),
+      λ (wrote, said). forms.1 record { wrote = wrote; said = said },
+    )
 
 pub Failed-forms : (old new : State) (line : List ℕ) (texts : Texts) (meaning : Meaning)
     (input : List ℕ) → is_other meaning ≡ true
@@ -114,6 +115,7 @@ pub Failed-forms : (old new : State) (line : List ℕ) (texts : Texts) (meaning 
     (take n (messages_for meaning input) ++ line)))
 Failed-forms old new line texts meaning input other =
     let forms = OnBegunReplies-forms (λ output messages. Failed old new output messages line) texts
-        meaning input other in
-    (λ h. let d = forms.0 h in (d.wrote, d.said),
-    λ (wrote, said). forms.1 record { wrote = wrote; said = said })
+    meaning input other in (
+      λ h. let d = forms.0 h in (d.wrote, d.said),
+      λ (wrote, said). forms.1 record { wrote = wrote; said = said },
+    )

@@ -13,7 +13,7 @@ pub returns : goal.returns
 returns c = λ letter flag name verb before after plain plain_after known option foreign.
     let is_known : is_some (verb_by_name name) ≡ true = rw known refl in
     let all : list_all is_plain (name ∷ before) ≡ true
-        = rw (verb-plain name is_known, plain) refl in
+    = rw (verb-plain name is_known, plain) refl in
     meaning_around flag letter name before after all plain_after (verb-not_help name is_known)
     option
     ∙ rw (
