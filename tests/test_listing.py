@@ -339,6 +339,19 @@ class Examples(Case):
                 found = self.ran(f"{ROOT}/examples/sh/check_tree.sh")
                 self.assertEqual(found, (printed, not printed))
 
+    def test_zip(self):
+        """An archive is unpacked by Python, unless an entry could be written outside."""
+        good = [("d", "a/", ""), ("f", "a/b", "")]
+        for entries, printed in ((good, b""), ([*good, ("f", "../evil", "")], b"../evil\n"),
+                                 ([*good, ("l", "c", "/etc")], b"c\n")):
+            with self.row(entries):
+                self.begin()
+                os.symlink(f"{ROOT}/examples", f"{self.here}/examples")
+                write_zip(f"{self.here}/x.zip", entries)
+                self.assertEqual(self.ran(f"{ROOT}/examples/sh/unpack_zip.sh"),
+                                 (printed, not printed))
+                self.assertEqual(self.made("new"), None if printed else ["a"])
+
     def test_records(self):
         """The records of Python's tarfile and zipfile."""
         lists = [([("d", "a", ""), ("f", "a/b", ""), ("l", "c", "a/b")], b""),

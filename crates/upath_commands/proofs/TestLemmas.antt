@@ -24,7 +24,8 @@ rest_after-is (Err error) base p h e =
     (sym (h.1 ((starts_with-Decides (values p) (values base)).0 t)))))
     (λ t. rw t refl)
 
--- if r is `Ok` if and only if p starts with base, and holds the rest, `found` is `rest_after base p`
+-- if r is `Ok` if and only if p starts with base, and holds the rest, then `found` is
+-- `rest_after base p`
 pub rest_after_found : {E : Type 0} (found : Option Path) (r : Result Path E) (base p : List ℕ)
     → found ≡ result_ok r → (IsOk r ↔ IsPrefixOf (values base) (values p))
     → IfOk r (λ rest. rest.bytes.now ≡ stripped_of p base)

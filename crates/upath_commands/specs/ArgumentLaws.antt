@@ -115,8 +115,8 @@ UnknownOptionFirst = (letter : ℕ) (word : List ℕ) (before after : List (List
     → meaning_of (word ∷ before ++ short (letter ∷ []) ∷ after)
     ≡ Err (UnknownLetter, letter ∷ [])
 
--- among words that don't begin with a dash and a letter that is an option of some command, the first
--- word, if it is no command, is the wrong usage that is reported
+-- among words that don't begin with a dash and a letter that is an option of some command, the
+-- first word, if it is no command, is the wrong usage that is reported
 abbrev pub UnknownCommandSecond : Type 0
 UnknownCommandSecond = (letter : ℕ) (flag : Flag) (word : List ℕ) (before after : List (List ℕ))
     → IsTrue (list_all is_plain (word ∷ before)) → IsTrue (list_all is_plain after)

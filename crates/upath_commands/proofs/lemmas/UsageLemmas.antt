@@ -8,7 +8,7 @@ use Rattle.std.proofs.lemmas.Bool.{false≢true}
 use Rattle.unix_bytes.proofs.lemmas.lists.ListLemmas.{by_test}
 use Rattle.upath_commands.specs.declared.items.ItemKind.TheVariants as kind
 use Rattle.upath_commands.specs.declared.options.Flag.{Flag}
-use Rattle.upath_commands.specs.Arguments.{asked_in, command_meaning, fault_of, first_of, first_word}
+use Rattle.upath_commands.specs.Arguments.{asked_in, command_meaning, fault_of, first_of}
 use Rattle.upath_commands.specs.Arguments.{meaning_of, meaning_of_items, operands_of}
 use Rattle.upath_commands.specs.ArgumentLaws.{is_plain, short}
 use Rattle.upath_commands.specs.Items.{ItemValue, items_after, letter_item, operand}
