@@ -74,7 +74,7 @@ def rows():
         Row("canon, short lines; half", canon, "short lines", canon, "half of them", 2.6, False),
     ] + [Row(f"cat | {it}; < FILE", f"{upath} {it}", "lines", f"{upath} {it}", "lines", 1.3, True)
          for it in ("canon", "resolve", "escapes -v", "under usr", "uniq", "sort", "name",
-                    "relative --from=/a", "join a", "key")]
+                    "relative --from=/a 2> /dev/null", "join a", "key")]
 
 
 def run(line, file, cat=False):

@@ -28,7 +28,8 @@ NAME, KIND, BELOW_LEAF, LINK_USED_TWICE, TARGET_IS_LINK, LEADS_OUT = range(6)
 # The packages that are decided: at most so many, none with more bytes.
 PACKAGES, PACKAGE_SIZE = 150, 300_000
 SANDBOX = ["bwrap", "--ro-bind", "/", "/", "--dev", "/dev", "--proc", "/proc", "--tmpfs", "/tmp",
-           "--unshare-all", "--die-with-parent", sys.executable, f"{ROOT}/tests/extract.py"]
+           "--ro-bind", f"{ROOT}/tests", f"{ROOT}/tests", "--unshare-all", "--die-with-parent",
+           sys.executable, f"{ROOT}/tests/extract.py"]
 
 # Lists through which programs have written outside, and why the last entry is refused. Each name
 # stays inside by itself.

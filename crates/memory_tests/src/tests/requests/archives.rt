@@ -1,6 +1,6 @@
 //! Allocations of the decision on an archive's entries.
 use super::report;
-use path_archive::{Level, refusals};
+use path_archive::{Level, entries, refusals};
 use std::alloc::AllocError;
 use std::test::Fail;
 use tar_listing::records_of;
@@ -17,6 +17,23 @@ fn entries_refused(rt: HostRuntime) -> Result<(), Fail> {
 #[test]
 fn entries_cut_off(rt: HostRuntime) -> Result<(), Fail> {
     match refusals(rt.alloc(), b"f\0a\0", Level::Inside) {
+        Ok(list) => report(true, list.is_none()),
+        Err(AllocError) => report(false, true),
+    }
+}
+
+#[test]
+fn entries_listed(rt: HostRuntime) -> Result<(), Fail> {
+    match entries(rt.alloc(), b"l\0x\0/etc\0") {
+        Ok(Some(list)) => report(true, list.len() == 1),
+        Ok(None) => report(true, false),
+        Err(AllocError) => report(false, true),
+    }
+}
+
+#[test]
+fn no_entries_listed(rt: HostRuntime) -> Result<(), Fail> {
+    match entries(rt.alloc(), b"f\0a\0") {
         Ok(list) => report(true, list.is_none()),
         Err(AllocError) => report(false, true),
     }
