@@ -1,7 +1,7 @@
 # GNU make builds, installs and tests by these targets; `make help` lists them.
 #
 # The SHA-256 of asm/PROVED.txt, which tools/generate writes here.
-PROVED = eccb2bbef1ba86385eda050441b3e00fa0e49aa605d4d26f5e6a58ee4febbdde
+PROVED = a77b5d5b13fc300df75bb98993a17e6d56af643466ac1e3d07d0282f1d78fcdd
 PREFIX ?= /usr/local
 LIBDIR ?= $(PREFIX)/lib
 INCLUDEDIR ?= $(PREFIX)/include

@@ -559,11 +559,11 @@ std_alloc.vec.Vec.grow_amortized.307f257cf2d167af.:
 	.byte	37
 	.byte	38
 	.byte	39
-	.section	.text.pathtool.run.write_answers.e41896a5e13d9663.,"ax",@progbits
+	.section	.text.pathtool.run.write_answers.7729a8c5e160c09a.,"ax",@progbits
 	.p2align	2
-	.type	pathtool.run.write_answers.e41896a5e13d9663.,@function
-// pathtool::run::write_answers::<#e41896a5e13d9663>
-pathtool.run.write_answers.e41896a5e13d9663.:
+	.type	pathtool.run.write_answers.7729a8c5e160c09a.,@function
+// pathtool::run::write_answers::<#7729a8c5e160c09a>
+pathtool.run.write_answers.7729a8c5e160c09a.:
 	stp	d15, d14, [sp, #-160]!
 	stp	d13, d12, [sp, #16]
 	stp	d11, d10, [sp, #32]
@@ -6155,7 +6155,7 @@ pathtool.run.write_answers.e41896a5e13d9663.:
 	ldr	x0, [sp, #144]
 	b	.Lunix_path_BB2_1128
 .Lunix_path_func_end2:
-	.size	pathtool.run.write_answers.e41896a5e13d9663., .Lunix_path_func_end2-pathtool.run.write_answers.e41896a5e13d9663.
+	.size	pathtool.run.write_answers.7729a8c5e160c09a., .Lunix_path_func_end2-pathtool.run.write_answers.7729a8c5e160c09a.
 	.section	.rodata.cst16,"aM",@progbits,16
 	.p2align	4, 0x0
 .Lunix_path_CPI3_0:
@@ -22815,7 +22815,7 @@ program_main:
 	add	x2, sp, #8
 	mov	x1, x19
 	mov	x0, x21
-	bl	pathtool.run.write_answers.e41896a5e13d9663.
+	bl	pathtool.run.write_answers.7729a8c5e160c09a.
 	tst	w0, #0xff
 	b.eq	.Lunix_path_BB60_37
 	mov	w20, w1

@@ -420,11 +420,11 @@ std_alloc.vec.Vec.grow_amortized.307f257cf2d167af.:
 	.byte	29
 	.byte	30
 	.byte	31
-	.section	.text.pathtool.run.write_answers.e41896a5e13d9663.,"ax",@progbits
+	.section	.text.pathtool.run.write_answers.7729a8c5e160c09a.,"ax",@progbits
 	.p2align	4
-	.type	pathtool.run.write_answers.e41896a5e13d9663.,@function
-# pathtool::run::write_answers::<#e41896a5e13d9663>
-pathtool.run.write_answers.e41896a5e13d9663.:
+	.type	pathtool.run.write_answers.7729a8c5e160c09a.,@function
+# pathtool::run::write_answers::<#7729a8c5e160c09a>
+pathtool.run.write_answers.7729a8c5e160c09a.:
 	pushq	%rbp
 	pushq	%r15
 	pushq	%r14
@@ -5634,8 +5634,8 @@ pathtool.run.write_answers.e41896a5e13d9663.:
 	movb	$2, %dl
 	jmp	.Lunix_path_BB2_1102
 .Lunix_path_func_end2:
-	.size	pathtool.run.write_answers.e41896a5e13d9663., .Lunix_path_func_end2-pathtool.run.write_answers.e41896a5e13d9663.
-	.section	.rodata.pathtool.run.write_answers.e41896a5e13d9663.,"a",@progbits
+	.size	pathtool.run.write_answers.7729a8c5e160c09a., .Lunix_path_func_end2-pathtool.run.write_answers.7729a8c5e160c09a.
+	.section	.rodata.pathtool.run.write_answers.7729a8c5e160c09a.,"a",@progbits
 	.p2align	2, 0x0
 .Lunix_path_JTI2_0:
 	.long	.Lunix_path_BB2_922-.Lunix_path_JTI2_0
@@ -29404,7 +29404,7 @@ program_main:
 	leaq	40(%rsp), %rdx
 	movq	%r12, %rdi
 	movq	%r14, %rsi
-	callq	pathtool.run.write_answers.e41896a5e13d9663.
+	callq	pathtool.run.write_answers.7729a8c5e160c09a.
 	testb	%al, %al
 	je	.Lunix_path_BB62_43
 	movl	%edx, %r14d
