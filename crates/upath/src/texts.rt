@@ -12,7 +12,7 @@ symbolic link is followed.\n\
 \n\
 Commands:\n\
 \x20 canon                the shortest path with the same components\n\
-\x20 resolve              the canonical form, with each `..` resolved lexically\n\
+\x20 resolve              the path with each `..` resolved and without `.`\n\
 \x20 parent               the path without its last component\n\
 \x20 ancestors            the path, its parent, the parent of that, and so on\n\
 \x20 name                 the file name: the last component, if it is a name\n\
@@ -32,7 +32,8 @@ Commands:\n\
 \x20 equal A B            nothing: the exit status says whether A and B are equal\n\
 \n\
 Options:\n\
-\x20 -z, --null     end the records of input and output with NUL, not newline\n\
+\x20 -z, --null     end the records of input and output with NUL, not newline. A\n\
+\x20                path with a newline needs it\n\
 \x20 -p, --pair     print the path, a tab (with -z a NUL) and then the result\n\
 \x20 -q, --quiet    print nothing, except for wrong usage\n\
 \x20     --or=TEXT  print TEXT for a path without a result\n\
@@ -93,7 +94,7 @@ Example:\n\
 const RESOLVE: &[u8] = b"\
 Usage: upath resolve [OPTION]... [--] [PATH]...\n\
 \n\
-Prints the canonical form, with each `..` resolved lexically.\n\
+Prints the path with each `..` resolved and without `.`.\n\
 \n\
 Example:\n\
 \x20 $ upath resolve /srv/../etc a/../../b a/..\n\
