@@ -1,12 +1,17 @@
 -- Paths that go above where they start, lexically, and paths with a root or a `..`. (Go's
 -- `filepath.IsLocal` is the opposite of `Escapes`, except that it is false for the empty path,
 -- which does not escape.)
-use Rattle.std.specs.Prelude.{◌⊎◌, ◌<◌, ℕ, Bool, true, false, List, [], ◌∷◌, count_by, is_some}
-use Rattle.std.specs.Prelude.{take}
+use Rattle.std.specs.Prelude.{◌⊎◌, ◌<◌, ◌||◌, ℕ, Bool, true, false, List, [], ◌∷◌, count_by}
+use Rattle.std.specs.Prelude.{is_some, take}
 use Rattle.std.specs.List.{list_any}
 use Rattle.unix_path.specs.Names.{name_of}
 use Rattle.unix_path.specs.Parts.{Value, RootDir, ParentDir}
 use Rattle.unix_path.specs.Prefixes.{IsPrefixOf}
+
+-- the component is the root
+abbrev pub is_root : Value → Bool
+is_root RootDir = true
+is_root _ = false
 
 -- the component is a name
 abbrev pub is_name : Value → Bool
@@ -25,12 +30,6 @@ GoesAbove vs = (n : ℕ) × (count_by is_name (take n vs) < count_by is_parent_d
 abbrev pub Escapes : List Value → Type 0
 Escapes vs = IsPrefixOf (RootDir ∷ []) vs ⊎ GoesAbove vs
 
--- the component is the root or `..`
-abbrev pub is_root_or_parent_dir : Value → Bool
-is_root_or_parent_dir RootDir = true
-is_root_or_parent_dir ParentDir = true
-is_root_or_parent_dir _ = false
-
 -- the root or a `..` is among the components
 abbrev pub has_root_or_parent_dir : List Value → Bool
-has_root_or_parent_dir vs = list_any is_root_or_parent_dir vs
+has_root_or_parent_dir vs = list_any (λ v. is_root v || is_parent_dir v) vs

@@ -3,7 +3,6 @@ pub mod Escapes
 pub mod RelativePaths
 pub mod ResolvedLaws
 pub mod RelativePathLaws
-pub mod Steps
 pub mod NamePieces
 pub mod Errors
 pub mod Below

@@ -1,33 +1,24 @@
 -- Paths resolved lexically: each `..` drops the name before it (like Go's `path.Clean`, which
 -- returns `.` where nothing remains). The components that remain so far are a stack: a list that
 -- starts with its top, the last component.
-use Rattle.std.specs.Prelude.{ℕ, List, [], ◌∷◌, reverse, ⊤}
+use Rattle.std.specs.Prelude.{ℕ, List, [], ◌∷◌, fold, reverse, ⊤}
 use Rattle.unix_path.specs.Parts.{Value, RootDir, CurDir, ParentDir, Normal, values}
 use Rattle.path_runs.specs.Spelling.{spelling_of}
 
--- the stack after one more `..`: it drops a name that is on top, is dropped itself if the root is
--- on top, and otherwise becomes the top
-abbrev pub push_parent_dir : List Value → List Value
-push_parent_dir (Normal name ∷ stack) = stack
-push_parent_dir (RootDir ∷ stack) = RootDir ∷ stack
-push_parent_dir stack = ParentDir ∷ stack
-
--- the stack after one more component: the root replaces all of it, and `.` is dropped
+-- the stack after one more component: the root replaces all of it, and `.` is dropped; a `..` drops
+-- a name that is on top, and is dropped itself if the root is on top; otherwise the component
+-- becomes the top
 abbrev pub push_component : List Value → Value → List Value
 push_component stack RootDir = RootDir ∷ []
 push_component stack CurDir = stack
-push_component stack ParentDir = push_parent_dir stack
-push_component stack (Normal name) = Normal name ∷ stack
+push_component (Normal name ∷ stack) ParentDir = stack
+push_component (RootDir ∷ stack) ParentDir = RootDir ∷ stack
+push_component stack v = v ∷ stack
 
--- the stack after all these components were pushed, from the first to the last
-abbrev pub resolve_onto : List Value → List Value → List Value
-resolve_onto stack [] = stack
-resolve_onto stack (v ∷ vs) = resolve_onto (push_component stack v) vs
-
--- the components that remain of vs after resolving: the stack after vs, from its lowest component
--- to its top
+-- the components that remain of vs after resolving: vs are pushed from the first to the last, and
+-- the stack is read from its lowest component to its top
 unfoldable pub resolved_of : List Value → List Value
-resolved_of vs = reverse (resolve_onto [] vs)
+resolved_of vs = reverse (fold push_component [] vs)
 
 -- the canonical form of a path's resolved components
 abbrev pub resolved_bytes_of : List ℕ → List ℕ

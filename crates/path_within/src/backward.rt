@@ -3,7 +3,7 @@ ghost use Rattle.std.specs.Prelude.{◌≡◌, ◌≤◌, ◌<◌, ◌+◌, ◌*
 ghost use Rattle.std.specs.Prelude.{[], false, replicate, None, IfSome};
 ghost use Rattle.unix_path.specs.Parts.{ParentDir, is_rooted, slash, values, SameValues};
 ghost use Rattle.path_within.specs.Backward.{last_names, piece_value, remaining_parent_dirs};
-ghost use Rattle.path_within.specs.Backward.{value_in, Puts};
+ghost use Rattle.path_runs.specs.Spelling.{slash_each};
 ghost use Rattle.path_within.specs.Backward.{Takes};
 ghost use Rattle.path_within.specs.Below.{names_below};
 ghost use Rattle.path_within.specs.WrittenBytes.{slashed_len};
@@ -11,30 +11,6 @@ ghost use Rattle.path_within.specs.WrittenBytes.{slashed_len};
 use unix_bytes::bytes::UnixStr;
 use unix_bytes::internal::{after_last, write_at};
 use unix_path::Path;
-
-// The bytes between two slashes, classified.
-#[derive(Clone, Copy)]
-pub(crate) enum Piece<'a> {
-    // No bytes, or `.`.
-    Filler,
-    // `..`.
-    DotDot,
-    Name(UnixStr<'a>),
-}
-
-// Classifies bytes without a slash.
-#[inline(always)]
-fn classify_piece(bytes: &[u8]) -> Piece<'_>
-    ensures { value_in result ≡ piece_value bytes.now }
-{
-    if bytes.is_empty() || bytes == b".".as_slice() {
-        return Piece::Filler;
-    }
-    if bytes == b"..".as_slice() {
-        return Piece::DotDot;
-    }
-    Piece::Name(UnixStr::from_bytes(bytes))
-}
 
 // Returns the path without the filler after its last component. A path that ends in neither a slash
 // nor a dot has no such filler, so it is not parsed.
@@ -78,14 +54,14 @@ impl<'a> Pieces<'a> {
         }
     }
 
-    // Takes and returns the last remaining piece, or returns `None` if no piece remains. Always
-    // inlined, so that a loop over the names keeps the fields of `self` in registers.
+    // Takes the last remaining piece and returns its bytes, or returns `None` if no piece remains.
+    // Always inlined, so that a loop over the names keeps the fields of `self` in registers.
     #[inline(always)]
     #[tactic(auto, using(crate::proofs::lemmas::backward::PieceLemmas::pieces_next_back_cases))]
-    fn next_back(&mut self) -> Option<Piece<'a>>
+    fn next_back(&mut self) -> Option<&'a [u8]>
         ensures none { result ≡ None → remaining_values self.old ≡ [] }
-        ensures some { IfSome result (λ piece.
-            remaining_values self.old ≡ remaining_values self.new ++ value_in piece ∷ []) }
+        ensures some { IfSome result (λ bytes. remaining_values self.old
+            ≡ remaining_values self.new ++ piece_value bytes.now ∷ []) }
     {
         if self.is_exhausted {
             return None;
@@ -94,7 +70,7 @@ impl<'a> Pieces<'a> {
         let start = after_last(bytes, b'/');
         self.rest = &bytes[..start.saturating_sub(1)];
         self.is_exhausted = start == 0;
-        Some(classify_piece(&bytes[start..]))
+        Some(&bytes[start..])
     }
 
     // Takes the last name that remains after resolving, together with all pieces after this name,
@@ -107,17 +83,18 @@ impl<'a> Pieces<'a> {
     {
         // The number of `..` that have been taken and have not dropped a name yet.
         let mut parent_dirs = 0_usize;
-        while let Some(piece) = self.next_back() {
-            match piece {
-                Piece::Name(name) => {
-                    if parent_dirs == 0 {
-                        return LastResolved::Name(name);
-                    }
-                    parent_dirs -= 1;
-                }
-                Piece::DotDot => parent_dirs += 1,
-                Piece::Filler => {}
+        while let Some(bytes) = self.next_back() {
+            if bytes.is_empty() || bytes == b".".as_slice() {
+                continue;
             }
+            if bytes == b"..".as_slice() {
+                parent_dirs += 1;
+                continue;
+            }
+            if parent_dirs == 0 {
+                return LastResolved::Name(UnixStr::from_bytes(bytes));
+            }
+            parent_dirs -= 1;
         }
         LastResolved::ParentDirs(parent_dirs)
     }
@@ -198,7 +175,10 @@ pub(crate) fn put_before(out: &mut [u8], end: usize, name: &[u8]) -> usize
 pub(crate) fn put_names_before(out: &mut [u8], end: usize, path: Path<'_>, count: usize) -> usize
     requires in_range { end ≤ 1 + length out.old }
     requires space { slashed_len (last_names count (values path.bytes.now)) ≤ end }
-    ensures { Puts (last_names count (values path.entry.bytes.now)) end out.old result out.new }
+    ensures size { result + slashed_len (last_names count (values path.entry.bytes.now)) ≡ end }
+    ensures bytes { drop result (slash ∷ out.new)
+        ≡ slash_each (last_names count (values path.entry.bytes.now))
+        ++ drop end (slash ∷ out.old) }
 {
     let mut end = end;
     let mut remaining = count;
@@ -217,7 +197,8 @@ pub(crate) fn put_names_before(out: &mut [u8], end: usize, path: Path<'_>, count
 // as in `put_before`.
 pub(crate) fn put_parent_dirs_before(out: &mut [u8], end: usize)
     requires { end ≤ 1 + length out.old }
-    ensures { (n : ℕ) → end ≡ 3 * n → Puts (replicate n ParentDir) end out.old 0 out.new }
+    ensures { (n : ℕ) → end ≡ 3 * n
+        → slash ∷ out.new ≡ slash_each (replicate n ParentDir) ++ drop end (slash ∷ out.old) }
 {
     let mut end = end;
     while end >= 3 {

@@ -1,9 +1,10 @@
 //! Tests of a path from outside: whether it escapes, has a `..`, or has a NUL.
-ghost use Rattle.std.specs.Prelude.{◌≡◌, ◌↔◌, false, true, IsTrue};
+ghost use Rattle.std.specs.Prelude.{◌≡◌, ◌↔◌, ◌||◌, false, true, IsTrue};
 ghost use Rattle.unix_path.specs.Parts.{values};
 ghost use Rattle.unix_path.specs.Views.{value_of};
 ghost use Rattle.path_within.specs.Below.{has_nul};
-ghost use Rattle.path_within.specs.Escapes.{has_root_or_parent_dir, is_root_or_parent_dir, Escapes};
+ghost use Rattle.path_within.specs.Escapes.{has_root_or_parent_dir, is_parent_dir, is_root};
+ghost use Rattle.path_within.specs.Escapes.{Escapes};
 ghost use Rattle.path_within.specs.NamePieces.{is_names_only};
 ghost use Rattle.path_within.specs.declared.check.Check.TheVariants.{NamesOnly, Refused};
 
@@ -93,7 +94,7 @@ pub(crate) fn check_escape(path: Path<'_>) -> Check
 // Returns true if the component is the root or `..`.
 #[inline]
 fn is_root_or_parent_dir(part: Component<'_>) -> bool
-    ensures { result ≡ is_root_or_parent_dir (value_of part.entry) }
+    ensures { result ≡ is_root (value_of part.entry) || is_parent_dir (value_of part.entry) }
 {
     matches!(part, Component::RootDir | Component::ParentDir)
 }

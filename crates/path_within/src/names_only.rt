@@ -1,17 +1,19 @@
 //! Paths of names only: the bytes of such a path are an optional root, and then one or more names
 //! with single slashes between them.
-ghost use Rattle.std.specs.Prelude.{◌≡◌, true, IsTrue};
-ghost use Rattle.path_within.specs.NamePieces.{name_starts_at, is_names_only};
+ghost use Rattle.std.specs.Prelude.{◌≡◌, not, true, IsTrue};
+ghost use Rattle.unix_path.specs.NameRunEnds.{no_name_starts_at};
+ghost use Rattle.unix_path.specs.Parts.{dot, slash};
+ghost use Rattle.path_within.specs.NamePieces.{is_names_only};
 
 use unix_path::Path;
-use unix_path::internal::{has_no_name_run_end, is_filler, starts_with_parent_dir};
+use unix_path::internal::{has_no_name_run_end, no_name_starts_at};
 
 // Returns true if the piece that begins at `at` is a name: neither empty, nor `.`, nor `..`.
 #[inline]
 pub(crate) fn name_starts_at(bytes: &[u8], at: usize) -> bool
-    ensures { result ≡ name_starts_at bytes.now at }
+    ensures { result ≡ not (no_name_starts_at slash dot bytes.now at) }
 {
-    at < bytes.len() && !is_filler(bytes, at) && !starts_with_parent_dir(&bytes[at..])
+    !no_name_starts_at(bytes, at, b'/', b'.')
 }
 
 // Returns true only if the path is one of names only. Returns false even for such a path if its

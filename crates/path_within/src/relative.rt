@@ -9,7 +9,7 @@ ghost use Rattle.unix_path.specs.Parts.{ParentDir, Value, is_rooted, value_bytes
 ghost use Rattle.unix_path.specs.Views.{value_of};
 ghost use Rattle.path_runs.specs.Buffer.{buffer_after};
 ghost use Rattle.path_runs.specs.Spelling.{spelling_of};
-ghost use Rattle.path_within.specs.Backward.{SharePrefix, TakesLast};
+ghost use Rattle.path_within.specs.Backward.{last_names};
 ghost use Rattle.path_within.specs.Below.{names_below};
 ghost use Rattle.path_within.specs.Pieces.{remaining_values};
 ghost use Rattle.path_within.specs.NamePieces.{is_names_only};
@@ -47,7 +47,9 @@ fn is_same(part: Component<'_>, other: Component<'_>) -> bool
 fn shared_end(from: Path<'_>, to: Path<'_>) -> usize
     ensures in_first { result ≤ length from.entry.bytes.now }
     ensures in_second { result ≤ length to.entry.bytes.now }
-    ensures shared { SharePrefix from.entry.bytes.now to.entry.bytes.now result }
+    ensures shared { (shared : List Value)
+        × (values from.entry.bytes.now ≡ shared ++ values (drop result from.entry.bytes.now))
+        × (values to.entry.bytes.now ≡ shared ++ values (drop result to.entry.bytes.now)) }
 {
     let index = from.common_dir(to);
     if name_starts_at(from.bytes, index) && name_starts_at(to.bytes, index) {
@@ -99,8 +101,9 @@ fn skip_last_names(rest: &mut Pieces<'_>, count: usize) -> usize
     requires some { count ≤ length (names_below (remaining_values rest.old)) }
     requires fits { slashed_len (names_below (remaining_values rest.old)) < 2 ^ 64 }
     ensures few { length (remaining_values rest.new) ≤ length (remaining_values rest.old) }
-    ensures taken { TakesLast (names_below (remaining_values rest.old))
-        (names_below (remaining_values rest.new)) count result }
+    ensures names { names_below (remaining_values rest.old)
+        ≡ names_below (remaining_values rest.new) ++ last_names count (remaining_values rest.old) }
+    ensures len { result ≡ slashed_len (last_names count (remaining_values rest.old)) }
 {
     let mut remaining = count;
     let mut len = 0_usize;

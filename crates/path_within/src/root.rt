@@ -4,7 +4,7 @@ ghost use Rattle.std.specs.Prelude.{vec_capacity};
 ghost use Rattle.std.specs.Prelude.{IfOk, IfSome, OnOk, OnErr, IsOk, IsErrOf, IsTrue, Some, None};
 ghost use Rattle.std.specs.Fmt.{padded};
 ghost use Rattle.unix_path.specs.Buffers.{path_bytes, capacity};
-ghost use Rattle.unix_path.specs.Joins.{needs_no_separator};
+ghost use Rattle.unix_path.specs.Joins.{join_of};
 ghost use Rattle.unix_path.specs.Parts.{is_rooted, values};
 ghost use Rattle.unix_path.specs.Prefixes.{IsPrefixOf, stripped_of};
 ghost use Rattle.unix_path.specs.Slices.{LiesIn};
@@ -13,7 +13,6 @@ ghost use Rattle.path_within.specs.Escapes.{has_root_or_parent_dir};
 ghost use Rattle.path_within.specs.NamePieces.{is_names_only};
 ghost use Rattle.path_within.specs.Requests.{request_bytes, request_names, request_slice};
 ghost use Rattle.path_within.specs.Resolved.{resolved_bytes_of};
-ghost use Rattle.path_within.specs.WrittenBytes.{root_prefix};
 
 use crate::check::{check_parent_dir, has_nul};
 use crate::request::Request;
@@ -72,40 +71,29 @@ fn append(bytes: &mut Vec<u8>, more: &[u8])
     let _ = bytes.extend_from_slice(more);
 }
 
-// Appends the root prefix: the root, and a slash unless the root is empty or ends in a slash. The
-// root prefix fits in the spare capacity.
-#[inline]
-fn append_root_prefix(bytes: &mut Vec<u8>, root: &[u8])
-    requires { length bytes.old.items + length root.now + 1 ≤ vec_capacity bytes.old }
-    ensures bytes { bytes.new.items ≡ bytes.old.items ++ root_prefix root.now }
-    ensures capacity { vec_capacity bytes.old ≤ vec_capacity bytes.new }
-{
-    append(bytes, root);
-    if !needs_no_separator(root) {
-        append(bytes, b"/");
-    }
-}
-
-// Returns the root prefix of the first path, and then the second path. Reuses the memory of
+// Returns the second path joined to the first, unless the second has a root. Reuses the memory of
 // `previous`, which has enough capacity.
 #[inline]
 fn join_bytes_in(previous: PathBuf, both: (Path<'_>, Path<'_>)) -> (PathBuf, ())
     requires { length both.0.bytes.now + 1 + length both.1.bytes.now ≤ capacity previous }
-    ensures bytes { path_bytes result.0
-        ≡ root_prefix both.entry.0.bytes.now ++ both.entry.1.bytes.now }
+    ensures bytes { is_rooted both.entry.1.bytes.now ≡ false
+        → path_bytes result.0 ≡ join_of both.entry.0.bytes.now both.entry.1.bytes.now }
     ensures capacity { capacity previous ≤ capacity result.0 }
 {
     let (root, path) = both;
     let mut bytes = previous.into_unix_string().into_bytes();
     bytes.clear();
-    append_root_prefix(&mut bytes, root.bytes);
+    append(&mut bytes, root.bytes);
+    if !needs_no_separator(root.bytes) {
+        append(&mut bytes, b"/");
+    }
     append(&mut bytes, path.bytes);
     (PathBuf::from(UnixString::from(bytes)), ())
 }
 
 // Returns the join of a root and a request. Reuses the memory of `previous`, which has enough
-// capacity. First writes the root prefix and the bytes of the request to the memory. Then
-// overwrites these bytes with the join, which is at most as long.
+// capacity. First writes the root and the bytes of the request to the memory, with a slash between
+// them if one is needed. Then overwrites these bytes with the join, which is at most as long.
 #[tactic(auto, using(crate::proofs::lemmas::backward::JoinedLemmas::join_request_in_cases))]
 fn join_request_in(previous: PathBuf, both: (Path<'_>, Request<'_>)) -> (PathBuf, ())
     requires { length both.0.bytes.now + 1 + length (request_bytes both.1) ≤ capacity previous }

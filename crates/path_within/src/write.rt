@@ -1,14 +1,15 @@
 //! Resolved paths and joins, written from the last byte to the first into memory of their length.
-ghost use Rattle.std.specs.Prelude.{◌≡◌, ◌≤◌, ◌+◌, ◌-◌, ◌^◌, ◌++◌, ℕ, true, false};
-ghost use Rattle.std.specs.Prelude.{[], length, min, replicate, IfOk, IsOk, IsTrue};
+ghost use Rattle.std.specs.Prelude.{◌≡◌, ◌<◌, ◌≤◌, ◌+◌, ◌-◌, ◌^◌, ◌∷◌, ◌++◌, ℕ, true, false};
+ghost use Rattle.std.specs.Prelude.{[], drop, length, min, replicate, IfOk, IsOk, IsTrue};
 ghost use Rattle.unix_path.specs.Buffers.{path_bytes};
-ghost use Rattle.unix_path.specs.Parts.{ParentDir, is_rooted, values};
+ghost use Rattle.unix_path.specs.Parts.{ParentDir, is_rooted, slash, values};
 ghost use Rattle.path_runs.specs.Buffer.{buffer_after};
-ghost use Rattle.path_runs.specs.Spelling.{slashed_bytes, spelling_of};
-ghost use Rattle.path_within.specs.Backward.{last_names, Puts};
+ghost use Rattle.path_runs.specs.Spelling.{slash_each, slashed_bytes, spelling_of};
+ghost use Rattle.path_within.specs.Backward.{last_names};
 ghost use Rattle.path_within.specs.Below.{below_of, names_below};
 ghost use Rattle.path_within.specs.Resolved.{resolved_of};
-ghost use Rattle.path_within.specs.WrittenBytes.{slashed_len, AreVerbatim, RepresentsNames};
+ghost use Rattle.path_within.specs.NamePieces.{has_only_name_pieces};
+ghost use Rattle.path_within.specs.WrittenBytes.{slashed_len};
 
 use crate::backward::{
     count_resolved, put_before, put_names_before, put_parent_dirs_before, without_filler,
@@ -33,14 +34,16 @@ pub(crate) struct Names<'a> {
     is_verbatim: bool,
     ghost len_is: { len ≡ slashed_len (last_names count (values path.bytes.now)) },
     ghost fits: { len ≤ 2 ^ 63 },
-    ghost verbatim: { IsTrue is_verbatim
-        → AreVerbatim path.bytes.now (last_names count (values path.bytes.now)) },
+    ghost verbatim: { IsTrue is_verbatim → has_only_name_pieces path.bytes.now ≡ true },
+    ghost all: { IsTrue is_verbatim → length path.bytes.now < count },
 }
 
 // Returns the path without its root or leading `.`, and without filler at both ends.
 #[inline]
 fn trimmed(path: Path<'_>) -> Path<'_>
-    ensures represents_names { RepresentsNames result.bytes.now path.entry.bytes.now }
+    ensures rootless { is_rooted result.bytes.now ≡ false }
+    ensures names { names_below (values result.bytes.now)
+        ≡ names_below (values path.entry.bytes.now) }
     ensures resolved { is_rooted path.entry.bytes.now ≡ false
         → resolved_of (values result.bytes.now) ≡ resolved_of (values path.entry.bytes.now) }
 {
@@ -67,7 +70,7 @@ impl<'a> Names<'a> {
     // them.
     #[inline]
     fn verbatim(path: Path<'a>) -> Names<'a>
-        requires { AreVerbatim path.bytes.now (names_below (values path.bytes.now)) }
+        requires { has_only_name_pieces path.bytes.now ≡ true }
         ensures { names_in result ≡ names_below (values path.entry.bytes.now) }
     {
         Names {
@@ -102,7 +105,9 @@ impl<'a> Names<'a> {
     pub(crate) fn put_before(&self, out: &mut [u8], end: usize) -> usize
         requires in_range { end ≤ 1 + length out.old }
         requires space { self.now.len ≤ end }
-        ensures { Puts (names_in self.now) end out.old result out.new }
+        ensures size { result + slashed_len (names_in self.now) ≡ end }
+        ensures bytes { drop result (slash ∷ out.new)
+            ≡ slash_each (names_in self.now) ++ drop end (slash ∷ out.old) }
     {
         if self.is_verbatim {
             return put_before(out, end, self.path.bytes);
@@ -217,8 +222,7 @@ impl<'a> Layout<'a> {
     // path's bytes are these names, with single slashes between them.
     #[inline]
     pub(crate) fn names_of(path: Path<'a>, are_verbatim: bool) -> Names<'a>
-        requires { IsTrue are_verbatim
-            → AreVerbatim path.bytes.now (names_below (values path.bytes.now)) }
+        requires { IsTrue are_verbatim → has_only_name_pieces path.bytes.now ≡ true }
         ensures { names_in result ≡ names_below (values path.entry.bytes.now) }
     {
         if are_verbatim {

@@ -1,32 +1,14 @@
 -- Definitions for comparing two paths. No public clause cites them.
-use Rattle.std.specs.Prelude.{◌≡◌, ◌+◌, ◌<◌, ℕ, List, [], ◌∷◌, false, length}
+use Rattle.std.specs.Prelude.{◌≡◌, ◌<◌, ℕ, List, [], false, length}
 use Rattle.std.specs.Borrow.{Bor}
-use Rattle.unix_path.specs.Order.{rank}
-use Rattle.unix_path.specs.Parts.{Value}
 use Rattle.unix_path.specs.Slices.{IsTail}
 use Rattle.unix_path.specs.Scan.{is_filler}
-use Rattle.unix_path.specs.Steps.{AreApart, DiffersAtStart, HasMore, SharesPrefix}
-use Rattle.unix_path.specs.declared.pair.Kind.{Kind}
-use Rattle.unix_path.specs.declared.pair.Kind.TheVariants.{Nothing, RootDir, CurDir, ParentDir}
-use Rattle.unix_path.specs.declared.pair.Kind.TheVariants.{Name}
+use Rattle.unix_path.specs.Steps.{AreApart, DiffersAtStart, SharesPrefix}
 use Rattle.unix_path.specs.declared.pair.Difference.{Difference}
 use Rattle.unix_path.specs.declared.pair.Difference.TheVariants.{Decided, FirstComponents}
 use Rattle.unix_path.specs.declared.pair.Difference.TheVariants.{CutBefore}
 use Rattle.unix_path.specs.declared.pair.Comparison.{Comparison}
-use Rattle.unix_path.specs.declared.pair.Comparison.TheVariants.{Differs, StartsWith, IsPrefix}
-
--- the position of a kind in the order of kinds: no component, the root, `.`, `..`, names
-abbrev pub kind_rank : Kind → ℕ
-kind_rank Nothing = 0
-kind_rank RootDir = 1
-kind_rank CurDir = 2
-kind_rank ParentDir = 3
-kind_rank Name = 4
-
--- the position of the kind of the first of these values, or 0 if there is none
-abbrev pub first_rank : List Value → ℕ
-first_rank [] = 0
-first_rank (v ∷ vs) = 1 + rank v
+use Rattle.unix_path.specs.declared.pair.Comparison.TheVariants.{Differs, StartsWith}
 
 -- x and y are the rests of a and b after a cut; x is a suffix of a, in the same memory, and shorter
 -- than a
@@ -51,4 +33,3 @@ pub record IsRest (a : Bor (List ℕ)) (b : List ℕ) (rest_bytes : Bor (List �
 abbrev pub Compared : Bor (List ℕ) → List ℕ → Comparison → Type 0
 Compared a b (Differs order) = (s t : List ℕ) → SharesPrefix s t a.now b → AreApart s t order
 Compared a b (StartsWith rest_bytes) = IsRest a b rest_bytes × (is_filler rest_bytes.now 0 ≡ false)
-Compared a b IsPrefix = (s t : List ℕ) → SharesPrefix s t a.now b → HasMore s t

@@ -8,7 +8,6 @@ ghost use Rattle.unix_path.specs.CommonDir.{inner_values};
 ghost use Rattle.unix_path.specs.Parts.{inner_parts, parts};
 ghost use Rattle.unix_path.specs.Slices.{IsTail};
 ghost use Rattle.unix_path.specs.Scan.{is_filler, is_trailing};
-ghost use Rattle.unix_path.specs.Steps.{AfterFiller};
 
 use std::simd::prelude::*;
 
@@ -162,7 +161,8 @@ fn long_filler_len(path: &[u8]) -> usize
 pub fn after_filler(bytes: &[u8]) -> &[u8]
     ensures same { inner_values bytes.now ≡ inner_values result.now }
     ensures not_filler { is_filler result.now 0 ≡ false }
-    ensures after { AfterFiller bytes.now result.now }
+    ensures filler { (at : ℕ) → inner_parts at bytes.now
+        ≡ inner_parts (at + (length bytes.now - length result.now)) result.now }
     ensures tail { IsTail result bytes.entry }
 {
     &bytes[long_filler_len(bytes)..]

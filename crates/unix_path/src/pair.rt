@@ -1,16 +1,17 @@
 //! Comparison of two paths, by the first byte in which they differ.
 ghost use Rattle.std.specs.Prelude.{◌≡◌, ◌≢◌, ◌↔◌, ◌+◌, ◌<◌, ◌≤◌, ℕ, List, [], length};
-ghost use Rattle.std.specs.Prelude.{IsTrue, IsSome, IfSome};
+ghost use Rattle.std.specs.Prelude.{IsTrue, IsSome, IfSome, nat_eq, slice_get};
 ghost use Rattle.std.specs.Ordering.{nat_cmp};
 ghost use Rattle.std.proofs.Props.{props};
 ghost use Rattle.unix_path.specs.CommonDir.{inner_values};
-ghost use Rattle.unix_path.specs.Order.{values_cmp};
+ghost use Rattle.std.specs.Option.{option_map_or};
+ghost use Rattle.unix_path.specs.Order.{rank, values_cmp};
 ghost use Rattle.unix_path.specs.Parts.{dot, values};
 ghost use Rattle.unix_path.specs.Slices.{IsTail};
 ghost use Rattle.unix_path.specs.Prefixes.{IsPrefixOf};
 ghost use Rattle.unix_path.specs.Scan.{is_filler};
 ghost use Rattle.unix_path.specs.Steps.{is_piece_start, piece_rank, DiffersAtStart};
-ghost use Rattle.unix_path.specs.Steps.{IsCommonPrefixLen};
+ghost use Rattle.std.specs.List.{common_prefix_len};
 ghost use Rattle.unix_path.specs.Steps.{SharesPrefix};
 
 use crate::filler::{after_filler, is_filler};
@@ -21,13 +22,11 @@ use unix_bytes::internal::{common_len, common_len_expect_short};
 // How the first of two paths relates to the second.
 #[derive(Clone, Copy)]
 pub(crate) enum Comparison<'a> {
-    // The first components that differ are in this order.
+    // The first path doesn't start with the second, and the paths are in this order.
     Differs(Ordering),
     // The first path starts with the second. The slice is the rest of the first path after the
     // components of the second, without leading filler.
     StartsWith(&'a [u8]),
-    // The second path starts with the first, and has more components.
-    IsPrefix,
 }
 
 // What the first bytes that differ in two paths show.
@@ -49,18 +48,8 @@ pub(crate) struct Pair<'a, 'b> {
     pub(crate) first: &'a [u8],
     pub(crate) second: &'b [u8],
     pub(crate) common: usize,
-    ghost alike: { IsCommonPrefixLen first.now second.now common } by { Prim.hlevel props },
-}
-
-// The kind of a path's first component; the kinds are in the order in which paths sort. `Nothing`
-// is for a path without components.
-#[derive(Clone, Copy, PartialEq, Eq, PartialOrd, Ord)]
-enum Kind {
-    Nothing,
-    RootDir,
-    CurDir,
-    ParentDir,
-    Name,
+    ghost alike: { common
+        ≡ common_prefix_len nat_eq first.now second.now } by { Prim.hlevel props },
 }
 
 // Returns the number of bytes after the leading filler of `bytes`, which is the rest of a path
@@ -107,26 +96,24 @@ pub(crate) fn is_piece_start(bytes: &[u8], at: usize) -> bool
     at == 0 || bytes[at - 1] == b'/'
 }
 
-impl Kind {
-    ghost use Rattle.unix_path.specs.Pairs.{first_rank, kind_rank};
-
-    // Returns the kind of the first component of `path`, which the first three bytes determine.
-    #[inline]
-    #[tactic(auto, using(crate::proofs::lemmas::order::KindLemmas::first_rank_of))]
-    fn of_start(path: &[u8]) -> Kind
-        ensures { kind_rank result ≡ first_rank (values path.now) }
-    {
-        if path.is_empty() {
-            Kind::Nothing
-        } else if path[0] == b'/' {
-            Kind::RootDir
-        } else if is_filler(path, 0) {
-            Kind::CurDir
-        } else if starts_with_parent_dir(path) {
-            Kind::ParentDir
-        } else {
-            Kind::Name
-        }
+// Returns 1 plus the position of the first component's kind in the order of kinds: 1 for the root,
+// 2 for `.`, 3 for `..`, and 4 for a name. Returns 0 if `path` has no component. The first three
+// bytes determine the kind.
+#[inline]
+#[tactic(auto, using(crate::proofs::lemmas::order::KindLemmas::first_rank_of))]
+fn first_rank(path: &[u8]) -> u8
+    ensures { result ≡ option_map_or (λ v. 1 + rank v) (slice_get (values path.now) 0) 0 }
+{
+    if path.is_empty() {
+        0
+    } else if path[0] == b'/' {
+        1
+    } else if is_filler(path, 0) {
+        2
+    } else if starts_with_parent_dir(path) {
+        3
+    } else {
+        4
     }
 }
 
@@ -207,7 +194,7 @@ impl<'a, 'b> Pair<'a, 'b> {
         ensures { result ≡ values_cmp (values self.entry.first.now)
             (values self.entry.second.now) }
     {
-        let by_kind = Kind::of_start(self.first).cmp(&Kind::of_start(self.second));
+        let by_kind = first_rank(self.first).cmp(&first_rank(self.second));
         if by_kind.is_ne() {
             return by_kind;
         }
@@ -238,7 +225,9 @@ impl<'a> Comparison<'a> {
             };
             match pair.first_difference() {
                 Difference::Decided(order) => return Comparison::Differs(order),
-                Difference::FirstComponents if first.is_empty() => return Comparison::IsPrefix,
+                Difference::FirstComponents if first.is_empty() => return Comparison::Differs(
+                    Ordering::Less,
+                ),
                 Difference::FirstComponents => return Comparison::Differs(
                     pair.first_components_order(),
                 ),
@@ -257,7 +246,6 @@ impl<'a> Comparison<'a> {
         match Comparison::compare_after_cut(a, b) {
             Comparison::Differs(order) => order,
             Comparison::StartsWith(rest_bytes) => rest_bytes.len().cmp(&0),
-            Comparison::IsPrefix => Ordering::Less,
         }
     }
 

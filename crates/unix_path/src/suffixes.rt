@@ -1,8 +1,10 @@
 //! Suffixes of paths, compared by components. Usually the last bytes decide.
-ghost use Rattle.std.specs.Prelude.{◌≡◌, ◌↔◌, ◌≤◌, ◌-◌, ℕ, IsTrue, None, IfSome, length, take};
-ghost use Rattle.unix_path.specs.Parts.{values};
+ghost use Rattle.std.specs.Prelude.{◌≡◌, ◌↔◌, ◌<◌, ◌≤◌, ◌-◌, ◌==◌, ℕ, false, IsTrue, None};
+ghost use Rattle.std.specs.Prelude.{IfSome, drop, length, slice_index, take};
+ghost use Rattle.std.specs.List.{position_or_len};
+ghost use Rattle.unix_path.specs.Parts.{is_slash, slash, values};
 ghost use Rattle.unix_path.specs.Prefixes.{IsSuffixOf};
-ghost use Rattle.unix_path.specs.Steps.{EndsInPiece, HasCommonSuffix, SharesSuffix};
+ghost use Rattle.unix_path.specs.Scan.{EndsInPart};
 
 use crate::cursor::Components;
 use crate::pair::is_piece_start;
@@ -11,7 +13,10 @@ use crate::pair::is_piece_start;
 // piece is then a component.
 #[inline]
 fn ends_in_part(bytes: &[u8]) -> bool
-    ensures { IsTrue result → EndsInPiece bytes.now }
+    ensures some { IsTrue result → 0 < length bytes.now }
+    ensures no_slash { IsTrue result
+        → (slice_index bytes.now (length bytes.now - 1) == slash) ≡ false }
+    ensures part { IsTrue result → EndsInPart bytes.now }
 {
     let len = bytes.len();
     if len == 0 || bytes[len - 1] == b'/' {
@@ -22,10 +27,15 @@ fn ends_in_part(bytes: &[u8]) -> bool
 
 // Returns the length of the longest common suffix of `a` and `b` that contains no slash.
 #[inline]
-#[tactic(auto, using(crate::proofs::lemmas::order::EndingLemmas::longer_ends))]
 fn common_suffix_len(a: &[u8], b: &[u8]) -> usize
-    ensures end { HasCommonSuffix a.now b.now result }
-    ensures longest { (len : ℕ) → HasCommonSuffix a.now b.now len → len ≤ result }
+    ensures in_first { result ≤ length a.now }
+    ensures in_second { result ≤ length b.now }
+    ensures same { drop (length a.now - result) a.now ≡ drop (length b.now - result) b.now }
+    ensures no_slash { position_or_len is_slash (drop (length a.now - result) a.now) ≡ result }
+    ensures longest { result < length a.now → result < length b.now
+        → slice_index a.now (length a.now - 1 - result)
+        ≡ slice_index b.now (length b.now - 1 - result)
+        → slice_index a.now (length a.now - 1 - result) ≡ slash }
 {
     let shorter_len = a.len().min(b.len());
     let mut len = 0;
@@ -40,15 +50,16 @@ fn common_suffix_len(a: &[u8], b: &[u8]) -> usize
 
 // Returns 0 if one of the paths is empty, or ends in a slash or in filler. Otherwise returns the
 // length of the last component if both paths have the same one, and `None` if their last components
-// differ. Reads only the last components and the slashes before them.
+// differ. If it returns a length, `a` ends with `b` if and only if the paths without as many last
+// bytes do. Reads only the last components and the slashes before them.
 #[inline]
-#[tactic(auto, using(crate::proofs::lemmas::order::EndingLemmas::last_parts))]
 pub(crate) fn shared_last_len(a: &[u8], b: &[u8]) -> Option<usize>
     ensures apart { result ≡ None → IsSuffixOf (values b.now) (values a.now) → ⊥ }
     ensures in_first { IfSome result (λ len. len ≤ length a.now) }
     ensures in_second { IfSome result (λ len. len ≤ length b.now) }
-    ensures shared { IfSome result (λ len. SharesSuffix (values a.now) (values b.now)
-        (values (take (length a.now - len) a.now)) (values (take (length b.now - len) b.now))) }
+    ensures shared { IfSome result (λ len. IsSuffixOf (values b.now) (values a.now)
+        ↔ IsSuffixOf (values (take (length b.now - len) b.now))
+        (values (take (length a.now - len) a.now))) }
 {
     if !ends_in_part(a) || !ends_in_part(b) {
         return Some(0);

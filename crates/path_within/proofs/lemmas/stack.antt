@@ -1,4 +1,5 @@
 -- The stack of a path that is resolved.
+pub mod Stacks
 pub mod StackLemmas
 pub mod PathOfLemmas
 pub mod ResolveLemmas

@@ -1,11 +1,12 @@
 //! The first and the last component of the bytes that remain in a walk.
-ghost use Rattle.std.specs.Prelude.{◌≡◌, ◌<◌, ◌≤◌, ◌∷◌, true, false, length, take, drop};
+ghost use Rattle.std.specs.Prelude.{◌≡◌, ◌<◌, ◌≤◌, ◌∷◌, ◌++◌, ℕ, [], true, false, length};
+ghost use Rattle.std.specs.Prelude.{take, drop};
 ghost use Rattle.std.specs.Str.{bytes_eq};
-ghost use Rattle.unix_path.specs.Parts.{cur_dir, parts, inner_parts};
+ghost use Rattle.unix_path.specs.Parts.{cur_dir, inner_parts, parts, values};
 ghost use Rattle.unix_path.specs.Scan.{starts_with_parent_dir, ends_with_parent_dir, is_filler};
 ghost use Rattle.unix_path.specs.Scan.{EndsInPart};
 ghost use Rattle.unix_path.specs.Views.{value_of};
-ghost use Rattle.unix_path.specs.Steps.{StepsFirst, TakesLast};
+ghost use Rattle.unix_path.specs.Rest.{rest};
 
 use crate::cursor::Component;
 use crate::filler::{filler_len, is_filler, trimmed_len};
@@ -44,7 +45,11 @@ fn lead(path: &[u8]) -> Component<'_>
 fn split_lead(path: &[u8]) -> (usize, Component<'_>)
     requires some { 0 < length path.now }
     requires lead { is_filler path.now 0 ≡ true }
-    ensures { StepsFirst path.now result.0 (value_of result.1) }
+    ensures in_range { result.0 ≤ length path.now }
+    ensures parts { (end : ℕ) × (parts path.now
+        ≡ record { start = 0; end = end; value = value_of result.1 }
+        ∷ inner_parts result.0 (drop result.0 path.now)) }
+    ensures not_filler { result.0 < length path.now → is_filler path.now result.0 ≡ false }
 {
     (1 + filler_len(&path[1..]), lead(path))
 }
@@ -55,7 +60,11 @@ fn split_lead(path: &[u8]) -> (usize, Component<'_>)
 pub(crate) fn split_first_component(path: &[u8], has_lead: bool) -> (usize, Component<'_>)
     requires some { 0 < length path.now }
     requires lead { has_lead ≡ is_filler path.now 0 }
-    ensures { StepsFirst path.now result.0 (value_of result.1) }
+    ensures in_range { result.0 ≤ length path.now }
+    ensures parts { (end : ℕ) × (parts path.now
+        ≡ record { start = 0; end = end; value = value_of result.1 }
+        ∷ inner_parts result.0 (drop result.0 path.now)) }
+    ensures not_filler { result.0 < length path.now → is_filler path.now result.0 ≡ false }
 {
     if has_lead {
         split_lead(path)
@@ -79,7 +88,10 @@ pub(crate) fn split_last_root_or_name(path: &[u8]) -> (usize, Component<'_>)
     requires no_parent { ends_with_parent_dir path.now ≡ false }
     requires ends { EndsInPart path.now }
     ensures in_range { result.0 ≤ length path.now }
-    ensures takes { TakesLast path.now (take result.0 path.now) (value_of result.1) }
+    ensures value { values path.now
+        ≡ values (take result.0 path.now) ++ value_of result.1 ∷ [] }
+    ensures rest { rest path.now 0 1 ≡ take result.0 path.now }
+    ensures rest_ends { EndsInPart (take result.0 path.now) }
 {
     let start = after_last(path, b'/');
     if start == path.len() {
@@ -98,7 +110,10 @@ pub(super) fn split_last_component(path: &[u8]) -> (usize, Component<'_>)
     requires some { 0 < length path.now }
     requires ends { EndsInPart path.now }
     ensures in_range { result.0 ≤ length path.now }
-    ensures takes { TakesLast path.now (take result.0 path.now) (value_of result.1) }
+    ensures value { values path.now
+        ≡ values (take result.0 path.now) ++ value_of result.1 ∷ [] }
+    ensures rest { rest path.now 0 1 ≡ take result.0 path.now }
+    ensures rest_ends { EndsInPart (take result.0 path.now) }
 {
     if path == b".".as_slice() {
         (0, Component::CurDir)

@@ -1,8 +1,9 @@
 //! The walk over a path's components.
-ghost use Rattle.std.specs.Prelude.{◌≡◌, ◌<◌, ◌^◌, [], length, None, IfSome};
+ghost use Rattle.std.specs.Prelude.{◌≡◌, ◌<◌, ◌≤◌, ◌^◌, ◌∷◌, ◌++◌, [], length, take, None};
+ghost use Rattle.std.specs.Prelude.{IfSome};
 ghost use Rattle.unix_path.specs.Parts.{values};
 ghost use Rattle.unix_path.specs.Rest.{rest};
-ghost use Rattle.unix_path.specs.Steps.{HasLast, IsWalk, IsWalk-prop};
+ghost use Rattle.unix_path.specs.Steps.{IsWalk, IsWalk-prop};
 ghost use Rattle.unix_path.specs.Views.{value_of};
 ghost use Rattle.unix_path.specs.Slices.{LiesIn, memory_offset};
 
@@ -124,8 +125,11 @@ impl<'a> Components<'a> {
     #[inline(always)]
     pub(crate) fn last_part(path: &'a [u8]) -> Option<LastPart<'a>>
         ensures none { result ≡ None → values path.now ≡ [] }
-        ensures some { IfSome result
-            (λ last. HasLast path.now last.before last.end (value_of last.part)) }
+        ensures in_range { IfSome result (λ last. last.before ≤ length path.now) }
+        ensures value { IfSome result (λ last. values path.now
+            ≡ values (take last.before path.now) ++ value_of last.part ∷ []) }
+        ensures before { IfSome result (λ last. take last.before path.now ≡ rest path.now 0 1) }
+        ensures end { IfSome result (λ last. last.end ≡ length (rest path.now 0 0)) }
     {
         let mut walk = Components::whole(path);
         let end = walk.end;

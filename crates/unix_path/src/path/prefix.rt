@@ -96,7 +96,6 @@ impl<'a> Path<'a> {
     /// `a/b` ends with `b`, and with neither `./b` nor `/b`.
     #[must_use]
     #[inline]
-    #[tactic(auto, using(crate::proofs::lemmas::lists::SuffixLemmas::shared_ends))]
     pub fn ends_with(&self, child: Path<'_>) -> bool
         ensures { IsTrue result
             ↔ IsSuffixOf (values child.entry.bytes.now) (values self.now.bytes.now) }

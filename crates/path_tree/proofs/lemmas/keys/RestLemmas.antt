@@ -5,6 +5,7 @@ use Rattle.std.proofs.Common.{[], take, take-append-drop}
 use Rattle.std.proofs.lemmas.Bool.{eqb-false}
 use Rattle.std.proofs.lemmas.List.{get_or-take, get_or_past, length-take}
 use Rattle.std.specs.Borrow.{Bor}
+use Rattle.std.specs.List.{common_prefix_len}
 use Rattle.unix_bytes.proofs.lemmas.lists.ListLemmas.{by_test}
 use Rattle.unix_bytes.proofs.lemmas.vectors.CommonLemmas.{common_prefix_len-is}
 use Rattle.unix_bytes.proofs.lemmas.vectors.CommonLemmas.{common_prefix_len-same}
@@ -22,7 +23,8 @@ use Rattle.unix_path.specs.Prefixes.{IsPrefixOf, stripped_of}
 use Rattle.unix_path.specs.Rest.{rest}
 use Rattle.unix_path.specs.Scan.{EndsInPart}
 use Rattle.unix_path.specs.Slices.{IsTail}
-use Rattle.unix_path.specs.Steps.{is_piece_start, piece_rank, AfterFiller, IsCommonPrefixLen}
+use Rattle.unix_path.specs.Steps.{is_piece_start, piece_rank}
+use Rattle.unix_path.proofs.lemmas.order.AfterCutLemmas.{AfterFiller}
 
 -- s without its last m components is empty or ends where its last component ends
 ends-rest : (s : List ℕ) (m : ℕ) → EndsInPart (rest s 0 m)
@@ -38,13 +40,13 @@ begins-rest s m =
 
 -- if b is a prefix of s, has at least two bytes, and ends where its last component ends, and the
 -- last byte of b is a dot, then no piece of s begins at this dot
-dot_inside : (s b : List ℕ) → IsCommonPrefixLen s b (length b) → EndsInPart b → 1 < length b
+dot_inside : (s b : List ℕ) → length b ≡ common_prefix_len eqb s b → EndsInPart b → 1 < length b
     → get_or s (length b - 1) 0 ≡ 46 → is_piece_start s (length b - 1) ≡ false
 dot_inside s b alike ends some dot = grind (arith, common_prefix_len-same)
 
 -- if b is a prefix of s, byte by byte and component by component, is not empty, and ends where its
 -- last component ends, a piece of s ends or begins after b
-can_cut : (s b : List ℕ) → IsCommonPrefixLen s b (length b) → EndsInPart b → 0 < length b
+can_cut : (s b : List ℕ) → length b ≡ common_prefix_len eqb s b → EndsInPart b → 0 < length b
     → IsPrefixOf (values b) (values s) → CanCut s (length b)
 can_cut s b alike ends some begins =
     let n = length b in
@@ -79,7 +81,7 @@ rest-after s b t m j trimmed is some past in_range t_is =
     let n = length b in
     let taken : take n s ≡ b = ap (λ w. take (length w) s) is ∙ take-rest s m ∙ sym is in
     let short : n ≤ length s = omega (arith, simp length-take at (ap length taken)) in
-    let alike : IsCommonPrefixLen s b n = common_prefix_len-is s b n short (omega arith)
+    let alike : n ≡ common_prefix_len eqb s b = common_prefix_len-is s b n short (omega arith)
     (λ k l. sym (get_or-take n s k 0 l) ∙ ap (λ w. get_or w k 0) taken)
     (λ _ l. absurd (omega (arith, l))) in
     let ends : EndsInPart b = subst EndsInPart (sym is) (ends-rest s m) in

@@ -1,7 +1,8 @@
 use Rattle.std.proofs.Common.{◌≤◌, ◌<◌, ◌+◌, ◌≡◌, ◌^◌, ◌++◌, List, length}
 use Rattle.path_within.specs.Pieces.{remaining_values}
 use Rattle.unix_path.specs.Parts.{Value, values}
-use Rattle.path_within.specs.Backward.{Puts, last_names}
+use Rattle.path_within.specs.Backward.{last_names}
+use Rattle.path_within.proofs.lemmas.backward.PutLemmas.{Puts}
 use Rattle.path_within.specs.WrittenBytes.{slashed_len}
 use Rattle.path_within.proofs.backward.put_names_before.Given as goal
 

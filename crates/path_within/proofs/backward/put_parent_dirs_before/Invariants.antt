@@ -1,7 +1,7 @@
 use Rattle.std.proofs.Common.{◌≤◌, ◌+◌, ◌*◌, ◌≡◌, ℕ, length}
 use Rattle.std.proofs.Math.ListN.{replicate}
 use Rattle.unix_path.specs.Parts.{ParentDir}
-use Rattle.path_within.specs.Backward.{Puts}
+use Rattle.path_within.proofs.lemmas.backward.PutLemmas.{Puts}
 use Rattle.path_within.proofs.backward.put_parent_dirs_before.Given as goal
 
 abbrev pub invariant-loop-end : goal.invariant-loop-end

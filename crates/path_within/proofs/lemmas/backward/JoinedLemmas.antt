@@ -10,13 +10,14 @@ use Rattle.std.proofs.Math.Seq.{drop-length}
 use Rattle.unix_bytes.proofs.lemmas.lists.ListLemmas.{drop-suc_cons}
 use Rattle.unix_path.specs.Joins.{needs_no_separator}
 use Rattle.unix_path.specs.Parts.{Value, slash}
-use Rattle.path_runs.specs.Spelling.{slashed_bytes}
+use Rattle.path_runs.specs.Spelling.{slash_each, slashed_bytes}
 use Rattle.path_runs.proofs.lemmas.gaps.GapSpellingLemmas.{slashed_bytes-cons}
 use Rattle.path_runs.proofs.lemmas.joins.AssociativeLemmas.{separator}
 use Rattle.path_runs.proofs.lemmas.spelling.UnslashedLemmas.{IsUnslashedValue}
-use Rattle.path_within.specs.Backward.{Puts}
+use Rattle.path_within.proofs.lemmas.backward.PutLemmas.{Puts}
 use Rattle.path_within.specs.Below.{below_of}
-use Rattle.path_within.specs.WrittenBytes.{root_prefix, slashed_len}
+use Rattle.path_within.specs.WrittenBytes.{slashed_len}
+use Rattle.path_within.proofs.lemmas.below.BelowLemmas.{root_prefix}
 use Rattle.path_within.proofs.lemmas.below.BelowLemmas.{below_of-nil, below_of-some, length-below}
 use Rattle.path_within.proofs.lemmas.below.BoundLemmas.{length-slashed_bytes, slashed_len-cons}
 use Rattle.path_within.proofs.lemmas.below.BelowLemmas.{unslashed_last}
@@ -67,7 +68,7 @@ joined {out} {new} {start} root (v ∷ vs) h puts same size =
       slashed_len-cons v vs,
       length-joined,
       drop-length (slash ∷ out),
-      append-nil (v ∷ vs),
+      append-nil (slash_each (v ∷ vs)),
       slashed_bytes-cons v vs,
       drop-suc_cons (length root) slash new,
       below_of-some root (v ∷ vs) h (omega arith),

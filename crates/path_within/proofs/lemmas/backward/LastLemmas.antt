@@ -3,10 +3,12 @@ use Rattle.std.proofs.Common.{◌≡◌, ℕ, suc, zero, ◌+◌, ◌≤◌, Lis
 use Rattle.std.proofs.Common.{ap, ◌∙◌, arith, length-append}
 use Rattle.std.proofs.lemmas.Grind.{reverse_onto}
 use Rattle.unix_path.specs.Parts.{Value, RootDir, CurDir, ParentDir, Normal}
-use Rattle.path_within.specs.Backward.{parent_dir_count, remaining_parent_dirs, HasParentDirs}
-use Rattle.path_within.specs.Backward.{TakesName}
-use Rattle.path_within.specs.Resolved.{push_component, resolve_onto, push_parent_dir}
-use Rattle.path_within.specs.Steps.{AllParentDirs}
+use Rattle.path_within.specs.Backward.{remaining_parent_dirs, TakesName}
+use Rattle.path_within.specs.Below.{names_below}
+use Rattle.path_within.specs.Resolved.{push_component}
+use Rattle.path_within.proofs.lemmas.stack.Stacks.{resolve_onto, push_parent_dir}
+use Rattle.path_within.proofs.lemmas.stack.Stacks.{AllParentDirs, parent_dir_count}
+use Rattle.path_within.proofs.lemmas.stack.Stacks.{parent_dirs_on_stack}
 use Rattle.path_within.proofs.lemmas.stack.StackLemmas.{resolve_onto-append, push_parent_dir_grows}
 use Rattle.path_within.proofs.lemmas.below.NamesBelowLemmas.{names_on_stack, names_below-stack}
 
@@ -26,7 +28,7 @@ pub record Leaves (n : ℕ) (vs all : List Value) : Type 0 where
 -- last name if n is 0, and otherwise one of the n `..` drops it; a `..` v adds one to n; a `.`
 -- changes nothing
 abbrev pub Taken : ℕ → Value → List Value → List Value → Type 0
-Taken n RootDir ws all = HasParentDirs 0 all
+Taken n RootDir ws all = (names_below all ≡ []) × (remaining_parent_dirs all ≡ 0)
 Taken n CurDir ws all = Leaves n ws all
 Taken n ParentDir ws all = Leaves (suc n) ws all
 Taken zero (Normal name) ws all = TakesName name all ws
@@ -49,17 +51,16 @@ parent_dir_count-push_parent_dirs (suc n) us h =
 -- and v is the last component of vs, then `Taken` is true after v is taken
 pub taken : {n : ℕ} {vs all : List Value} {v w : Value} (m : ℕ) (ws : List Value) → Leaves n vs all
     → n ≡ m → vs ≡ ws ++ v ∷ [] → v ≡ w → Taken m w ws all
-unfolding remaining_parent_dirs
 taken {n} {vs} {all} {v} {w} m ws h e f g = grind (arith, by, resolve_onto-append, length-append)
   where
     by : (m : ℕ) (w : Value)
         → ((ks : List Value) → push_parent_dirs m (push_component (resolve_onto ks ws) w)
         ≡ resolve_onto ks all)
         → m + (length ws + 1) ≤ length all → Taken m w ws all
-    by m RootDir stack space = record {
-      names = names_below-stack all [] (sym (stack (RootDir ∷ [])) ∙ push_parent_dirs-root m);
-      parent_dirs = ap parent_dir_count (sym (stack []) ∙ push_parent_dirs-root m);
-    }
+    by m RootDir stack space = (
+      names_below-stack all [] (sym (stack (RootDir ∷ [])) ∙ push_parent_dirs-root m),
+      parent_dirs_on_stack all ∙ ap parent_dir_count (sym (stack []) ∙ push_parent_dirs-root m),
+    )
     by m CurDir stack space = record { stack = stack; space = omega arith }
     by m ParentDir stack space = record { stack = stack; space = omega arith }
     by (suc m) (Normal name) stack space = record { stack = stack; space = omega arith }
@@ -70,18 +71,18 @@ taken {n} {vs} {all} {v} {w} m ws h e f g = grind (arith, by, resolve_onto-appen
               (sym (stack (RootDir ∷ [])) ∙ ap (λ ks. Normal name ∷ ks) found.2)
               ∙ reverse_onto found.0 (Normal name) []
               ∙ ap (λ ns. ns ++ Normal name ∷ []) (sym (names_below-stack ws found.0 found.2));
-          parent_dirs = ap parent_dir_count (sym (stack []));
+          parent_dirs = parent_dirs_on_stack all ∙ ap parent_dir_count (sym (stack []))
+              ∙ sym (parent_dirs_on_stack ws);
           fewer = omega arith;
         }
 
 -- if no component remains to be taken, and n of the `..` taken have not dropped a name, then no
 -- name and n times `..` remain of `all` after resolving
-pub none_remain : {n : ℕ} {vs all : List Value} → Leaves n vs all → vs ≡ [] → HasParentDirs n all
-unfolding remaining_parent_dirs
+pub none_remain : {n : ℕ} {vs all : List Value} → Leaves n vs all → vs ≡ []
+    → (names_below all ≡ []) × (remaining_parent_dirs all ≡ n)
 none_remain {n} {vs} {all} h e =
     let stack = λ (ks : List Value). ap (λ vs. push_parent_dirs n (resolve_onto ks vs)) (sym e)
-    ∙ h.stack ks in
-    record {
-      names = names_below-stack all [] (sym (stack (RootDir ∷ [])) ∙ push_parent_dirs-root n);
-      parent_dirs = grind (arith, parent_dir_count-push_parent_dirs);
-    }
+    ∙ h.stack ks in (
+      names_below-stack all [] (sym (stack (RootDir ∷ [])) ∙ push_parent_dirs-root n),
+      grind (arith, parent_dirs_on_stack all, parent_dir_count-push_parent_dirs),
+    )

@@ -8,9 +8,9 @@ use Rattle.std.proofs.lemmas.List.{drop-append-le, drop_all, length-replicate, n
 use Rattle.std.proofs.lemmas.List.Folds.{sum_by-replicate}
 use Rattle.unix_path.specs.Parts.{Value, ParentDir, Normal, is_rooted, slash}
 use Rattle.unix_path.specs.Parts.{values}
-use Rattle.path_runs.specs.Spelling.{slashed_bytes, spelling_of}
+use Rattle.path_runs.specs.Spelling.{slash_each, slashed_bytes, spelling_of}
 use Rattle.path_runs.proofs.lemmas.spelling.SpellLemmas.{spelling_of-root}
-use Rattle.path_within.specs.Backward.{last_names, remaining_parent_dirs, Puts}
+use Rattle.path_within.specs.Backward.{last_names, remaining_parent_dirs}
 use Rattle.path_within.specs.Below.{names_below}
 use Rattle.path_within.specs.Layouts.{layout_names, layout_values}
 use Rattle.path_within.specs.declared.write.Layout.{Layout}
@@ -19,12 +19,15 @@ use Rattle.path_within.specs.Resolved.{AllNames, resolved_of}
 use Rattle.path_within.proofs.lemmas.backward.LeadingLemmas.{resolved_of-rooted}
 use Rattle.path_within.proofs.lemmas.backward.LeadingLemmas.{resolved_of-rootless}
 use Rattle.path_within.proofs.lemmas.names_only.NormalLemmas.{resolved_values}
-use Rattle.path_within.specs.WrittenBytes.{slashed_len, AreVerbatim, RepresentsNames}
+use Rattle.path_within.specs.WrittenBytes.{slashed_len}
+use Rattle.path_within.proofs.lemmas.below.BoundLemmas.{AreVerbatim}
 use Rattle.path_within.proofs.lemmas.backward.LeadingLemmas.{resolved_bytes_of-rootless, straight}
 use Rattle.path_within.proofs.lemmas.backward.LeadingLemmas.{remaining_parent_dirs-rooted}
 use Rattle.path_within.proofs.lemmas.backward.PutLemmas.{puts_all, puts_then, slashed_len-append}
 use Rattle.path_within.proofs.lemmas.below.BoundLemmas.{length-resolved, length-slashed_bytes}
+use Rattle.path_within.proofs.lemmas.below.BoundLemmas.{length-le-slashed_len}
 use Rattle.path_within.proofs.lemmas.below.BoundLemmas.{slashed_len-cons, slashed_len-names}
+use Rattle.path_within.proofs.lemmas.below.BelowLemmas.{last_verbatim}
 use Rattle.path_within.proofs.lemmas.below.NamesBelowLemmas.{AllNames-names_below}
 use Rattle.path_within.proofs.lemmas.below.NamesBelowLemmas.{names_below-names}
 use Rattle.path_within.proofs.lemmas.stack.BetweenLemmas.{names_drop}
@@ -32,19 +35,18 @@ use Rattle.path_within.proofs.lemmas.stack.RelativePathLemmas.{list_all-names, n
 use Rattle.path_within.proofs.lemmas.stack.RelativePathLemmas.{spelling_of-straight}
 use Rattle.path_within.proofs.lemmas.names_only.NamesOnlyLemmas.{names_only_has_names}
 use Rattle.path_within.proofs.lemmas.names_only.NamesOnlyLemmas.{resolved-names_only}
-use Rattle.path_within.proofs.lemmas.backward.PutLemmas.{puts_verbatim, puts_none, no_names}
+use Rattle.path_within.proofs.lemmas.backward.PutLemmas.{puts_verbatim, puts_none, no_names, Puts}
 use Rattle.std.proofs.lemmas.Grind.{common_steps}
+
+-- n times `..`, with a slash for each, have 3 * n bytes
+slashed_len-replicate : (n : ℕ) → slashed_len (replicate n ParentDir) ≡ 3 * n
+slashed_len-replicate n = grind (arith, sum_by-replicate)
 
 -- n times `..` and then vs, with a slash for each, are 3 * n bytes longer than vs with a slash for
 -- each
 pub slashed_len-parent_dir_run : (n : ℕ) (vs : List Value)
     → slashed_len (replicate n ParentDir ++ vs) ≡ 3 * n + slashed_len vs
 slashed_len-parent_dir_run n vs = grind (arith, slashed_len-append, sum_by-replicate)
-
--- the number of components is at most their length with a slash for each
-pub length-le-slashed_len : (vs : List Value) → length vs ≤ slashed_len vs
-length-le-slashed_len [] = omega arith
-length-le-slashed_len (v ∷ vs) = grind (arith, slashed_len-cons v vs, length-le-slashed_len vs)
 
 -- a suffix of a list of names has only names
 pub names_rest : (n : ℕ) (vs : List Value) → AllNames vs → AllNames (drop n vs)
@@ -83,7 +85,8 @@ length-rootless s r = grind (
 -- of these components with slashes between them
 pub puts_layout : {ws vs : List Value} {mid end : ℕ} {out made more new : List ℕ}
     → Puts ws (1 + length out) out mid made → Puts vs mid made end more
-    → ((n : ℕ) → end ≡ 3 * n → Puts (replicate n ParentDir) end more 0 new)
+    → ((n : ℕ) → end ≡ 3 * n
+    → slash ∷ new ≡ slash_each (replicate n ParentDir) ++ drop end (slash ∷ more))
     → length new ≡ length out → (n : ℕ)
     → length out ≡ length (slashed_bytes (replicate n ParentDir ++ (vs ++ ws)))
     → new ≡ slashed_bytes (replicate n ParentDir ++ (vs ++ ws))
@@ -97,7 +100,10 @@ puts_layout {ws} {vs} {mid} {end} {out} {made} {more} {new} g h parent_dirs same
         ∙ ap slashed_bytes (sym f)
     by (x ∷ xs) f size =
         let at : end ≡ 3 * n = grind (arith, common_steps) in
-        puts_all (puts_then (puts_then g h) (parent_dirs n at))
+        puts_all (puts_then (puts_then g h) (record {
+          size = omega (arith, slashed_len-replicate n, at);
+          bytes = parent_dirs n at;
+        }))
 
 -- the last n resolved names of a path, with a slash for each, are no longer than the path and a
 -- slash
@@ -147,10 +153,11 @@ length-rootless_layout l r =
 
 -- if t is a path of names only that represents the names of s, and s has a root or t and s resolve
 -- to the same components, then no `..` remains of s
-pub no_parent_dirs : {t s : List ℕ} → RepresentsNames t s
+pub no_parent_dirs : (t s : List ℕ) → is_rooted t ≡ false
+    → names_below (values t) ≡ names_below (values s)
     → (is_rooted s ≡ false → resolved_of (values t) ≡ resolved_of (values s))
     → is_names_only t ≡ true → 0 ≡ remaining_parent_dirs (values s)
-no_parent_dirs {t} {s} represents_names same h = grind (
+no_parent_dirs t s rootless names same h = grind (
   arith,
   remaining_parent_dirs-rooted,
   resolved_of-rootless,
@@ -183,4 +190,10 @@ pub ruleset count_resolved_cases = (
 
 pub ruleset layout_len_cases = (length-rooted_layout, length-rootless_layout)
 
-pub ruleset names_put_before_cases = (length-verbatim, puts_verbatim, puts_none, no_names)
+pub ruleset names_put_before_cases = (
+  last_verbatim,
+  length-verbatim,
+  puts_verbatim,
+  puts_none,
+  no_names,
+)

@@ -8,9 +8,11 @@ use Rattle.unix_path.specs.Parts.{Value, RootDir, CurDir, ParentDir, Normal, is_
 use Rattle.unix_path.proofs.lemmas.rests.RootLemmas.{NoRoot}
 use Rattle.path_runs.specs.Spelling.{slashed_bytes}
 use Rattle.path_runs.proofs.lemmas.spelling.PieceValueLemmas.{is_rooted-slash}
-use Rattle.path_within.specs.Backward.{parent_dir_count, remaining_parent_dirs}
+use Rattle.path_within.specs.Backward.{remaining_parent_dirs}
+use Rattle.path_within.proofs.lemmas.stack.Stacks.{parent_dir_count, parent_dirs_on_stack}
 use Rattle.path_within.specs.Below.{names_below}
-use Rattle.path_within.specs.Resolved.{AllNames, ParentDirsThenNames, resolve_onto, resolved_of}
+use Rattle.path_within.specs.Resolved.{AllNames, ParentDirsThenNames, resolved_of}
+use Rattle.path_within.proofs.lemmas.stack.Stacks.{resolve_onto}
 use Rattle.path_within.specs.Resolved.{resolved_bytes_of}
 use Rattle.path_within.proofs.lemmas.below.NamesBelowLemmas.{AllNames-names_below, on_root}
 use Rattle.path_within.proofs.lemmas.below.NamesBelowLemmas.{names_below-stack, names_below-slash}
@@ -66,10 +68,17 @@ parent_dir_count-stack (v ∷ ns) n h = absurd h
 pub resolved_of-rootless : (s : List ℕ) → is_rooted s ≡ false
     → resolved_of (values s) ≡ replicate (remaining_parent_dirs (values s)) ParentDir
     ++ names_below (values s)
-unfolding resolved_of remaining_parent_dirs
+unfolding resolved_of
 resolved_of-rootless s r =
     let h = leaves_parent_dirs 0 [] (values s) tt (rootless-no_roots s r) in
-    grind (arith, reverse-append, reverse-parent_dir_run, parent_dir_count-stack, names_below-stack)
+    grind (
+      arith,
+      reverse-append,
+      reverse-parent_dir_run,
+      parent_dirs_on_stack (values s),
+      parent_dir_count-stack,
+      names_below-stack,
+    )
 
 pub straight : (n : ℕ) (vs : List Value) → AllNames vs
     → ParentDirsThenNames (replicate n ParentDir ++ vs)
@@ -108,11 +117,10 @@ names_only_values s h = by_test (is_rooted s)
 -- no `..` remains of a path with a root
 pub remaining_parent_dirs-rooted : (s : List ℕ) → is_rooted s ≡ true
     → remaining_parent_dirs (values s) ≡ 0
-unfolding remaining_parent_dirs
 remaining_parent_dirs-rooted s r =
     let t = is_rooted-slash s r in
     let found = names_on_stack (inner_values t.0) in
-    grind (arith, values-slash, none)
+    grind (arith, values-slash, parent_dirs_on_stack (values s), none)
   where
     none : (ns : List Value) → AllNames ns → parent_dir_count (ns ++ RootDir ∷ []) ≡ 0
     none [] h = refl

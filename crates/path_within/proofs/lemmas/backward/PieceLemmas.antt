@@ -14,16 +14,21 @@ use Rattle.unix_path.specs.Parts.{value_of_piece, values}
 use Rattle.unix_path.proofs.lemmas.parts.CutLemmas.{slice_split-append}
 use Rattle.path_runs.proofs.lemmas.joins.LeadLemmas.{drop_dot-values, roots_same}
 use Rattle.path_runs.proofs.lemmas.spelling.PieceValueLemmas.{inner_values-pieces, names_of}
-use Rattle.path_within.specs.Backward.{piece_value, piece_values}
-use Rattle.path_within.specs.Backward.{remaining_parent_dirs}
+use Rattle.path_within.specs.Backward.{piece_value, remaining_parent_dirs}
 use Rattle.path_within.specs.Below.{names_below}
-use Rattle.path_within.specs.Resolved.{push_component, resolve_onto, resolved_of}
+use Rattle.path_within.specs.Resolved.{push_component, resolved_of}
+use Rattle.path_within.proofs.lemmas.stack.Stacks.{resolve_onto}
 use Rattle.path_within.proofs.lemmas.below.NamesBelowLemmas.{names_below-inner, names_below-stack}
 use Rattle.path_within.proofs.lemmas.below.NamesBelowLemmas.{names_on_stack}
 use Rattle.path_within.proofs.lemmas.stack.ResolveLemmas.{resolve_onto-drop_dot}
 use Rattle.unix_path.specs.Scan.{is_filler}
 use Rattle.unix_path.proofs.lemmas.filler.FillerLemmas.{values-not_filler}
-use Rattle.path_within.specs.WrittenBytes.{RepresentsNames}
+use Rattle.path_within.proofs.lemmas.below.NamesBelowLemmas.{RepresentsNames}
+use Rattle.path_within.proofs.lemmas.stack.Stacks.{parent_dirs_on_stack}
+
+-- the pieces of a string, as components
+abbrev pub piece_values : List ℕ → List Value
+piece_values s = map piece_value (slice_split is_slash s)
 
 -- filler adds nothing to the stack: resolving all pieces leaves the same stack as resolving the
 -- components of these pieces
@@ -48,9 +53,13 @@ names_below-pieces s =
 -- if the path has no root, as many `..` remain of the pieces as of the path
 pub remaining_parent_dirs-pieces : (s : List ℕ) → is_rooted s ≡ false
     → remaining_parent_dirs (piece_values s) ≡ remaining_parent_dirs (values s)
-unfolding remaining_parent_dirs
-remaining_parent_dirs-pieces s r =
-    cc (resolve_onto-inner [] s, drop_dot-values s r, resolve_onto-drop_dot [] (values s))
+remaining_parent_dirs-pieces s r = cc (
+  parent_dirs_on_stack (piece_values s),
+  parent_dirs_on_stack (values s),
+  resolve_onto-inner [] s,
+  drop_dot-values s r,
+  resolve_onto-drop_dot [] (values s),
+)
 
 -- a string has at most one more piece than bytes
 pub few_pieces : (s : List ℕ) → length (piece_values s) ≤ length s + 1

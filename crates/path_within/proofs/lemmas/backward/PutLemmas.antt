@@ -7,8 +7,8 @@ use Rattle.std.proofs.lemmas.List.Sums.{sum_by-append}
 use Rattle.unix_path.specs.Parts.{Value, Normal, slash, value_bytes}
 use Rattle.path_runs.specs.Spelling.{slash_each, slashed_bytes}
 use Rattle.path_runs.proofs.lemmas.gaps.GapSpellingLemmas.{slashed_bytes-cons}
-use Rattle.path_within.specs.Backward.{Puts}
-use Rattle.path_within.specs.WrittenBytes.{slashed_len, AreVerbatim}
+use Rattle.path_within.specs.WrittenBytes.{slashed_len}
+use Rattle.path_within.proofs.lemmas.below.BoundLemmas.{AreVerbatim}
 use Rattle.path_within.proofs.lemmas.below.BoundLemmas.{length-slashed_bytes, slashed_len-cons}
 
 pub slashed_len-append : (vs ws : List Value)
@@ -29,6 +29,13 @@ pub no_names : (vs : List Value) → slashed_len vs ≡ 0 → vs ≡ []
 no_names [] e = refl
 no_names (v ∷ vs) e = absurd (omega (arith, e, slashed_len-cons v vs))
 
+-- vs, each after a slash, are the bytes of `new` from index `start` to just before `end`, and the
+-- bytes from `end` on are those of `out`. Both indices count an imaginary slash before `out` and
+-- `new`, at index 0
+pub record Puts (vs : List Value) (end : ℕ) (out : List ℕ) (start : ℕ) (new : List ℕ) : Type 0 where
+  pub size : start + slashed_len vs ≡ end
+  pub bytes : drop start (slash ∷ new) ≡ slash_each vs ++ drop end (slash ∷ out)
+
 -- writing no components changes nothing
 pub puts_none : {vs : List Value} {end : ℕ} {out : List ℕ} → vs ≡ [] → Puts vs end out end out
 puts_none {vs} {end} {out} e = grind arith
@@ -36,7 +43,7 @@ puts_none {vs} {end} {out} e = grind arith
 -- if ws are written before `end`, and then vs before ws, this writes vs and then ws before `end`
 pub puts_then : {vs ws : List Value} {end mid start : ℕ} {out made new : List ℕ}
     → Puts ws end out mid made → Puts vs mid made start new → Puts (vs ++ ws) end out start new
-puts_then {vs} {ws} g h = grind (arith, slashed_len-append, append_assoc)
+puts_then {vs} {ws} g h = grind (arith, slashed_len-append, slash_each-append, append_assoc)
 
 -- if the bytes of `new` from `start` on are a slash, `bytes`, which are the names vs verbatim, and
 -- then the bytes of `out` from `end` on, `Puts` is true of vs
@@ -53,8 +60,7 @@ puts_verbatim {end} {start} {out} {new} {bytes} {vs} h e f = by vs h.some h.is
         ap (λ s. slash ∷ s) (is ∙ slashed_bytes-cons v vs) in
         record {
           size = grind (arith, length-slashed_bytes (v ∷ vs), slashed_len-cons v vs);
-          bytes = λ ws g. f ∙ ap (λ s. (slash ∷ bytes) ++ s) g
-              ∙ ap (λ s. s ++ slash_each ws) each ∙ sym (slash_each-append (v ∷ vs) ws);
+          bytes = f ∙ ap (λ s. s ++ drop end (slash ∷ out)) each;
         }
 
 -- if the bytes of `new` from `start` on are a slash, the bytes of the component v, and then the
@@ -69,7 +75,8 @@ puts_value v e f = puts_verbatim (record { some = omega arith; is = refl }) e f
 -- them
 pub puts_all : {vs : List Value} {out new : List ℕ} → Puts vs (1 + length out) out 0 new
     → new ≡ slashed_bytes vs
-puts_all {vs} {out} {new} h = by vs h.size (h.bytes [] none)
+puts_all {vs} {out} {new} h =
+    by vs h.size (h.bytes ∙ ap (λ s. slash_each vs ++ s) none ∙ append-nil (slash_each vs))
   where
     none : drop (1 + length out) (slash ∷ out) ≡ []
     none = ap (λ n. drop n (slash ∷ out)) {x = 1 + length out} {y = length (slash ∷ out)}
@@ -77,8 +84,7 @@ puts_all {vs} {out} {new} h = by vs h.size (h.bytes [] none)
         ∙ drop-length (slash ∷ out)
 
     by : (vs : List Value) → 0 + slashed_len vs ≡ 1 + length out
-        → slash ∷ new ≡ slash_each (vs ++ []) → new ≡ slashed_bytes vs
+        → slash ∷ new ≡ slash_each vs → new ≡ slashed_bytes vs
     by [] size e = absurd (omega (arith, size))
     by (v ∷ vs) size e =
-        let whole = e ∙ ap slash_each (append-nil (v ∷ vs))
-        ∙ ap (λ s. slash ∷ s) (sym (slashed_bytes-cons v vs)) in cc
+        let whole = e ∙ ap (λ s. slash ∷ s) (sym (slashed_bytes-cons v vs)) in cc

@@ -1,7 +1,8 @@
 -- The components that two lists both begin with, found from the last to the first.
 use Rattle.std.proofs.Common.{◌≡◌, ℕ, suc, ◌+◌, ◌-◌, min, Bool, cond, true, false, List, [], ◌∷◌}
 use Rattle.std.proofs.Common.{◌++◌, length, drop, refl, sym, ap, ap₂, ◌∙◌, arith, append_assoc}
-use Rattle.std.proofs.Common.{length-append, eqb, eqb-true, ltb, ltb-true, ltb-false, map, subst}
+use Rattle.std.proofs.Common.{drop_at, length-append, eqb, eqb-true, ltb, ltb-true, ltb-false}
+use Rattle.std.proofs.Common.{map, subst}
 use Rattle.std.specs.Str.{bytes_eq}
 use Rattle.std.proofs.lemmas.Bool.{false_from_ne_true, eqb-false}
 use Rattle.std.proofs.lemmas.Slice.Eq.{bytes_eq-Decides}
@@ -9,13 +10,15 @@ use Rattle.unix_bytes.proofs.lemmas.lists.ListLemmas.{by_test, drop-suc_cons}
 use Rattle.unix_path.proofs.lemmas.callers.CallerLemmas.{same_value-Decides, shares-common_dir}
 use Rattle.std.proofs.lemmas.List.{get_or_default, get_or_past, map-append}
 use Rattle.unix_path.specs.CommonDir.{common_dir_of, inner_values}
-use Rattle.unix_path.specs.Parts.{Part, inner_parts, Value, Normal, value_bytes, values}
+use Rattle.unix_path.specs.Parts.{dot, slash, Part, inner_parts, Value, Normal, value_bytes}
+use Rattle.unix_path.specs.Parts.{values}
 use Rattle.unix_path.specs.Scan.{is_filler}
 use Rattle.unix_path.specs.Steps.{SharesPrefix}
 use Rattle.unix_path.proofs.lemmas.filler.FillerLemmas.{is_filler-drop, values-not_filler}
 use Rattle.unix_path.proofs.lemmas.parts.PlaceLemmas.{values-inner_parts}
-use Rattle.path_within.specs.Backward.{SharePrefix, TakesLast}
-use Rattle.path_within.specs.NamePieces.{name_starts_at}
+use Rattle.path_within.specs.Backward.{last_names}
+use Rattle.path_within.specs.Below.{names_below}
+use Rattle.unix_path.specs.NameRunEnds.{no_name_starts_at}
 use Rattle.path_within.proofs.lemmas.stack.PathOfLemmas.{ReadsAsItself-values}
 use Rattle.unix_path.specs.Order.{same_value}
 use Rattle.path_within.specs.WrittenBytes.{slashed_len}
@@ -41,6 +44,25 @@ pub record Shares (all_first all_second first second : List Value)
   pub shared_is : shared ≡ remaining_count + shared_count first_taken second_taken
   pub behind_is : behind ≡ slashed_len second_taken
   pub len_is : len ≡ slashed_len (drop (shared_count first_taken second_taken) second_taken)
+
+-- the last `count` components of `all` are taken, and `rest` remain; `len` is the length of the
+-- taken components, with a slash for each
+pub record TakesLast (all rest : List Value) (count len : ℕ) : Type 0 where
+  pub taken : List Value
+  pub all_is : all ≡ rest ++ taken
+  pub count_is : length taken ≡ count
+  pub len_is : len ≡ slashed_len taken
+
+-- the last n of the names that remain of vs are the names that are taken
+pub takes_last_names : (vs : List Value) {rest : List Value} {count len : ℕ}
+    → TakesLast (names_below vs) rest count len
+    → (names_below vs ≡ rest ++ last_names count vs) × (len ≡ slashed_len (last_names count vs))
+takes_last_names vs {rest} {count} h =
+    let last : last_names count vs ≡ h.taken =
+    ap (λ ns. drop (length ns - count) ns) h.all_is
+    ∙ drop_at rest h.taken (length (rest ++ h.taken) - count)
+    (omega (arith, length-append rest h.taken, h.count_is)) in
+    (h.all_is ∙ ap (λ ns. rest ++ ns) (sym last), h.len_is ∙ ap slashed_len (sym last))
 
 -- taking the last remaining component v too adds one to the number of components taken, and adds
 -- the length of v and a slash to their length
@@ -108,15 +130,23 @@ none_shared_if_second_empty v e = ap (shared_count v) e ∙ by v
 -- ---- two paths that begin with the same bytes
 
 -- if a name starts at index n of s, no filler starts there
-not_filler_at_name : (s : List ℕ) (n : ℕ) → name_starts_at s n ≡ true → is_filler (drop n s) 0
-    ≡ false
+not_filler_at_name : (s : List ℕ) (n : ℕ) → no_name_starts_at slash dot s n ≡ false
+    → is_filler (drop n s) 0 ≡ false
 not_filler_at_name s n h =
     grind (arith, is_filler-drop, get_or_default, ltb-true, get_or_past, ltb-false)
 
+-- s and t both begin with the components `shared`; the further components of each string are those
+-- of its bytes from `index` on
+pub record SharePrefix (s t : List ℕ) (index : ℕ) : Type 0 where
+  pub shared : List Value
+  pub first : values s ≡ shared ++ values (drop index s)
+  pub second : values t ≡ shared ++ values (drop index t)
+
 -- if n is the end of the common directory of s and t, and a name starts at index n in both, then s
 -- and t have the same components up to n
-pub share_prefix : (s t : List ℕ) (n : ℕ) → n ≡ common_dir_of s t → name_starts_at s n ≡ true
-    → name_starts_at t n ≡ true → SharePrefix s t n
+pub share_prefix : (s t : List ℕ) (n : ℕ) → n ≡ common_dir_of s t
+    → no_name_starts_at slash dot s n ≡ false → no_name_starts_at slash dot t n ≡ false
+    → SharePrefix s t n
 unfolding values
 share_prefix s t n e first second = by_test (eqb n 0)
     (λ z. subst (SharePrefix s t) (sym (eqb-true n 0 z))
@@ -124,7 +154,7 @@ share_prefix s t n e first second = by_test (eqb n 0)
     (λ z.
     let cut = subst (λ k. SharesPrefix s t (drop k s) (drop k t)) (sym e)
     (shares-common_dir s t (omega (arith, e, eqb-false n 0 z))) in
-    let own : (u : List ℕ) → name_starts_at u n ≡ true
+    let own : (u : List ℕ) → no_name_starts_at slash dot u n ≡ false
     → inner_values (drop n u) ≡ values (drop n u) =
     λ u h. sym (values-not_filler (drop n u) (not_filler_at_name u n h)) in
     record {
@@ -147,4 +177,4 @@ pub after_shared_end : {u v : List ℕ} (s t : List ℕ) {n : ℕ} → SharePref
 after_shared_end {u} {v} s t h e f =
     grind (arith, shared_count-behind, drop-append-add)
 
-pub ruleset skip_last_names_cases = (length-append, takes_last, slashed_len-push)
+pub ruleset skip_last_names_cases = (length-append, takes_last, takes_last_names, slashed_len-push)

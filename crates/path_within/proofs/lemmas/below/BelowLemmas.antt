@@ -2,14 +2,14 @@
 -- after resolving (`names_below`).
 use Rattle.std.proofs.Common.{◌≡◌, ℕ, ◌+◌, ◌≤◌, ◌<◌, true, false, List, [], ◌∷◌, ◌++◌, length, map}
 use Rattle.std.proofs.Common.{refl, sym, ap, subst, ◌∙◌, arith, append_assoc, append-nil}
-use Rattle.std.proofs.Common.{◌-◌, drop, take, length-append, take-append-drop, rules}
+use Rattle.std.proofs.Common.{◌-◌, cond, drop, take, length-append, take-append-drop, rules}
 use Rattle.std.specs.List.{AllByRecursion}
 use Rattle.std.specs.Prelude.{fold}
-use Rattle.unix_path.specs.Joins.{join_of}
+use Rattle.unix_path.specs.Joins.{join_of, needs_no_separator}
 use Rattle.unix_path.specs.Parts.{Value, RootDir, Normal, is_rooted, slash, value_bytes, values}
 use Rattle.unix_path.specs.Prefixes.{IsPrefixOf, stripped_of}
 use Rattle.path_runs.specs.Spelling.{slashed_bytes}
-use Rattle.path_runs.proofs.lemmas.joins.AssociativeLemmas.{separator}
+use Rattle.path_runs.proofs.lemmas.joins.AssociativeLemmas.{join_of-separator, separator}
 use Rattle.path_runs.proofs.lemmas.spelling.JoinAllLemmas.{joins-some, unslashed_bytes}
 use Rattle.path_runs.proofs.lemmas.spelling.UnslashedLemmas.{IsUnslashedValue, Shape, Rooted}
 use Rattle.path_runs.proofs.lemmas.spelling.UnslashedLemmas.{Rootless, values-shape}
@@ -19,11 +19,12 @@ use Rattle.path_runs.proofs.lemmas.lists.AllLemmas.{AllByRecursion-end}
 use Rattle.path_within.specs.Backward.{last_names}
 use Rattle.path_within.specs.Below.{below_of, has_nul, names_below, IsBelow}
 use Rattle.path_within.specs.Escapes.{has_root_or_parent_dir}
-use Rattle.path_within.specs.NamePieces.{is_names_only}
+use Rattle.path_within.specs.NamePieces.{has_only_name_pieces, is_names_only}
 use Rattle.path_within.specs.Resolved.{AllNames, resolved_bytes_of}
-use Rattle.path_within.specs.Steps.{ReadsAsItself}
-use Rattle.path_within.specs.WrittenBytes.{root_prefix, AreVerbatim}
-use Rattle.path_within.proofs.lemmas.below.BoundLemmas.{slashed_bytes-names}
+use Rattle.path_within.proofs.lemmas.stack.Stacks.{ReadsAsItself}
+use Rattle.path_within.proofs.lemmas.below.BoundLemmas.{AreVerbatim}
+use Rattle.path_within.proofs.lemmas.below.BoundLemmas.{length-le-slashed_len}
+use Rattle.path_within.proofs.lemmas.below.BoundLemmas.{slashed_bytes-names, slashed_len-names}
 use Rattle.path_within.proofs.lemmas.below.NamesBelowLemmas.{AllNames-names_below}
 use Rattle.path_within.proofs.lemmas.below.NamesBelowLemmas.{names_below-names, resolved_of-slash}
 use Rattle.path_within.proofs.lemmas.below.NulLemmas.{has_nul-values, no_nul-below}
@@ -31,6 +32,8 @@ use Rattle.path_within.proofs.lemmas.stack.StackLemmas.{names_straight}
 use Rattle.path_within.proofs.lemmas.stack.PathOfLemmas.{ReadsAsItself-values}
 use Rattle.path_within.proofs.lemmas.stack.RelativePathLemmas.{spelling_of-straight}
 use Rattle.path_within.proofs.lemmas.names_only.NamesOnlyLemmas.{names_only_has_names}
+use Rattle.path_within.proofs.lemmas.names_only.NamesOnlyLemmas.{name_pieces-rootless}
+use Rattle.unix_bytes.proofs.lemmas.lists.ListLemmas.{by_test}
 use Rattle.path_within.proofs.lemmas.stack.ResolveLemmas.{values-resolved}
 use Rattle.path_within.proofs.lemmas.names_only.RequestLemmas.{names_down}
 
@@ -71,6 +74,10 @@ unslashed_last n b =
     AllByRecursion-end IsUnslashedValue (take k names) (drop k names)
     (subst (AllByRecursion IsUnslashedValue) (sym (take-append-drop k names)) (unslashed_names b))
 
+-- the root prefix of a join: the root's bytes, and a slash unless they are empty or end in one
+abbrev pub root_prefix : List ℕ → List ℕ
+root_prefix root = root ++ separator root
+
 -- if vs is not empty, and no component of vs begins or ends with a slash, the join of the root and
 -- vs is the root prefix and then the components of vs, with slashes between them
 pub below_of-some : (root : List ℕ) (vs : List Value) → AllByRecursion IsUnslashedValue vs
@@ -79,12 +86,13 @@ unfolding below_of
 below_of-some root [] h some = absurd (omega arith)
 below_of-some root (v ∷ vs) h some = grind (arith, joins-some, unslashed_bytes)
 
--- if the bytes `names` are the resolved names of b, verbatim, the join of the root and the resolved
--- names of b is the root prefix and then these bytes
-pub below_of-verbatim : {names : List ℕ} (root b : List ℕ)
-    → AreVerbatim names (names_below (values b))
-    → root_prefix root ++ names ≡ below_of root (names_below (values b))
-below_of-verbatim root b h = grind (arith, below_of-some, unslashed_names)
+-- if b is its resolved names, verbatim, the join of the root and b is the join of the root and
+-- these names
+pub below_of-verbatim : (root b : List ℕ) → is_rooted b ≡ false
+    → AreVerbatim b (names_below (values b))
+    → join_of root b ≡ below_of root (names_below (values b))
+below_of-verbatim root b r h =
+    join_of-separator root b r ∙ grind (arith, below_of-some, unslashed_names)
 
 -- ---- components
 
@@ -156,12 +164,23 @@ pub begins : {s : List ℕ} (root b : List ℕ) → s ≡ below_of root (names_b
     → IsPrefixOf root s
 begins root b e = let h = after_root root b in (h.more, h.is ∙ sym e)
 
--- if s is the root prefix and then b, the join of the root and the resolved names of b is no longer
+-- if s is the join of the root and b, the join of the root and the resolved names of b is no longer
 -- than s
-pub length-below : {s : List ℕ} (root b : List ℕ) → s ≡ root_prefix root ++ b
+pub length-below : {s : List ℕ} (root b : List ℕ) → is_rooted b ≡ false → s ≡ join_of root b
     → length (below_of root (names_below (values b))) ≤ length s
-length-below root b e =
+length-below {s} root b r e =
+    let whole : s ≡ root_prefix root ++ b = e ∙ join_of-separator root b r in
     grind (arith, after_root root b, length-append, length-append (root_prefix root) b)
+
+-- the join of the root and the resolved names of b is at most one byte longer than the root and b
+-- together
+pub length-below_of : (root b : List ℕ)
+    → length (below_of root (names_below (values b))) ≤ length root + 1 + length b
+length-below_of root b = by_test (needs_no_separator root)
+    (λ e. let short : length (separator root) ≡ 0 = rw e refl in
+    grind (arith, after_root root b, length-append))
+    (λ e. let short : length (separator root) ≡ 1 = rw e refl in
+    grind (arith, after_root root b, length-append))
 
 -- ---- a path whose bytes are its names joined by slashes
 
@@ -170,5 +189,23 @@ pub names_only_verbatim : (b : List ℕ) → is_names_only b ≡ true → is_roo
     → AreVerbatim b (names_below (values b))
 names_only_verbatim b names_only r =
     grind (arith, names_only_has_names, spelling_of-straight, names_straight, names_below-names)
+
+-- if all pieces of b are names, b is its names with single slashes between them
+pub pieces_verbatim : (b : List ℕ) → has_only_name_pieces b ≡ true
+    → AreVerbatim b (names_below (values b))
+pieces_verbatim b h =
+    let r = name_pieces-rootless b h in
+    names_only_verbatim b (ap (λ c. has_only_name_pieces (cond c (drop 1 b) b)) r ∙ h) r
+
+-- if all pieces of b are names, and n is greater than the length of b, b is its last n names with
+-- single slashes between them
+pub last_verbatim : (n : ℕ) (b : List ℕ) → has_only_name_pieces b ≡ true → length b < n
+    → AreVerbatim b (last_names n (values b))
+last_verbatim n b h more =
+    let names = names_below (values b) in
+    let whole : drop (length names - n) names ≡ names =
+    ap (λ k. drop k names) {x = length names - n} {y = 0}
+    (omega (arith, length-le-slashed_len names, slashed_len-names b)) in
+    subst (AreVerbatim b) (sym whole) (pieces_verbatim b h)
 
 pub ruleset root_fill_cases = (names_only_verbatim, below_of-verbatim)

@@ -1,6 +1,6 @@
 -- A resolved path is no longer than the path.
-use Rattle.std.proofs.Common.{◌≡◌, ℕ, ◌+◌, ◌-◌, ◌≤◌, false, List, [], ◌∷◌, length, reverse, refl}
-use Rattle.std.proofs.Common.{sym, ap, ◌∙◌, arith, length-append}
+use Rattle.std.proofs.Common.{◌≡◌, ℕ, ◌+◌, ◌-◌, ◌<◌, ◌≤◌, false, List, [], ◌∷◌, length, reverse}
+use Rattle.std.proofs.Common.{refl, sym, ap, ◌∙◌, arith, length-append}
 use Rattle.std.specs.List.{sum_by}
 use Rattle.std.proofs.lemmas.List.Sorted.{IsPermutation-reverse, sum_by-IsPermutation}
 use Rattle.std.proofs.lemmas.List.Sums.{sum_by-append, sum_by-cons}
@@ -14,7 +14,8 @@ use Rattle.path_runs.proofs.lemmas.spelling.LeanLemmas.{slashed_bytes-lean}
 use Rattle.path_runs.proofs.lemmas.spelling.PieceValueLemmas.{is_rooted-slash}
 use Rattle.path_runs.proofs.lemmas.spelling.SpellLemmas.{spelling_of-root}
 use Rattle.path_within.specs.Below.{names_below}
-use Rattle.path_within.specs.Resolved.{push_component, resolve_onto, resolved_of, resolved_bytes_of}
+use Rattle.path_within.specs.Resolved.{push_component, resolved_of, resolved_bytes_of}
+use Rattle.path_within.proofs.lemmas.stack.Stacks.{resolve_onto}
 use Rattle.path_within.specs.WrittenBytes.{slashed_len}
 use Rattle.path_within.proofs.lemmas.stack.ResolveLemmas.{resolve_onto-drop_dot}
 use Rattle.path_within.proofs.lemmas.below.NamesBelowLemmas.{names_on_stack, names_below-inner}
@@ -72,6 +73,16 @@ length-slashed_bytes (v ∷ w ∷ vs) = omega (
   length-slashed_bytes (w ∷ vs),
   length-append (value_bytes v) (slash ∷ slashed_bytes (w ∷ vs)),
 )
+
+-- there is at least one name, and the bytes are the names with single slashes between them
+pub record AreVerbatim (bytes : List ℕ) (names : List Value) : Type 0 where
+  pub some : 0 < length names
+  pub is : bytes ≡ slashed_bytes names
+
+-- the number of components is at most their length with a slash for each
+pub length-le-slashed_len : (vs : List Value) → length vs ≤ slashed_len vs
+length-le-slashed_len [] = omega arith
+length-le-slashed_len (v ∷ vs) = grind (arith, slashed_len-cons v vs, length-le-slashed_len vs)
 
 -- the inner components of a path (all except its root or leading `.`), with a slash for each, are
 -- no longer than the path and a slash

@@ -6,16 +6,16 @@ use Rattle.std.proofs.lemmas.Bool.Decides.{nat_tests}
 use Rattle.std.proofs.lemmas.Grind.{reverse_onto}
 use Rattle.std.proofs.lemmas.List.{reverse-append, reverse-reverse, take_rest}
 use Rattle.unix_path.specs.CommonDir.{inner_values}
-use Rattle.unix_path.specs.Parts.{Value, RootDir, CurDir, ParentDir, Normal, slash}
+use Rattle.unix_path.specs.Parts.{Value, RootDir, CurDir, ParentDir, Normal, is_rooted, slash}
 use Rattle.unix_path.specs.Parts.{values}
 use Rattle.unix_bytes.proofs.lemmas.lists.ListLemmas.{drop-suc_cons}
 use Rattle.path_runs.specs.JoinLaws.{drop_dot, drop_leading}
 use Rattle.path_runs.proofs.lemmas.joins.LeadLemmas.{drop_leading-values}
 use Rattle.path_runs.proofs.lemmas.spelling.PieceValueLemmas.{inner_values-pieces, values-rooted}
-use Rattle.path_within.specs.Resolved.{AllNames, resolve_onto, resolved_of}
+use Rattle.path_within.specs.Resolved.{AllNames, resolved_of}
+use Rattle.path_within.proofs.lemmas.stack.Stacks.{resolve_onto}
 use Rattle.path_within.specs.Below.{names_below, has_nul, after_leading_slashes}
 use Rattle.path_within.specs.Escapes.{Escapes}
-use Rattle.path_within.specs.WrittenBytes.{RepresentsNames}
 use Rattle.path_within.proofs.lemmas.stack.EscapeLemmas.{keeps_stack}
 use Rattle.path_within.proofs.lemmas.stack.StackLemmas.{names_reverse}
 use Rattle.path_within.proofs.lemmas.stack.RelativePathLemmas.{resolve_onto-names}
@@ -95,6 +95,11 @@ names_below-slash t = ap names_below (values-slash t) ∙ names_below-inner t
 pub resolved_of-slash : (t : List ℕ)
     → resolved_of (values (slash ∷ t)) ≡ RootDir ∷ names_below (values t)
 resolved_of-slash t = simp (values-slash, resolved_of-below, names_below-inner)
+
+-- t has no root, and the same names remain of t and s after resolving
+pub record RepresentsNames (t s : List ℕ) : Type 0 where
+  pub rootless : is_rooted t ≡ false
+  pub names : names_below (values t) ≡ names_below (values s)
 
 -- the bytes after the leading slashes represent the path's names, and have no NUL if the path has
 -- none

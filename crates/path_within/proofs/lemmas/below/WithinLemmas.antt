@@ -4,7 +4,8 @@ use Rattle.std.proofs.lemmas.List.{reverse-append}
 use Rattle.unix_path.specs.Joins.{join_of}
 use Rattle.unix_path.specs.Parts.{values}
 use Rattle.unix_path.specs.Prefixes.{IsPrefixOf}
-use Rattle.path_within.specs.Resolved.{resolve_onto, resolved_of, resolved_bytes_of, AllNames}
+use Rattle.path_within.specs.Resolved.{resolved_of, resolved_bytes_of, AllNames}
+use Rattle.path_within.proofs.lemmas.stack.Stacks.{resolve_onto}
 use Rattle.path_within.specs.Escapes.{Escapes}
 use Rattle.path_within.proofs.lemmas.stack.EscapeLemmas.{keeps_stack}
 use Rattle.path_within.proofs.lemmas.stack.ResolveLemmas.{resolve_onto-join, values-resolved}

@@ -1,8 +1,12 @@
 -- A path of names only is resolved already: it consists of names, or of the root and then names.
-use Rattle.std.proofs.Common.{◌≡◌, ℕ, true, false, cond, List, [], ◌∷◌, drop, length}
+use Rattle.std.proofs.Common.{◌≡◌, ℕ, Bool, ◌&&◌, not, true, false, cond, List, [], ◌∷◌, drop}
+use Rattle.std.proofs.Common.{length}
 use Rattle.std.proofs.Common.{refl, sym, ap, ◌∙◌, arith}
 use Rattle.std.specs.List.{list_all, slice_split}
-use Rattle.unix_path.specs.Parts.{is_slash, counts, is_rooted, values}
+use Rattle.std.specs.Str.{bytes_eq}
+use Rattle.std.proofs.lemmas.List.Splits.{slice_split-cons_yes}
+use Rattle.unix_bytes.proofs.lemmas.lists.ListLemmas.{by_test}
+use Rattle.unix_path.specs.Parts.{is_slash, counts, is_rooted, parent_dir, values}
 use Rattle.unix_path.proofs.lemmas.parts.PartLemmas.{values-nil}
 use Rattle.path_runs.specs.Spelling.{spelling_of}
 use Rattle.path_runs.proofs.lemmas.joins.LeadLemmas.{dot_first}
@@ -11,9 +15,13 @@ use Rattle.path_runs.proofs.lemmas.spelling.OwnSpellingLemmas.{spelling_of-own_r
 use Rattle.path_runs.proofs.lemmas.spelling.PieceValueLemmas.{is_rooted-slash, names_of}
 use Rattle.path_runs.proofs.lemmas.spelling.PieceValueLemmas.{values-rooted, values-rootless}
 use Rattle.path_within.specs.Resolved.{AllNames, resolved_of, resolved_bytes_of}
-use Rattle.path_within.specs.NamePieces.{is_name_piece, has_only_name_pieces, is_names_only}
+use Rattle.path_within.specs.NamePieces.{has_only_name_pieces, is_names_only}
 use Rattle.path_within.proofs.lemmas.stack.StackLemmas.{names_normal}
 use Rattle.path_within.proofs.lemmas.names_only.NormalLemmas.{resolved_if_normal}
+
+-- the piece is a name: neither empty, nor `.`, nor `..`
+abbrev pub is_name_piece : List ℕ → Bool
+is_name_piece piece = counts piece && not (bytes_eq piece parent_dir)
 
 -- pieces that are names count as components, because none is empty or `.`
 name_pieces_count : (ps : List (List ℕ)) → list_all is_name_piece ps ≡ true
@@ -45,7 +53,7 @@ canonical_if_names_only : (s : List ℕ) → has_only_name_pieces s ≡ true →
 canonical_if_names_only s h r = grind (arith, spelling_of-own_rootless, name_pieces_count)
 
 -- if a path of names only has no root, all its pieces are names
-is_names_only-rootless : (s : List ℕ) → is_names_only s ≡ true → is_rooted s ≡ false
+pub is_names_only-rootless : (s : List ℕ) → is_names_only s ≡ true → is_rooted s ≡ false
     → has_only_name_pieces s ≡ true
 is_names_only-rootless s h r = sym (ap (λ c. has_only_name_pieces (cond c (drop 1 s) s)) r) ∙ h
 
@@ -53,6 +61,13 @@ is_names_only-rootless s h r = sym (ap (λ c. has_only_name_pieces (cond c (drop
 is_names_only-rooted : (s : List ℕ) → is_names_only s ≡ true → is_rooted s ≡ true
     → has_only_name_pieces (drop 1 s) ≡ true
 is_names_only-rooted s h r = sym (ap (λ c. has_only_name_pieces (cond c (drop 1 s) s)) r) ∙ h
+
+-- if all pieces of a path are names, it has no root
+pub name_pieces-rootless : (s : List ℕ) → has_only_name_pieces s ≡ true → is_rooted s ≡ false
+name_pieces-rootless [] h = refl
+name_pieces-rootless (b ∷ s) h = by_test (is_slash b)
+    (λ e. let no : false ≡ true =
+    sym (ap (list_all is_name_piece) (slice_split-cons_yes is_slash b s e)) ∙ h in cc) (λ e. e)
 
 -- a path of names only is resolved already
 pub resolved-names_only : (s : List ℕ) → is_names_only s ≡ true → resolved_bytes_of s ≡ s

@@ -4,10 +4,11 @@ use Rattle.std.proofs.Common.{subst, ◌∙◌, take-append-drop, arith}
 use Rattle.unix_path.specs.Joins.{join_of}
 use Rattle.unix_path.specs.Parts.{Value, values}
 use Rattle.path_runs.specs.Spelling.{spelling_of}
-use Rattle.path_within.specs.Resolved.{ParentDirsThenNames, IsNormal, resolve_onto, resolved_of}
+use Rattle.path_within.specs.Resolved.{ParentDirsThenNames, IsNormal, resolved_of}
+use Rattle.path_within.proofs.lemmas.stack.Stacks.{resolve_onto}
 use Rattle.path_within.specs.Resolved.{resolved_bytes_of}
 use Rattle.path_within.specs.RelativePaths.{relative_path_of}
-use Rattle.path_within.specs.Steps.{ReadsAsItself, IsStack}
+use Rattle.path_within.proofs.lemmas.stack.Stacks.{ReadsAsItself, IsStack}
 use Rattle.path_within.proofs.lemmas.stack.StackLemmas.{IsStack-resolve_onto, resolve_onto-append}
 use Rattle.path_within.proofs.lemmas.stack.StackLemmas.{resolve_onto-stack}
 use Rattle.path_within.proofs.lemmas.stack.StackLemmas.{resolved_normal, straight_normal}

@@ -6,10 +6,12 @@ use Rattle.std.proofs.lemmas.List.{reverse-append}
 use Rattle.unix_path.specs.Joins.{join_of}
 use Rattle.unix_path.specs.Parts.{Value, RootDir, CurDir, ParentDir, Normal, is_rooted, values}
 use Rattle.unix_path.proofs.lemmas.rests.RootLemmas.{NoRoot}
-use Rattle.path_within.specs.Resolved.{AllNames, resolve_onto, push_parent_dir, resolved_of}
+use Rattle.path_within.specs.Resolved.{AllNames, resolved_of}
+use Rattle.path_within.proofs.lemmas.stack.Stacks.{resolve_onto, push_parent_dir}
 use Rattle.path_within.specs.Resolved.{resolved_bytes_of}
-use Rattle.path_within.specs.Steps.{IsStack}
-use Rattle.path_within.specs.RelativePaths.{is_root, relative_path_of}
+use Rattle.path_within.proofs.lemmas.stack.Stacks.{IsStack}
+use Rattle.path_within.specs.Escapes.{is_root}
+use Rattle.path_within.specs.RelativePaths.{relative_path_of}
 use Rattle.path_within.proofs.lemmas.stack.BetweenLemmas.{list_any-reverse, some_steps, steps_from}
 use Rattle.path_within.proofs.lemmas.stack.EscapeLemmas.{rootless-no_roots}
 use Rattle.path_within.proofs.lemmas.stack.StackLemmas.{IsStack-resolve_onto, names_reverse}

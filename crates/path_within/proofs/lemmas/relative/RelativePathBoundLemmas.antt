@@ -9,8 +9,9 @@ use Rattle.path_runs.specs.Spelling.{spelling_of}
 use Rattle.path_runs.proofs.lemmas.spelling.PieceValueLemmas.{is_rooted-slash}
 use Rattle.path_within.specs.Below.{names_below}
 use Rattle.path_within.specs.Resolved.{resolved_of}
-use Rattle.path_within.specs.Steps.{ReadsAsItself}
-use Rattle.path_within.specs.RelativePaths.{is_root, relative_path_of}
+use Rattle.path_within.proofs.lemmas.stack.Stacks.{ReadsAsItself}
+use Rattle.path_within.specs.Escapes.{is_root}
+use Rattle.path_within.specs.RelativePaths.{relative_path_of}
 use Rattle.path_within.specs.WrittenBytes.{slashed_len}
 use Rattle.path_within.proofs.lemmas.stack.BetweenLemmas.{shared_count, steps_between-is}
 use Rattle.path_within.proofs.lemmas.stack.BetweenLemmas.{parent_dirs_for}

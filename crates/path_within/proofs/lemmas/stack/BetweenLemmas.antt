@@ -1,6 +1,6 @@
 -- The common prefix of two lists of components, and the relative path between the rests.
-use Rattle.std.proofs.Common.{◌≡◌, ℕ, ◌+◌, true, false, List, [], ◌∷◌, ◌++◌, length, take, drop}
-use Rattle.std.proofs.Common.{map, reverse, Option, Some, None, refl, arith}
+use Rattle.std.proofs.Common.{◌≡◌, ℕ, ◌+◌, ◌&&◌, cond, not, true, false, List, [], ◌∷◌, ◌++◌}
+use Rattle.std.proofs.Common.{length, take, drop, map, reverse, Option, Some, None, refl, arith}
 use Rattle.std.specs.List.{common_prefix_len, list_all, list_any}
 use Rattle.std.proofs.Math.Seq.{drop-append-add}
 use Rattle.std.proofs.lemmas.Grind.{common_steps, reverse_onto}
@@ -9,12 +9,17 @@ use Rattle.unix_path.specs.Order.{same_value}
 use Rattle.unix_path.specs.Parts.{Value, ParentDir}
 use Rattle.unix_bytes.proofs.lemmas.lists.ListLemmas.{take-suc_cons}
 use Rattle.unix_path.proofs.lemmas.callers.CallerLemmas.{same_value-Decides}
-use Rattle.path_within.specs.Escapes.{is_name}
-use Rattle.path_within.specs.RelativePaths.{is_root, steps_between}
+use Rattle.path_within.specs.Escapes.{is_name, is_root}
 
 -- the length of the common prefix of two lists
 abbrev pub shared_count : List Value → List Value → ℕ
 shared_count v w = common_prefix_len same_value v w
+
+-- the relative path from the directory v to the path w, which have no common prefix: `..` for each
+-- name of v, and then w; `None` if v has a component that is not a name, or if w has a root
+abbrev pub steps_between : List Value → List Value → Option (List Value)
+steps_between v w = cond (list_all is_name v && not (list_any is_root w))
+    (Some (map (λ x. ParentDir) v ++ w)) None
 
 -- the relative path from v to w, which are resolved already: `steps_between` of their rests after
 -- their common prefix

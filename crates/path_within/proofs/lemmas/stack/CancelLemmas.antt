@@ -9,9 +9,10 @@ use Rattle.unix_bytes.proofs.lemmas.lists.ListLemmas.{by_test}
 use Rattle.path_runs.proofs.lemmas.spelling.PieceValueLemmas.{HoldsOfPieces}
 use Rattle.path_runs.proofs.lemmas.spelling.PieceValueLemmas.{values-hold_rooted}
 use Rattle.path_runs.proofs.lemmas.spelling.PieceValueLemmas.{values-hold_rootless}
-use Rattle.path_within.specs.Resolved.{resolve_onto, resolved_of}
+use Rattle.path_within.specs.Resolved.{resolved_of}
+use Rattle.path_within.proofs.lemmas.stack.Stacks.{resolve_onto}
 use Rattle.path_within.specs.ResolvedLaws.{Resolves}
-use Rattle.path_within.specs.Steps.{IsStack}
+use Rattle.path_within.proofs.lemmas.stack.Stacks.{IsStack}
 use Rattle.path_within.proofs.lemmas.stack.RelativePathLemmas.{resolved_of-normal}
 use Rattle.path_within.proofs.lemmas.stack.StackLemmas.{resolve_onto-append, stack_normal}
 

@@ -10,7 +10,8 @@ use Rattle.unix_path.specs.Parts.{Value, RootDir, CurDir, ParentDir, Normal, is_
 use Rattle.unix_path.proofs.lemmas.parts.PartLemmas.{root_first, root_first-values}
 use Rattle.unix_path.proofs.lemmas.rests.RootLemmas.{NoRoot, rooted-IsPrefixOf}
 use Rattle.path_runs.proofs.lemmas.joins.LeadLemmas.{IsInner, inner-behind}
-use Rattle.path_within.specs.Resolved.{AllNames, resolve_onto}
+use Rattle.path_within.specs.Resolved.{AllNames}
+use Rattle.path_within.proofs.lemmas.stack.Stacks.{resolve_onto}
 use Rattle.path_within.specs.Escapes.{Escapes, is_name, is_parent_dir}
 
 -- the components vs escape from depth n, which means after n names: vs has a root, or some `..` of

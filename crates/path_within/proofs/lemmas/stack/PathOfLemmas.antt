@@ -20,8 +20,10 @@ use Rattle.path_runs.proofs.lemmas.joins.LeadLemmas.{append_values-inner, values
 use Rattle.path_runs.proofs.lemmas.spelling.PieceValueLemmas.{HoldsOfPieces, names_of, NoSlash}
 use Rattle.path_runs.proofs.lemmas.spelling.PieceValueLemmas.{values-hold, values-rooted}
 use Rattle.path_runs.proofs.lemmas.spelling.PieceValueLemmas.{values-rootless}
-use Rattle.path_within.specs.Resolved.{push_component, resolve_onto}
-use Rattle.path_within.specs.Steps.{ReadsAsItself, IsStack, ValueReadsAsItself, path_of}
+use Rattle.path_within.specs.Resolved.{push_component}
+use Rattle.path_within.proofs.lemmas.stack.Stacks.{resolve_onto}
+use Rattle.path_within.proofs.lemmas.stack.Stacks.{IsStack, ReadsAsItself}
+use Rattle.path_within.proofs.lemmas.stack.Stacks.{ValueReadsAsItself, path_of}
 use Rattle.path_within.proofs.lemmas.stack.StackLemmas.{IsStack-parent_dir_run}
 
 pub ValueReadsAsItself-dot : ValueReadsAsItself CurDir

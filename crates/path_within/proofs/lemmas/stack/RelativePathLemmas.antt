@@ -7,11 +7,12 @@ use Rattle.std.proofs.lemmas.List.{reverse-reverse}
 use Rattle.unix_path.specs.Parts.{Value, RootDir, ParentDir, Normal}
 use Rattle.path_runs.specs.Spelling.{slashed_bytes, spelling_of}
 use Rattle.path_within.specs.Escapes.{is_name}
-use Rattle.path_within.specs.Resolved.{AllNames, ParentDirsThenNames, IsNormal, resolve_onto}
+use Rattle.path_within.specs.Resolved.{AllNames, ParentDirsThenNames, IsNormal}
+use Rattle.path_within.proofs.lemmas.stack.Stacks.{resolve_onto}
 use Rattle.path_within.specs.Resolved.{resolved_of}
-use Rattle.path_within.specs.Resolved.{push_parent_dir}
-use Rattle.path_within.specs.Steps.{AllParentDirs}
-use Rattle.path_within.specs.RelativePaths.{is_root}
+use Rattle.path_within.proofs.lemmas.stack.Stacks.{push_parent_dir}
+use Rattle.path_within.proofs.lemmas.stack.Stacks.{AllParentDirs}
+use Rattle.path_within.specs.Escapes.{is_root}
 use Rattle.path_within.proofs.lemmas.stack.StackLemmas.{resolve_onto-append, names_straight}
 use Rattle.path_within.proofs.lemmas.stack.StackLemmas.{push_parent_dir_grows}
 use Rattle.path_within.proofs.lemmas.stack.BetweenLemmas.{parent_dirs_for}

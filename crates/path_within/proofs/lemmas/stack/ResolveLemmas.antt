@@ -9,8 +9,9 @@ use Rattle.path_runs.specs.Spelling.{spelling_of}
 use Rattle.path_runs.proofs.lemmas.joins.LeadLemmas.{values-join_of_values_added}
 use Rattle.path_runs.proofs.lemmas.spelling.PieceValueLemmas.{is_rooted-slash, values-rooted}
 use Rattle.path_runs.proofs.lemmas.lists.AllLemmas.{AllByRecursion-end}
-use Rattle.path_within.specs.Resolved.{resolve_onto, resolved_of, resolved_bytes_of}
-use Rattle.path_within.specs.Steps.{ReadsAsItself, ValueReadsAsItself}
+use Rattle.path_within.specs.Resolved.{resolved_of, resolved_bytes_of}
+use Rattle.path_within.proofs.lemmas.stack.Stacks.{resolve_onto}
+use Rattle.path_within.proofs.lemmas.stack.Stacks.{ReadsAsItself, ValueReadsAsItself}
 use Rattle.path_within.proofs.lemmas.stack.StackLemmas.{IsStack-resolve_onto, resolve_onto-append}
 use Rattle.path_within.proofs.lemmas.stack.StackLemmas.{resolved_of-append}
 use Rattle.path_within.proofs.lemmas.stack.PathOfLemmas.{ReadsAsItself-resolve_onto}

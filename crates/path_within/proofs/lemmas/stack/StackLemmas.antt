@@ -2,10 +2,11 @@
 use Rattle.std.proofs.Common.{◌≡◌, List, [], ◌∷◌, ◌++◌, reverse, refl, sym, ap, ◌∙◌, arith}
 use mathlib.Core.List.{reverse_aux}
 use Rattle.unix_path.specs.Parts.{Value, RootDir, CurDir, ParentDir, Normal}
-use Rattle.path_within.specs.Resolved.{push_parent_dir, push_component, resolve_onto, resolved_of}
+use Rattle.path_within.specs.Resolved.{push_component, resolved_of}
+use Rattle.path_within.proofs.lemmas.stack.Stacks.{push_parent_dir, resolve_onto}
 use Rattle.path_within.specs.Resolved.{AllNames}
 use Rattle.path_within.specs.Resolved.{ParentDirsThenNames, IsNormal}
-use Rattle.path_within.specs.Steps.{AllParentDirs, IsStack}
+use Rattle.path_within.proofs.lemmas.stack.Stacks.{AllParentDirs, IsStack}
 
 -- components that are all `..` are a stack
 pub IsStack-parent_dir_run : (ks : List Value) → AllParentDirs ks → IsStack ks

@@ -19,8 +19,9 @@ loop-part-init c =
     let second = c.components-other_rest.ensures.values in
     let both = ap₂ shared_count first second in
     let index = c.shared_end-index.result in
+    let shared = c.shared_end-index.ensures.shared in
     let past = after_shared_end c.args.from.bytes.now c.args.to.bytes.now
-    c.shared_end-index.ensures.shared
+    (record { shared = shared.0; first = shared.1; second = shared.2 })
     (c.from_bytes.ensures.bytes ∙ take_rest c.args.from.bytes.now index)
     (c.from_bytes-2.ensures.bytes ∙ take_rest c.args.to.bytes.now index) in
     record {

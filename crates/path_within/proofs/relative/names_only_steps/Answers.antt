@@ -4,7 +4,7 @@ use Rattle.unix_path.specs.Parts.{ParentDir, values}
 use Rattle.path_within.specs.Below.{names_below}
 use Rattle.path_within.specs.Resolved.{AllNames}
 use Rattle.path_within.proofs.lemmas.backward.StepLemmas.{names_only_relative_path}
-use Rattle.path_within.proofs.lemmas.below.BelowLemmas.{names_only_verbatim}
+use Rattle.path_within.proofs.lemmas.names_only.NamesOnlyLemmas.{is_names_only-rootless}
 use Rattle.path_within.proofs.lemmas.below.NamesBelowLemmas.{names_below-names}
 use Rattle.path_within.proofs.lemmas.names_only.RequestLemmas.{names_down, request_rootless}
 use Rattle.path_within.proofs.relative.names_only_steps.Goals as goal
@@ -15,7 +15,7 @@ names_of-requires c is_true =
     c.requires.to
     c.requires.roots in
     let other_rest = c.after_shared.result.1.bytes.now in
-    names_only_verbatim other_rest (c.is_names_only.ensures is_true) (request_rootless other_rest
+    is_names_only-rootless other_rest (c.is_names_only.ensures is_true) (request_rootless other_rest
     (names_down (values other_rest)
     (subst AllNames (sym c.after_shared.ensures.second) steps.names)))
 

@@ -1,6 +1,7 @@
 use Rattle.std.proofs.Common.{arith}
 use Rattle.std.proofs.lemmas.List.Sums.{common_prefix_len-le}
-use Rattle.path_within.proofs.lemmas.backward.LayoutLemmas.{length-le-slashed_len, length-rootless}
+use Rattle.path_within.proofs.lemmas.backward.LayoutLemmas.{length-rootless}
+use Rattle.path_within.proofs.lemmas.below.BoundLemmas.{length-le-slashed_len}
 use Rattle.path_within.proofs.lemmas.backward.StepLemmas.{last_others}
 use Rattle.path_within.proofs.lemmas.backward.StepLemmas.{no_relative_path-parent_dir_run}
 use Rattle.path_within.proofs.lemmas.backward.StepLemmas.{relative_path-shared}

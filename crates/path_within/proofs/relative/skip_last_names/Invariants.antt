@@ -1,6 +1,6 @@
 use Rattle.std.proofs.Common.{◌+◌, ◌-◌, ◌≤◌, ◌<◌, ◌^◌, length}
 use Rattle.path_within.specs.Pieces.{remaining_values}
-use Rattle.path_within.specs.Backward.{TakesLast}
+use Rattle.path_within.proofs.lemmas.backward.SharedLemmas.{TakesLast}
 use Rattle.path_within.specs.Below.{names_below}
 use Rattle.path_within.specs.WrittenBytes.{slashed_len}
 use Rattle.path_within.proofs.relative.skip_last_names.Given as goal

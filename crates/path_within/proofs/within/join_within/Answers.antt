@@ -2,7 +2,7 @@ use Rattle.std.proofs.Common.{arith}
 use Rattle.unix_path.specs.Parts.{values}
 use Rattle.path_within.specs.Escapes.{Escapes}
 use Rattle.path_within.proofs.lemmas.below.BelowLawLemmas.{resolved-names_only_join}
-use Rattle.path_within.proofs.lemmas.below.BelowLemmas.{names_only_verbatim}
+use Rattle.path_within.proofs.lemmas.names_only.NamesOnlyLemmas.{is_names_only-rootless}
 use Rattle.path_within.proofs.lemmas.below.NamesBelowLemmas.{names_below-resolved}
 use Rattle.path_within.proofs.lemmas.stack.EscapeLemmas.{rootless-stays}
 use Rattle.path_within.proofs.lemmas.below.WithinLemmas.{begins-within, resolved_of-within}
@@ -36,7 +36,7 @@ returns-in_err-join-clause-succeeds c =
 pub names_of-names-requires : goal.names_of-names-requires
 names_of-names-requires c h =
     let stay = stays (goal.at.names_of-names-requires c).Else-is_refused in
-    names_only_verbatim c.args.request.bytes.now
+    is_names_only-rootless c.args.request.bytes.now
     (c.check_escape-check.ensures.names_only (c.is_names_only-is_request_names_only.ensures.0 h))
     (rootless-stays c.args.request.bytes.now stay)
 

@@ -4,7 +4,12 @@ use Rattle.std.proofs.Common.{◌≡◌, List, [], ◌∷◌, ◌++◌, sym, ap,
 use Rattle.std.proofs.lemmas.List.{append_cancel_right, same_from_push}
 use Rattle.unix_path.specs.Parts.{Value}
 use Rattle.unix_path.specs.Prefixes.{IsSuffixOf}
-use Rattle.unix_path.specs.Steps.{SharesSuffix}
+
+-- v and w are x and y, each followed by the same values
+pub record SharesSuffix (v w x y : List Value) : Type 0 where
+  pub last : List Value
+  pub first : v ≡ x ++ last
+  pub second : w ≡ y ++ last
 
 -- if v and w are x and y with the same list appended, and y is a suffix of x, then w is a suffix of
 -- v
@@ -17,9 +22,6 @@ ends_with_shared {y = y} h e = grind (arith, append_assoc)
 pub ends_without_shared : {v w x y : List Value} → SharesSuffix v w x y → IsSuffixOf w v
     → IsSuffixOf y x
 ends_without_shared {x = x} {y = y} h e = grind (arith, append_cancel_right, append_assoc)
-
--- the two lemmas above, as rules for both directions
-pub ruleset shared_ends = (ends_with_shared, ends_without_shared)
 
 -- if x ends with the component p, y ends with the component q, and y is a suffix of x, then p is q
 pub ends_last : {x y : List Value} {p q : Value} (t u : List Value) → x ≡ t ++ p ∷ []

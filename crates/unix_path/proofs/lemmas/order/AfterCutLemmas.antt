@@ -16,7 +16,9 @@ use Rattle.unix_path.specs.Parts.{Part, Value, inner_parts, parts, values}
 use Rattle.unix_path.specs.Prefixes.{IsPrefixOf}
 use Rattle.unix_path.specs.Rest.{rest}
 use Rattle.unix_path.specs.Scan.{is_filler, EndsInPart}
-use Rattle.unix_path.specs.Steps.{AreApart, HasMore, AfterFiller, SharesPrefix}
+use Rattle.unix_path.specs.Slices.{IsTail}
+use Rattle.unix_path.specs.Steps.{AreApart, SharesPrefix}
+use Rattle.std.specs.Borrow.{Bor}
 use Rattle.unix_path.proofs.lemmas.order.CommonPrefixLemmas.{values_cmp-equal_strings}
 use Rattle.unix_path.proofs.lemmas.order.CommonPrefixLemmas.{common_prefix_len-whole}
 use Rattle.std.proofs.lemmas.List.{nil_from_length}
@@ -24,6 +26,30 @@ use Rattle.std.proofs.lemmas.List.{nil_from_length}
 -- the components, without their positions
 abbrev values_of : List Part → List Value
 values_of = map (λ p. p.value)
+
+-- t is s without its leading filler, if s follows a slash
+pub record AfterFiller (s t : List ℕ) : Type 0 where
+  pub len : ℕ
+  pub is : t ≡ drop len s
+  pub filler : (at : ℕ) → inner_parts at s ≡ inner_parts (at + len) t
+  pub not_filler : is_filler t 0 ≡ false
+
+-- the result t of `after_filler` is its argument s without its leading filler
+pub after_filler-is : (s t : Bor (List ℕ)) → IsTail t s
+    → ((at : ℕ) → inner_parts at s.now ≡ inner_parts (at + (length s.now - length t.now)) t.now)
+    → is_filler t.now 0 ≡ false → AfterFiller s.now t.now
+after_filler-is s t tail filler not_filler = record {
+  len = length s.now - length t.now;
+  is = tail.bytes;
+  filler = filler;
+  not_filler = not_filler;
+}
+
+-- b has all values of a, and then more
+pub record HasMore (a b : List ℕ) : Type 0 where
+  pub more : List Value
+  pub some : 0 < length more
+  pub is : values b ≡ values a ++ more
 
 -- if t is s without its leading filler (`AfterFiller`), the inner components of s are the
 -- components of t

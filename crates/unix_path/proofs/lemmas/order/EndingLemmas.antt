@@ -1,15 +1,31 @@
 -- The last bytes of two strings show whether both end in the same component.
-use Rattle.std.proofs.Common.{◌≡◌, ℕ, ◌-◌, ◌<◌, ◌≤◌, true, List, [], ◌∷◌, ◌++◌, length, get_or}
-use Rattle.std.proofs.Common.{take, drop, sym, ap, ◌∙◌, arith, get_or-drop, length-drop}
+use Rattle.std.proofs.Common.{◌≡◌, ℕ, ◌-◌, ◌<◌, ◌≤◌, ◌↔◌, true, false, eqb, List, [], ◌∷◌, ◌++◌}
+use Rattle.std.proofs.Common.{length, get_or, take, drop, sym, ap, ◌∙◌, arith, get_or-drop}
+use Rattle.std.proofs.Common.{length-drop}
 use Rattle.std.specs.List.{position_or_len}
 use Rattle.std.proofs.lemmas.List.Sums.{fails_before_first}
 use Rattle.std.proofs.lemmas.Grind.{common_steps}
 use Rattle.unix_path.specs.Parts.{is_slash, value_bytes, values}
 use Rattle.unix_path.specs.Prefixes.{IsSuffixOf}
-use Rattle.unix_path.specs.Steps.{is_piece_start, EndsInPiece, HasCommonSuffix, SharesSuffix}
+use Rattle.unix_path.specs.Scan.{EndsInPart}
+use Rattle.unix_path.specs.Steps.{is_piece_start}
 use Rattle.unix_path.proofs.lemmas.steps.LastLemmas.{last_part, last_start, IsLastStart}
-use Rattle.unix_path.proofs.lemmas.lists.SuffixLemmas.{ends_last}
+use Rattle.unix_path.proofs.lemmas.lists.SuffixLemmas.{ends_last, ends_with_shared}
+use Rattle.unix_path.proofs.lemmas.lists.SuffixLemmas.{ends_without_shared, SharesSuffix}
 use Rattle.unix_path.proofs.lemmas.parts.ValueLemmas.{first_value, value_bytes-first}
+
+-- the last piece of s is its last component
+pub record EndsInPiece (s : List ℕ) : Type 0 where
+  pub some : 0 < length s
+  pub no_slash : eqb (get_or s (length s - 1) 0) 47 ≡ false
+  pub part : EndsInPart s
+
+-- a and b end in the same n bytes, and none of these n bytes is a slash
+pub record HasCommonSuffix (a b : List ℕ) (n : ℕ) : Type 0 where
+  pub in_first : n ≤ length a
+  pub in_second : n ≤ length b
+  pub same : drop (length a - n) a ≡ drop (length b - n) b
+  pub no_slash : position_or_len is_slash (drop (length a - n) a) ≡ n
 
 -- if n is less than k, the byte of s just before its last n bytes is one of the last k bytes of s,
 -- at index `k - 1 - n` among them
@@ -32,9 +48,6 @@ same_end_no_slash a b n k h more slash =
     let is = from_end a n k more h.in_first in
     let none = fails_before_first is_slash (drop (length a - k) a) (k - 1 - n) 0 in
     grind (arith, slash, is, none, h.no_slash)
-
--- the two lemmas above, about the byte just before the last n bytes
-pub ruleset longer_ends = (same_end_byte, same_end_no_slash)
 
 -- if the last k bytes of s contain no slash, and a piece begins with them, they are the last piece
 -- of s
@@ -80,11 +93,13 @@ shares_last a b k first second h begins_a begins_b =
       last_at,
     )
 
--- if a and b end in their last components, k is the length of their longest common suffix without a
--- slash, and the components of a end with the components of b, then a piece of each begins where
--- this suffix begins
+-- if a and b end in their last components, have a common suffix of k bytes without a slash, but
+-- none of k + 1 bytes, and the components of a end with the components of b, then a piece of each
+-- begins where the suffix of k bytes begins
 pub ends_longest : (a b : List ℕ) (k : ℕ) → EndsInPiece a → EndsInPiece b → HasCommonSuffix a b k
-    → ((n : ℕ) → HasCommonSuffix a b n → n ≤ k) → IsSuffixOf (values b) (values a)
+    → (k < length a → k < length b
+    → get_or a (length a - 1 - k) 0 ≡ get_or b (length b - 1 - k) 0
+    → get_or a (length a - 1 - k) 0 ≡ 47) → IsSuffixOf (values b) (values a)
     → (is_piece_start a (length a - k) ≡ true) × (is_piece_start b (length b - k) ≡ true)
 ends_longest a b k first second h longest ends =
     let d = (last_start a).0 in
@@ -106,11 +121,39 @@ ends_longest a b k first second h longest ends =
     } in
     let none : n < k → ⊥ = λ more. same_end_no_slash a b n k h more
     (grind (arith, at_a.after_slash, at_a.in_range, more, h.in_first)) in
-    let is : n ≡ k = omega (arith, longest n same, none) in
+    let not_longer : k < n → ⊥ = λ more. same_end_no_slash a b k n same more
+    (longest (omega (arith, more, same.in_first)) (omega (arith, more, same.in_second))
+    (same_end_byte a b k n same more)) in
+    let is : n ≡ k = omega (arith, not_longer, none) in
     let start_a : d ≡ length a - k = omega (arith, is, at_a.in_range) in
     let start_b : e ≡ length b - k = omega (arith, is, size, at_b.in_range) in
     grind (arith, begins_last)
 
--- the two lemmas above: the byte before the longest common suffix shows whether the last components
--- are the same
-pub ruleset last_parts = (shares_last, ends_longest)
+-- what `ends_in_part` and `common_suffix_len` ensure, for two strings of which each ends in its
+-- last component
+pub record LongestSuffix (a b : List ℕ) (k : ℕ) : Type 0 where
+  pub first : EndsInPiece a
+  pub second : EndsInPiece b
+  pub suffix : HasCommonSuffix a b k
+  pub longest : k < length a → k < length b
+      → get_or a (length a - 1 - k) 0 ≡ get_or b (length b - 1 - k) 0
+      → get_or a (length a - 1 - k) 0 ≡ 47
+
+-- if a piece of each begins where the longest common suffix begins, a ends with b if and only if
+-- they do so without this suffix
+pub ends_before : {a b : List ℕ} {k : ℕ} → LongestSuffix a b k
+    → is_piece_start a (length a - k) ≡ true → is_piece_start b (length b - k) ≡ true
+    → IsSuffixOf (values b) (values a)
+    ↔ IsSuffixOf (values (take (length b - k) b)) (values (take (length a - k) a))
+ends_before {a} {b} {k} h begins_a begins_b =
+    let shares = shares_last a b k h.first h.second h.suffix begins_a begins_b in
+    (ends_without_shared shares, ends_with_shared shares)
+
+-- if a piece of only one of them, or of neither, begins where the longest common suffix begins, a
+-- doesn't end with b
+pub ends_apart : {a b : List ℕ} {k : ℕ} → LongestSuffix a b k
+    → (is_piece_start a (length a - k) ≡ true → is_piece_start b (length b - k) ≡ true → ⊥)
+    → IsSuffixOf (values b) (values a) → ⊥
+ends_apart {a} {b} {k} h other ends =
+    let begins = ends_longest a b k h.first h.second h.suffix h.longest ends in
+    other begins.0 begins.1

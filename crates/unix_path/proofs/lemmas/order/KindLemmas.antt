@@ -8,7 +8,8 @@ use Rattle.std.proofs.lemmas.Bool.{false≢true}
 use Rattle.std.proofs.lemmas.Cmp.{tied_itself, nat_cmp_total}
 use Rattle.std.proofs.lemmas.Grind.{common_steps}
 use Rattle.unix_path.specs.Order.{rank, value_cmp, values_cmp}
-use Rattle.unix_path.specs.Pairs.{first_rank}
+use Rattle.std.specs.Option.{option_map_or}
+use Rattle.std.specs.Prelude.{slice_get}
 use Rattle.unix_path.specs.Parts.{Part, Value, value_bytes, values}
 use Rattle.unix_path.specs.Prefixes.{IsPrefixOf}
 use Rattle.unix_path.specs.Scan.{starts_with_parent_dir, is_filler}
@@ -18,6 +19,10 @@ use Rattle.unix_path.proofs.lemmas.parts.PartLemmas.{parts-name, parts-root, val
 use Rattle.unix_path.proofs.lemmas.parts.PieceLemmas.{first_piece, first_piece-other}
 use Rattle.unix_path.proofs.lemmas.lists.PrefixLemmas.{begins_tail}
 use Rattle.unix_path.proofs.lemmas.parts.ValueLemmas.{first_value, value_bytes-first}
+
+-- 1 plus the position of the kind of the first of these values, or 0 if there is none
+abbrev pub first_rank : List Value → ℕ
+first_rank vs = option_map_or (λ v. 1 + rank v) (slice_get vs 0) 0
 
 -- the `first_rank` of the components of s is 0 if s is empty, 1 if s begins with a slash, 2 if its
 -- first piece is `.`, 3 if its first piece is `..`, and otherwise 4

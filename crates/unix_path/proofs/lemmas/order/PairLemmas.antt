@@ -2,7 +2,7 @@
 use Rattle.std.proofs.Common.{◌≡◌, ℕ, ◌-◌, ◌≤◌, ◌<◌, ◌⊎◌, true, false, eqb, List, []}
 use Rattle.std.proofs.Common.{◌++◌, length, get_or, take, drop, map, refl, sym, ap, ap₂, arith}
 use Rattle.std.proofs.Common.{◌∙◌, subst}
-use Rattle.std.proofs.Common.{inl, inr, nat_cmp, take-append-drop}
+use Rattle.std.proofs.Common.{inl, inr, take-append-drop}
 use Rattle.std.specs.Borrow.{Bor}
 use Rattle.std.proofs.Math.Seq.{drop-length}
 use Rattle.std.proofs.lemmas.Bool.{eqb-false, or_parts}
@@ -11,26 +11,22 @@ use Rattle.std.proofs.lemmas.List.Sums.{common_prefix_len-le}
 use Rattle.std.proofs.lemmas.Grind.{common_steps}
 use Rattle.unix_bytes.proofs.lemmas.vectors.CommonLemmas.{common_prefix_len-same}
 use Rattle.unix_path.proofs.lemmas.order.ApartLemmas.{ranks_end}
-use Rattle.unix_path.proofs.lemmas.order.AfterCutLemmas.{more-apart}
 use Rattle.unix_bytes.proofs.lemmas.lists.ListLemmas.{by_test}
 use Rattle.unix_path.proofs.lemmas.order.CommonPrefixLemmas.{parts-past_slash, take-common}
 use Rattle.unix_path.proofs.lemmas.order.KindLemmas.{first_parts-apart}
 use Rattle.unix_path.proofs.lemmas.parts.PieceLemmas.{inner_parts-nil, inner_parts-slash}
 use Rattle.unix_path.proofs.lemmas.parts.PlaceLemmas.{values-inner_parts}
 use Rattle.unix_path.proofs.lemmas.filler.TrimLemmas.{parts-append, parts-slash}
-use Rattle.unix_path.specs.Pairs.{Compared, DifferenceShows, kind_rank}
+use Rattle.unix_path.specs.Pairs.{Compared, DifferenceShows}
 use Rattle.unix_path.specs.Parts.{Part, inner_parts, parts, slash, values}
 use Rattle.unix_path.specs.Prefixes.{IsPrefixOf}
-use Rattle.unix_path.specs.Steps.{is_piece_start, piece_rank, IsCommonPrefixLen, SharesPrefix}
-use Rattle.unix_path.specs.contracts.pair.KindOrd.TheImpl as the_order
+use Rattle.unix_path.specs.Steps.{is_piece_start, piece_rank, SharesPrefix}
+use Rattle.std.specs.List.{common_prefix_len}
 use Rattle.unix_path.specs.declared.pair.Comparison.{Comparison}
-use Rattle.unix_path.specs.declared.pair.Comparison.TheVariants.{Differs, StartsWith, IsPrefix}
+use Rattle.unix_path.specs.declared.pair.Comparison.TheVariants.{Differs, StartsWith}
 use Rattle.unix_path.specs.declared.pair.Difference.{Difference}
 use Rattle.unix_path.specs.declared.pair.Difference.TheVariants.{Decided, FirstComponents}
 use Rattle.unix_path.specs.declared.pair.Difference.TheVariants.{CutBefore}
-use Rattle.unix_path.specs.declared.pair.Kind.{Kind}
-use Rattle.unix_path.specs.declared.pair.Kind.TheVariants.{Nothing, RootDir, CurDir, ParentDir}
-use Rattle.unix_path.specs.declared.pair.Kind.TheVariants.{Name}
 use Rattle.unix_path.proofs.lemmas.order.KindLemmas.{first_parts-cmp}
 use Rattle.unix_path.proofs.lemmas.order.KindLemmas.{values_cmp-ranks}
 
@@ -70,8 +66,8 @@ pub record CutsAt (a b : List ℕ) (k : ℕ) : Type 0 where
 
 -- if the common prefix of a and b has n bytes, k is at most n, and a piece of a and a piece of b
 -- begin or end at k, then a and b can be cut at k, after the same components (`CutsAt`)
-pub cuts : (a b : List ℕ) (n k : ℕ) → IsCommonPrefixLen a b n → k ≤ n → CanCut a k → CanCut b k
-    → CutsAt a b k
+pub cuts : (a b : List ℕ) (n k : ℕ) → n ≡ common_prefix_len eqb a b → k ≤ n → CanCut a k
+    → CanCut b k → CutsAt a b k
 unfolding values
 cuts a b n k alike l first second =
     let range = common_prefix_len-le eqb a b in
@@ -95,17 +91,16 @@ cuts a b n k alike l first second =
 
 -- if a and b have the same `piece_rank` at their first difference n, where a piece of each then
 -- ends, a and b can be cut at n, after the same components (`CutsAt`)
-pub cuts-ends : (a b : List ℕ) (n : ℕ) → IsCommonPrefixLen a b n → piece_rank a n ≡ piece_rank b n
-    → CutsAt a b n
+pub cuts-ends : (a b : List ℕ) (n : ℕ) → n ≡ common_prefix_len eqb a b
+    → piece_rank a n ≡ piece_rank b n → CutsAt a b n
 cuts-ends a b n alike same =
     let end = ranks_end a b n alike same in
     cuts a b n n alike (omega arith) (inr end) (inr (sym same ∙ end))
 
 -- if the common prefix of a and b has n bytes, k is at most n, and a piece of a, and so of b,
 -- begins at k, then a and b can be cut at k, after the same components (`CutsAt`)
-pub cuts-begins : (a b : List ℕ) (n k : ℕ) → IsCommonPrefixLen a b n → k ≤ n → is_piece_start a k
-    ≡ true
-    → CutsAt a b k
+pub cuts-begins : (a b : List ℕ) (n k : ℕ) → n ≡ common_prefix_len eqb a b → k ≤ n
+    → is_piece_start a k ≡ true → CutsAt a b k
 cuts-begins a b n k alike l begins = cuts a b n k alike l (inl begins) (inl (by_test (eqb k 0)
     (λ e. rw e refl)
     (λ e.
@@ -116,8 +111,8 @@ cuts-begins a b n k alike l begins = cuts a b n k alike l (inl begins) (inl (by_
 
 -- if b is not empty, a begins with the bytes of b, and a can be cut after them, then the bytes of a
 -- after them are the rest of a after the components of b
-pub shares-written : (a b : List ℕ) (n : ℕ) → IsCommonPrefixLen a b n → 0 < length b → length b ≤ n
-    → CanCut a (length b) → SharesPrefix a b (drop (length b) a) []
+pub shares-written : (a b : List ℕ) (n : ℕ) → n ≡ common_prefix_len eqb a b → 0 < length b
+    → length b ≤ n → CanCut a (length b) → SharesPrefix a b (drop (length b) a) []
 shares-written a b n alike some all first =
     let ends : CanCut b (length b) = inr (rw (get_or_past b (length b) 47 (omega arith)) refl) in
     subst (SharesPrefix a b (drop (length b) a)) (drop-length b)
@@ -126,7 +121,7 @@ shares-written a b n alike some all first =
 -- if the first difference of a and b, at n, does not show a `CutBefore`, and b isn't empty, a
 -- doesn't start with b
 pub apart-unless : (a : Bor (List ℕ)) (b : List ℕ) (n : ℕ) (said : Difference)
-    → IsCommonPrefixLen a.now b n
+    → n ≡ common_prefix_len eqb a.now b
     → DifferenceShows a b n said → ((x y : Bor (List ℕ)) → said ≡ CutBefore x y → ⊥) → 0 < length b
     → IsPrefixOf (values b) (values a.now) → ⊥
 apart-unless a b n (Decided order) alike h other some = h.no_prefix
@@ -141,17 +136,6 @@ pub no_prefix-unless : (s t : List ℕ) (a : Bor (List ℕ)) (b : List ℕ) (sai
     → IsPrefixOf (values t) (values s) → ⊥
 no_prefix-unless s t a b (Differs order) h cut other = (h s t cut).no_prefix
 no_prefix-unless s t a b (StartsWith rest_bytes) h cut other = absurd (other rest_bytes refl)
-no_prefix-unless s t a b IsPrefix h cut other = (more-apart (h s t cut)).no_prefix
-
--- two kinds are in the order of their ranks
-pub kinds-cmp : (x y : Kind)
-    → the_order.ghosts.cmp x y ≡ nat_cmp (kind_rank x) (kind_rank y)
-kinds-cmp Nothing Nothing = refl
-kinds-cmp RootDir RootDir = refl
-kinds-cmp CurDir CurDir = refl
-kinds-cmp ParentDir ParentDir = refl
-kinds-cmp Name Name = refl
-kinds-cmp x y = refl
 
 -- the order of two strings whose first components differ
-pub ruleset first_orders = (kinds-cmp, first_parts-cmp, values_cmp-ranks)
+pub ruleset first_orders = (first_parts-cmp, values_cmp-ranks)

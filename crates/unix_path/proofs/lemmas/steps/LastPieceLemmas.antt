@@ -11,7 +11,7 @@ use Rattle.unix_path.proofs.lemmas.steps.LastLemmas.{last_is_significant}
 pub use Rattle.unix_path.proofs.lemmas.steps.LastLemmas.{IsLastStart}
 use Rattle.unix_path.specs.Parts.{CurDir, ParentDir, Normal, cur_dir, parent_dir, parts}
 use Rattle.unix_path.specs.Scan.{ends_with_parent_dir, EndsInPart, is_trailing}
-use Rattle.unix_path.specs.Steps.{TakesLast}
+use Rattle.unix_path.proofs.lemmas.steps.StepLemmas.{TakesLast}
 use Rattle.unix_path.proofs.lemmas.parts.ValueLemmas.{first_value}
 use Rattle.unix_path.proofs.lemmas.steps.StepLemmas.{takes_last}
 

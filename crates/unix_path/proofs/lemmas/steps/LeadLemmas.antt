@@ -7,16 +7,23 @@ use Rattle.std.proofs.lemmas.Grind.{common_steps}
 use Rattle.unix_path.proofs.lemmas.filler.FillerLemmas.{is_filler-drop, parts-not_filler}
 use Rattle.unix_path.proofs.lemmas.parts.PartLemmas.{parts-name}
 use Rattle.unix_path.proofs.lemmas.parts.PieceLemmas.{first_piece}
-use Rattle.unix_path.proofs.lemmas.steps.StepLemmas.{takes_first}
+use Rattle.unix_path.proofs.lemmas.steps.StepLemmas.{takes_first, TakesFirst}
 use Rattle.unix_path.specs.Parts.{Value, CurDir, ParentDir, Normal}
 use Rattle.unix_path.specs.Parts.{inner_parts, parts, values}
 use Rattle.unix_path.proofs.lemmas.parts.PlaceLemmas.{values-inner_parts}
 use Rattle.unix_path.specs.Scan.{starts_with_parent_dir, is_filler}
 use Rattle.unix_path.specs.CommonDir.{inner_values}
-use Rattle.unix_path.specs.Steps.{StepsFirst}
+use Rattle.unix_path.specs.Scan.{EndsInPart}
 use Rattle.unix_path.proofs.lemmas.parts.ValueLemmas.{first_value}
 use Rattle.unix_path.proofs.lemmas.parts.PartLemmas.{parts-root}
 use Rattle.std.proofs.lemmas.List.{take_rest}
+
+-- the first component of s has the value v, and with the filler after it this component has n bytes
+pub record StepsFirst (s : List ℕ) (n : ℕ) (v : Value) : Type 0 where
+  pub in_range : n ≤ length s
+  pub value : values s ≡ v ∷ values (drop n s)
+  pub takes : EndsInPart s → TakesFirst s (drop n s) v
+  pub not_filler : 0 < length (drop n s) → is_filler (drop n s) 0 ≡ false
 
 -- if s begins with filler that isn't a slash, which is a leading `.`, the components of s are this
 -- `.`, and then the inner components of the bytes after it

@@ -15,7 +15,18 @@ use Rattle.unix_path.proofs.lemmas.parts.ValueLemmas.{first_value}
 use Rattle.unix_path.specs.Parts.{Part, RootDir, Value, inner_parts, parts, values}
 use Rattle.unix_path.specs.Rest.{rest, span_of}
 use Rattle.unix_path.specs.Scan.{is_filler, is_trailing, EndsInPart}
-use Rattle.unix_path.specs.Steps.{TakesFirst, TakesLast}
+
+-- the first value of s is v, and t is the rest of s after it
+pub record TakesFirst (s t : List ℕ) (v : Value) : Type 0 where
+  pub value : values s ≡ v ∷ values t
+  pub rest : rest s 1 0 ≡ t
+  pub ends : EndsInPart t
+
+-- the last value of s is v, and t is the rest of s before it
+pub record TakesLast (s t : List ℕ) (v : Value) : Type 0 where
+  pub value : values s ≡ values t ++ v ∷ []
+  pub rest : rest s 0 1 ≡ t
+  pub ends : EndsInPart t
 
 -- if the components of s are p and then ps, the rest of s after p is what ps span
 rest-first : (s : List ℕ) (p : Part) (ps : List Part) → parts s ≡ p ∷ ps

@@ -11,11 +11,21 @@ use Rattle.unix_path.specs.declared.cursor.walk.Components.{Components}
 use Rattle.unix_path.specs.Parts.{Value, RootDir, CurDir, parts, values}
 use Rattle.unix_path.specs.Scan.{is_filler, EndsInPart}
 use Rattle.unix_path.specs.Rest.{rest}
-use Rattle.unix_path.specs.Steps.{HasLast, IsWalk, TakesFirst, StepsFirst, TakesLast}
+use Rattle.unix_path.specs.Steps.{IsWalk}
+use Rattle.unix_path.proofs.lemmas.steps.LeadLemmas.{StepsFirst}
+use Rattle.unix_path.proofs.lemmas.steps.StepLemmas.{TakesFirst, TakesLast}
 use Rattle.unix_bytes.proofs.lemmas.lists.ListLemmas.{by_test, length-range}
 use Rattle.unix_path.proofs.lemmas.names.ParentLemmas.{rest-whole_last, values-whole}
 use Rattle.unix_path.proofs.lemmas.parts.PartLemmas.{parts-nil, parts-root, parts-name}
 use Rattle.unix_path.proofs.lemmas.steps.SpanLemmas.{parts_end-whole}
+
+-- the last component of s has the value v and ends at `end`, and the rest of s before this
+-- component is the first `before` bytes
+pub record HasLast (s : List ℕ) (before end : ℕ) (v : Value) : Type 0 where
+  pub in_range : before ≤ length s
+  pub value : values s ≡ values (take before s) ++ v ∷ []
+  pub before_is : take before s ≡ rest s 0 1
+  pub end_is : end ≡ length (rest s 0 0)
 
 -- if n is at most b - a, the range of s from a to b, without its first n bytes, is the range from
 -- `a + n` to b

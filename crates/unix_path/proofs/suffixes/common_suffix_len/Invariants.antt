@@ -1,5 +1,5 @@
 use Rattle.std.proofs.Common.{◌-◌}
-use Rattle.unix_path.specs.Steps.{HasCommonSuffix}
+use Rattle.unix_path.proofs.lemmas.order.EndingLemmas.{HasCommonSuffix}
 use Rattle.unix_path.proofs.suffixes.common_suffix_len.Given as goal
 
 abbrev pub invariant-loop-len : goal.invariant-loop-len

@@ -1,7 +1,7 @@
 use Rattle.std.proofs.Common.{length}
 use Rattle.unix_path.specs.Cursor.{cursor_values}
 use Rattle.unix_path.specs.Parts.{values}
-use Rattle.unix_path.specs.Steps.{SharesSuffix}
+use Rattle.unix_path.proofs.lemmas.lists.SuffixLemmas.{SharesSuffix}
 use Rattle.unix_path.proofs.suffixes.ends_with_parts.Given as goal
 
 abbrev pub invariant-loop-part : goal.invariant-loop-part

@@ -20,8 +20,7 @@ use Rattle.path_runs.proofs.lemmas.spelling.LeanLemmas.{spelling_of-shortest}
 use Rattle.path_runs.specs.Spelling.{spelling_of}
 use Rattle.path_within.specs.Below.{below_of, names_below}
 use Rattle.path_within.specs.RelativePaths.{relative_path_of}
-use Rattle.path_within.specs.WrittenBytes.{root_prefix}
-use Rattle.path_within.proofs.lemmas.below.BelowLemmas.{length-below}
+use Rattle.path_within.proofs.lemmas.below.BelowLemmas.{length-below_of}
 pub use Rattle.path_within.proofs.lemmas.below.BoundLemmas.{length-join_of, length-resolved}
 use Rattle.path_within.proofs.lemmas.relative.RelativePathBoundLemmas.{length-relative_path}
 
@@ -47,27 +46,6 @@ pub length-with_name_of : (s name : List ℕ)
     → length (with_name_of s name) ≤ length s + 1 + length name
 length-with_name_of s name =
     omega (arith, length-join_of (before_name_of s) name, length-before_name_of s)
-
--- the root prefix, which comes before the names of a join, is at most one byte longer than the root
-length-root_prefix : (root : List ℕ) → length (root_prefix root) ≤ length root + 1
-length-root_prefix root = by_test (needs_no_separator root)
-    (λ e. omega (arith, length-append root [], ap (λ c. length (root ++ cond c [] (slash ∷ []))) e))
-    (λ e. omega (
-      arith,
-      length-append root (slash ∷ []),
-      ap (λ c. length (root ++ cond c [] (slash ∷ []))) e,
-    ))
-
--- a join below a root is at most one byte longer than the root and the request together
-pub length-below_of : (root s : List ℕ)
-    → length (below_of root (names_below (values s))) ≤ length root + 1 + length s
-length-below_of root s =
-    omega (
-      arith,
-      length-below root s refl,
-      length-append (root_prefix root) s,
-      length-root_prefix root,
-    )
 
 -- a path with an extension added at an index, or the unchanged path if there is no index, is at
 -- most one byte longer than the path and the extension together

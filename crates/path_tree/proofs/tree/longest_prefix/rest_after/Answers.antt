@@ -2,7 +2,7 @@ use Rattle.std.proofs.Common.{◌≡◌, ◌≤◌, ◌<◌, ◌-◌, ◌∙◌,
 use Rattle.std.proofs.Common.{subst₂, sym, take}
 use Rattle.std.proofs.lemmas.List.{nil_from_length, take_rest}
 use Rattle.unix_path.specs.Slices.{IsTail}
-use Rattle.unix_path.specs.Steps.{AfterFiller}
+use Rattle.unix_path.proofs.lemmas.order.AfterCutLemmas.{after_filler-is, AfterFiller}
 use Rattle.path_tree.proofs.lemmas.keys.RestLemmas.{rest-after, rest-none, rest_short, tail_of_rest}
 use Rattle.path_tree.proofs.tree.longest_prefix.rest_after.Goals as goal
 
@@ -57,4 +57,5 @@ returns-clause-bytes c =
     rest-after s b c.from_bytes.result.bytes.now c.requires.base.0
     (length s - length c.from_bytes.result.bytes.now) c.requires.trimmed c.requires.base.1 some
     (subst₂ AfterFiller from (sym (ap (λ part. part.now) c.from_bytes.ensures.place))
-    c.after_filler.ensures.after) (omega arith) tail.bytes
+    (after_filler-is _ _ c.after_filler.ensures.tail c.after_filler.ensures.filler
+    c.after_filler.ensures.not_filler)) (omega arith) tail.bytes

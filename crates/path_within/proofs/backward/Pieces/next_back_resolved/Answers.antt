@@ -1,31 +1,38 @@
-use Rattle.std.proofs.Common.{suc, ◌-◌, refl, arith, add-one, ap}
-use Rattle.path_within.specs.Backward.{value_in}
+use Rattle.std.proofs.Common.{◌≡◌, ◌-◌, suc, refl, arith, add-one}
+use Rattle.std.proofs.lemmas.Grind.{common_steps}
+use Rattle.unix_path.specs.Parts.{CurDir, ParentDir, Normal}
+use Rattle.path_within.specs.Backward.{piece_value}
 use Rattle.path_within.specs.Pieces.{remaining_values}
 use Rattle.path_within.proofs.lemmas.backward.LastLemmas.{none_remain, taken}
 use Rattle.path_within.proofs.backward.Pieces.next_back_resolved.Goals as goal
 
+pub loop-bytes-preserved-then-is_empty : goal.loop-bytes-preserved-then-is_empty
+loop-bytes-preserved-then-is_empty c =
+    let filler : piece_value c.in-Some.bytes.now ≡ CurDir = grind (arith, common_steps) in
+    taken c.loop-bytes.parent_dirs (remaining_values c.next_back.new.self) c.loop-bytes.invariant
+    refl c.in-Some.ensures.some filler
+
+pub loop-bytes-preserved-then-eq-2 : goal.loop-bytes-preserved-then-eq-2
+loop-bytes-preserved-then-eq-2 c =
+    let dots : piece_value c.in-Some.bytes.now ≡ ParentDir = grind (arith, common_steps) in
+    rw add-one (taken c.loop-bytes.parent_dirs (remaining_values c.next_back.new.self)
+    c.loop-bytes.invariant
+    refl c.in-Some.ensures.some dots)
+
 pub returns-then-parent_dirs-eq0 : goal.returns-then-parent_dirs-eq0
 returns-then-parent_dirs-eq0 c =
-    taken 0 (remaining_values c.next_back.new.self) c.loop-piece.invariant c.if-parent_dirs-eq0.true
-    c.in-Some.ensures.some (ap value_in c.in-Name.is)
+    let name : piece_value c.in-Some.bytes.now ≡ Normal c.from_bytes.result.bytes.now =
+    grind (arith, common_steps) in
+    taken 0 (remaining_values c.next_back.new.self) c.loop-bytes.invariant c.if-parent_dirs-eq0.true
+    c.in-Some.ensures.some name
 
-pub loop-piece-preserved-in-Name : goal.loop-piece-preserved-in-Name
-loop-piece-preserved-in-Name c =
-    taken (suc (c.loop-piece.parent_dirs - 1)) (remaining_values c.next_back.new.self)
-    c.loop-piece.invariant
-    (omega (arith, c.if-parent_dirs-eq0.false)) c.in-Some.ensures.some (ap value_in c.in-Name.is)
-
-pub loop-piece-preserved-in-DotDot : goal.loop-piece-preserved-in-DotDot
-loop-piece-preserved-in-DotDot c =
-    rw add-one (taken c.loop-piece.parent_dirs (remaining_values c.next_back.new.self)
-    c.loop-piece.invariant
-    refl c.in-Some.ensures.some (ap value_in c.in-DotDot.is))
-
-pub loop-piece-preserved : goal.loop-piece-preserved
-loop-piece-preserved c =
-    taken c.loop-piece.parent_dirs (remaining_values c.next_back.new.self) c.loop-piece.invariant
-    refl
-    c.in-Some.ensures.some (ap value_in c.in-Filler.is)
+pub loop-bytes-preserved : goal.loop-bytes-preserved
+loop-bytes-preserved c =
+    let name : piece_value c.in-Some.bytes.now ≡ Normal c.in-Some.bytes.now =
+    grind (arith, common_steps) in
+    taken (suc (c.loop-bytes.parent_dirs - 1)) (remaining_values c.next_back.new.self)
+    c.loop-bytes.invariant
+    (omega (arith, c.if-parent_dirs-eq0.false)) c.in-Some.ensures.some name
 
 pub returns : goal.returns
-returns c = none_remain c.loop-piece.invariant (c.in_default.ensures.none refl)
+returns c = none_remain c.loop-bytes.invariant (c.in_default.ensures.none refl)

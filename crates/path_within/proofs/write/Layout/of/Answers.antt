@@ -1,15 +1,15 @@
 use Rattle.std.proofs.Common.{append-nil, arith}
 use Rattle.path_within.proofs.lemmas.backward.LayoutLemmas.{no_parent_dirs}
 use Rattle.path_within.proofs.lemmas.backward.StepLemmas.{last_others}
-use Rattle.path_within.proofs.lemmas.below.BelowLemmas.{names_only_verbatim}
+use Rattle.path_within.proofs.lemmas.names_only.NamesOnlyLemmas.{is_names_only-rootless}
 use Rattle.path_within.proofs.write.Layout.of.Goals as goal
 use Rattle.path_within.proofs.lemmas.backward.LeadingLemmas.{resolved_of-rooted}
 use Rattle.path_within.proofs.lemmas.backward.LeadingLemmas.{resolved_of-rootless}
 
 pub verbatim-requires : goal.verbatim-requires
-verbatim-requires c = names_only_verbatim c.trimmed-trimmed_path.result.bytes.now
+verbatim-requires c = is_names_only-rootless c.trimmed-trimmed_path.result.bytes.now
     (c.is_names_only.ensures c.if-is_names_only.true)
-    c.trimmed-trimmed_path.ensures.represents_names.rootless
+    c.trimmed-trimmed_path.ensures.rootless
 
 pub returns-then-is_names_only-clause-values : goal.returns-then-is_names_only-clause-values
 returns-then-is_names_only-clause-values c =

@@ -16,6 +16,8 @@ returns c =
     c.args.root.now in grind (
       arith,
       joined root (names_in c.args.self.now)
-          (unslashed_last c.args.self.now.count c.args.self.now.path.bytes.now) c.put_before.ensures
-          c.put_before.auto.out c.requires,
+          (unslashed_last c.args.self.now.count c.args.self.now.path.bytes.now) (record {
+            size = c.put_before.ensures.size;
+            bytes = c.put_before.ensures.bytes;
+          }) c.put_before.auto.out c.requires,
     )

@@ -3,7 +3,8 @@ use Rattle.std.proofs.lemmas.Bool.{eqb-false}
 use Rattle.std.proofs.lemmas.List.{nil_from_length}
 use Rattle.unix_path.specs.Steps.{SharesPrefix}
 use Rattle.unix_path.proofs.lemmas.order.KindLemmas.{first_parts-apart}
-use Rattle.unix_path.proofs.lemmas.order.AfterCutLemmas.{apart-shared, more-rest_bytes}
+use Rattle.unix_path.proofs.lemmas.order.AfterCutLemmas.{after_filler-is, apart-shared, more-apart}
+use Rattle.unix_path.proofs.lemmas.order.AfterCutLemmas.{more-rest_bytes}
 use Rattle.unix_path.proofs.lemmas.order.AfterCutLemmas.{shares-onward}
 use Rattle.unix_path.proofs.lemmas.order.AfterCutLemmas.{shares-past}
 use Rattle.unix_path.proofs.lemmas.rests.SourceLemmas.{IsTail-itself, IsTail-trans}
@@ -18,7 +19,10 @@ loop-second-init c = record { shares = λ s t h. h; tail = IsTail-itself c.args.
 shares : (c : After-after_filler-second) (s t : List ℕ) → SharesPrefix s t c.args.a.now c.args.b.now
     → SharesPrefix s t c.after_filler-first.result.now c.after_filler-second.result.now
 shares c s t h = shares-past (c.loop-second.invariant.shares s t h)
-    c.after_filler-first.ensures.after c.after_filler-second.ensures.after
+    (after_filler-is _ _ c.after_filler-first.ensures.tail c.after_filler-first.ensures.filler
+    c.after_filler-first.ensures.not_filler)
+    (after_filler-is _ _ c.after_filler-second.ensures.tail c.after_filler-second.ensures.filler
+    c.after_filler-second.ensures.not_filler)
 
 pub returns-then-is_empty : goal.returns-then-is_empty
 returns-then-is_empty c = (
@@ -42,10 +46,10 @@ returns-in-FirstComponents c = λ s t h.
     let second = c.after_filler-second.result.now in
     let none : c.after_filler-first.result.now ≡ [] =
     nil_from_length _ (eqb-true _ 0 (sym c.if-is_empty-2.ensures)) in
-    more-rest_bytes (subst (λ x. SharesPrefix s t x second) none
+    more-apart (more-rest_bytes (subst (λ x. SharesPrefix s t x second) none
     (shares (goal.at.returns-in-FirstComponents c).After-after_filler-second s t h))
     c.after_filler-second.ensures.not_filler
-    (omega (arith, eqb-false _ 0 (sym c.is_empty.ensures ∙ c.if-is_empty.false)))
+    (omega (arith, eqb-false _ 0 (sym c.is_empty.ensures ∙ c.if-is_empty.false))))
 
 pub returns-in-FirstComponents-2 : goal.returns-in-FirstComponents-2
 returns-in-FirstComponents-2 c = λ s t h.

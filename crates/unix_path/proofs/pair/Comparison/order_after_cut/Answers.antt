@@ -1,6 +1,6 @@
 use Rattle.std.proofs.Common.{[], refl, sym, ap₂, ◌∙◌}
 use Rattle.unix_path.specs.Order.{values_cmp}
-use Rattle.unix_path.proofs.lemmas.order.AfterCutLemmas.{more-apart, values_cmp-shared}
+use Rattle.unix_path.proofs.lemmas.order.AfterCutLemmas.{values_cmp-shared}
 use Rattle.unix_path.proofs.lemmas.order.ComparisonLemmas.{values_cmp-end}
 use Rattle.unix_path.proofs.lemmas.order.CommonPrefixLemmas.{inner_values-nil}
 use Rattle.unix_path.proofs.lemmas.parts.PartLemmas.{values-nil}
@@ -14,6 +14,3 @@ returns-in-StartsWith c = λ s t h.
     ∙ ap₂ values_cmp (values-not_filler rest_bytes c.in-StartsWith.ensures.1)
     (values-nil ∙ sym inner_values-nil)
     ∙ values_cmp-shared (c.in-StartsWith.ensures.0.shares s t h)
-
-pub returns-in-IsPrefix : goal.returns-in-IsPrefix
-returns-in-IsPrefix c = λ s t h. (more-apart (c.in-IsPrefix.ensures s t h)).order_is

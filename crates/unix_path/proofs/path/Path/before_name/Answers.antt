@@ -44,4 +44,4 @@ returns-clause-value c =
     let size = length-take-le end s c.in-Some.ensures.in_range in
     rw (file_name_of-name_end s end is)
     (rest-whole_last s (take-name_end s end (sym is))
-    (sym (take-take len.result.0 end s (omega arith)) ∙ sym len.ensures.takes.rest))
+    (sym (take-take len.result.0 end s (omega arith)) ∙ sym len.ensures.rest))

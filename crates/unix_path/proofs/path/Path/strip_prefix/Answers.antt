@@ -1,7 +1,7 @@
 use Rattle.std.proofs.Common.{refl}
 use Rattle.std.proofs.lemmas.Grind.{common_steps}
 use Rattle.std.proofs.Common.{arith}
-use Rattle.unix_path.proofs.lemmas.order.AfterCutLemmas.{past-nil, shares-past}
+use Rattle.unix_path.proofs.lemmas.order.AfterCutLemmas.{after_filler-is, past-nil, shares-past}
 use Rattle.unix_path.proofs.lemmas.rests.SourceLemmas.{IsTail-trans}
 use Rattle.unix_path.proofs.lemmas.order.StripLemmas.{Trims, stripped-end}
 use Rattle.unix_path.proofs.lemmas.order.StripLemmas.{stripped-is}
@@ -16,7 +16,8 @@ returns-in-Some-clause-value c =
     stripped-is c.args.self.now.bytes.now c.args.base.bytes.now c.trimmed_len.result
     c.after_filler.result _ (trims (goal.at.returns-in-Some-clause-value c).After-trimmed_len) refl
     (IsTail-trans _ _ _ c.after_filler.ensures.tail c.in-Some.ensures.tail)
-    (shares-past c.in-Some.ensures.rest_bytes c.after_filler.ensures.after past-nil)
+    (shares-past c.in-Some.ensures.rest_bytes (after_filler-is _ _ c.after_filler.ensures.tail
+    c.after_filler.ensures.filler c.after_filler.ensures.not_filler) past-nil)
     c.after_filler.ensures.not_filler
 
 pub returns-in-Some-clause-end : goal.returns-in-Some-clause-end

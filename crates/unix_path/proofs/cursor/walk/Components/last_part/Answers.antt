@@ -10,6 +10,6 @@ use Rattle.unix_path.proofs.cursor.walk.Components.last_part.Goals as goal
 pub returns-in_default-clause-none : goal.returns-in_default-clause-none
 returns-in_default-clause-none c none = grind (arith, common_steps, values-whole)
 
-pub returns-clause-some : goal.returns-clause-some
+pub returns : goal.returns
 unfolding cursor_rest IsWalk
-returns-clause-some c = grind (arith, common_steps, has_last, range-zero, length-range)
+returns c = grind (arith, common_steps, has_last, range-zero, length-range)

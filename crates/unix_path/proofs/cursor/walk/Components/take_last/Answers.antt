@@ -22,7 +22,11 @@ invariant_of-self c =
     let s = c.args.self.now in
     let len = c.split_last_component-len.result.0 in
     let step = c.split_last_component-len.ensures in
-    let back = walks_back s len _ c.as_path.ensures.bytes step.in_range step.takes in
+    let back = walks_back s len _ c.as_path.ensures.bytes step.in_range (record {
+      value = step.value;
+      rest = step.rest;
+      ends = step.rest_ends;
+    }) in
     let was = sym s.fields.lead_pending_is in
     let left : c.if-self.self ≡ is_filler (slice_range s.source.now s.start (s.start + len)) 0 =
     elim c.if-self.branch [
@@ -37,5 +41,9 @@ unfolding cursor_rest IsWalk
 returns-clause-steps c =
     let s = c.args.self.now in
     let step = c.split_last_component-len.ensures in
-    let back = walks_back s _ _ c.as_path.ensures.bytes step.in_range step.takes in
+    let back = walks_back s _ _ c.as_path.ensures.bytes step.in_range (record {
+      value = step.value;
+      rest = step.rest;
+      ends = step.rest_ends;
+    }) in
     grind (arith, common_steps, LiesIn-itself (cursor_source s), walks_back)
