@@ -4,7 +4,6 @@ pub mod Ranges
 pub mod Codes
 pub mod KeyValues
 pub mod Errors
-pub mod Lasts
 pub mod NameBytes
 pub mod PathRuns
 pub mod Runs

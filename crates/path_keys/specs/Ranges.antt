@@ -25,7 +25,3 @@ unfoldable pub end_of : List ℕ → Option (List ℕ)
 end_of [] = None
 end_of (b ∷ bs) =
     let last = length bs in Some (slice_set (b ∷ bs) last (slice_index (b ∷ bs) last + 1))
-
--- the key is in the range from the base's key up to that key with its last byte raised by one
-abbrev pub LiesUnder : List ℕ → List ℕ → Type 0
-LiesUnder base key = InRange base (end_of base) key

@@ -3,9 +3,9 @@ ghost use Rattle.std.specs.Prelude.{◌≡◌, ◌<◌, ◌^◌, ℕ, List, [], 
 ghost use Rattle.std.specs.Prelude.{◌↔◌, false, option_map, None, IfSome, IsTrue};
 ghost use Rattle.unix_path.specs.Names.{name_of};
 ghost use Rattle.unix_path.specs.Parts.{Normal, RootDir, Value};
+ghost use Rattle.unix_path.specs.Prefixes.{IsPrefixOf};
 ghost use Rattle.path_keys.specs.Keys.{code, raised};
-ghost use Rattle.path_keys.specs.Codes.{code_value, lowered, Fits, HasNoCode, IsName};
-ghost use Rattle.path_keys.specs.Codes.{IsRaised, TakesCode};
+ghost use Rattle.path_keys.specs.Codes.{code_bytes, IsComponent};
 
 use unix_bytes::internal::find_byte;
 
@@ -32,8 +32,8 @@ impl<'a> Code<'a> {
     // Returns the length of the code.
     #[inline]
     pub(crate) fn len(self) -> usize
-        requires { length (code (code_value self)) < 2 ^ 64 }
-        ensures { result ≡ length (code (code_value self.entry)) }
+        requires { length (code_bytes self) < 2 ^ 64 }
+        ensures { result ≡ length (code_bytes self.entry) }
     {
         match self {
             Code::Name(name) => name.len() + 1,
@@ -44,7 +44,7 @@ impl<'a> Code<'a> {
     // Returns true if this is the code of a root.
     #[inline]
     pub(crate) fn is_root(self) -> bool
-        ensures { IsTrue result ↔ (code_value self.entry ≡ RootDir) }
+        ensures { IsTrue result ↔ (code_bytes self.entry ≡ code RootDir) }
     {
         match self {
             Code::Root => true,
@@ -57,10 +57,9 @@ impl<'a> Code<'a> {
     // Returns the bytes of the name in the key; `None` if this is not the code of a name.
     #[inline]
     pub(crate) fn name(self) -> Option<&'a [u8]>
-        ensures value { option_map (λ name. map lowered name.now) result
-            ≡ name_of (code_value self.entry) }
-        ensures raised { IsRaised self.entry
-            → IfSome result (λ name. map raised (map lowered name.now) ≡ name.now) }
+        ensures { (v : Value) → code v ≡ code_bytes self.entry
+            → option_map (λ name. name.now) result
+            ≡ option_map (λ name. map raised name) (name_of v) }
     {
         match self {
             Code::Root => None,
@@ -75,11 +74,10 @@ impl<'a> Code<'a> {
 // don't begin with the code of a name.
 #[inline]
 fn name_in(bytes: &[u8]) -> Option<&[u8]>
-    ensures some { IfSome result
-        (λ name. TakesCode false bytes.now (Normal (map lowered name.now))) }
-    ensures raised { IfSome result (λ name. map raised (map lowered name.now) ≡ name.now) }
-    ensures none { result ≡ None → ((name x : List ℕ) → IsName name
-        → code (Normal name) ++ x ≡ bytes.now → ⊥) }
+    ensures some { IfSome result (λ name. (v : Value) × IsComponent false v
+        × (code v ≡ name.now ++ 0 ∷ []) × IsPrefixOf (code v) bytes.now) }
+    ensures none { result ≡ None → (name : List ℕ) → IsComponent false (Normal name)
+        → IsPrefixOf (code (Normal name)) bytes.now → ⊥ }
 {
     let len = find_byte(bytes, 0);
     if len == 0 {
@@ -103,11 +101,10 @@ fn name_in(bytes: &[u8]) -> Option<&[u8]>
 // only the first component of a path may have it and `first` is false.
 #[inline]
 fn mark_code<'a>(mark: u8, first: bool) -> Option<Code<'a>>
-    ensures some { IfSome result
-        (λ found. Fits first (code_value found) × (code (code_value found) ≡ 0 ∷ mark ∷ [])) }
-    ensures raised { IfSome result IsRaised }
-    ensures none { result ≡ None → ((v : Value) (x y : List ℕ) → Fits first v
-        → code v ++ x ≡ 0 ∷ mark ∷ y → ⊥) }
+    ensures some { IfSome result (λ found. (v : Value) × IsComponent first v
+        × (code v ≡ code_bytes found) × (code v ≡ 0 ∷ mark ∷ [])) }
+    ensures none { result ≡ None → (v : Value) (rest : List ℕ) → IsComponent first v
+        → IsPrefixOf (code v) (0 ∷ mark ∷ rest) → ⊥ }
 {
     if mark == PARENT_DIR_MARK {
         return Some(Code::Up);
@@ -128,9 +125,10 @@ fn mark_code<'a>(mark: u8, first: bool) -> Option<Code<'a>>
 // if only the first component of a path may have this code and `first` is false.
 #[inline]
 pub(crate) fn code_in(bytes: &[u8], first: bool) -> Option<Code<'_>>
-    ensures some { IfSome result (λ found. TakesCode first bytes.now (code_value found)) }
-    ensures raised { IfSome result IsRaised }
-    ensures none { result ≡ None → HasNoCode first bytes.now }
+    ensures some { IfSome result (λ found. (v : Value) × IsComponent first v
+        × (code v ≡ code_bytes found) × IsPrefixOf (code v) bytes.now) }
+    ensures none { result ≡ None → (v : Value) → IsComponent first v
+        → IsPrefixOf (code v) bytes.now → ⊥ }
 {
     // Each code has two bytes or more.
     if bytes.len() < 2 {

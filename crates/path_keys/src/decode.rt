@@ -1,11 +1,11 @@
 //! Reading a key back: the length of its path, and the path itself, written to a buffer of that
 //! length.
-ghost use Rattle.std.specs.Prelude.{◌≡◌, ◌≤◌, ◌+◌, ◌-◌, ◌∷◌, ◌++◌, [], length, map, take};
-ghost use Rattle.std.specs.Prelude.{IfSome, None};
-ghost use Rattle.unix_path.specs.Parts.{slash, ParentDir};
+ghost use Rattle.std.specs.Prelude.{◌≡◌, ◌↔◌, ◌≤◌, ◌+◌, ◌-◌, ℕ, List, [], ◌∷◌, ◌++◌, length, map};
+ghost use Rattle.std.specs.Prelude.{take, is_some, IsTrue, Some};
+ghost use Rattle.unix_path.specs.Parts.{slash, parent_dir, values};
 ghost use Rattle.path_runs.specs.Overlay.{overlay};
-ghost use Rattle.path_keys.specs.Keys.{IsKey};
-ghost use Rattle.path_keys.specs.Codes.{slashed, HasPath, IsRead, ReadsAs};
+ghost use Rattle.path_runs.specs.Spelling.{spelling_of};
+ghost use Rattle.path_keys.specs.Keys.{key_of, IsKey};
 ghost use Rattle.path_keys.specs.NameBytes.{decoded};
 ghost use Rattle.path_keys.specs.Runs.{lead_text, run_text};
 
@@ -15,25 +15,9 @@ use unix_bytes::internal::write_at;
 
 // Returns the length of the path of a key; `None` if no path has the key.
 pub(crate) fn path_len(key: &[u8]) -> Option<usize>
-    ensures some { IfSome result (λ len. HasPath key.now len) }
-    ensures none { result ≡ None → IsKey key.now → ⊥ }
-{
-    let Some(len) = text_len(key) else {
-        return None;
-    };
-    // For `/` and the empty path, `len` counts no slash after the path.
-    if len > 1 {
-        return Some(len - 1);
-    }
-    Some(len)
-}
-
-// Returns the length of the path of a key, plus 1 for a slash after the path unless it is `/` or
-// empty. Returns `None` if no path has the key.
-#[inline]
-fn text_len(key: &[u8]) -> Option<usize>
-    ensures some { IfSome result (λ len. ReadsAs key.now len) }
-    ensures none { result ≡ None → IsKey key.now → ⊥ }
+    ensures is_key { IsTrue (is_some result) ↔ IsKey key.now }
+    ensures length { (s : List ℕ) → key_of (values s) ≡ key.now
+        → result ≡ Some (length (spelling_of (values s))) }
 {
     let started = past_lead(key);
     let mut rest = started.rest;
@@ -45,13 +29,18 @@ fn text_len(key: &[u8]) -> Option<usize>
         len += run.text_len();
         rest = &rest[run.len()..];
     }
+    // Unless the path is `/` or empty, `len` counts a slash after it.
+    if len > 1 {
+        return Some(len - 1);
+    }
     Some(len)
 }
 
 // Writes the path of a key to `out`, which must be as long as the path.
 pub(crate) fn write_text(key: &[u8], out: &mut [u8])
-    requires { HasPath key.now (length out.old) }
-    ensures { IsRead key.now out.new }
+    requires { (s : List ℕ) × (key_of (values s) ≡ key.now)
+        × (length out.old ≡ length (spelling_of (values s))) }
+    ensures { (s : List ℕ) → key_of (values s) ≡ key.now → out.new ≡ spelling_of (values s) }
 {
     let started = past_lead(key);
     write_lead(out, started.lead);
@@ -96,7 +85,8 @@ fn write_run(out: &mut [u8], at: usize, run: Run<'_>)
 #[inline(always)]
 fn write_parent_dir(out: &mut [u8], at: usize)
     requires { at + 2 ≤ length out.old }
-    ensures { out.new ≡ overlay at (take (length out.old - at) (slashed ParentDir)) out.old }
+    ensures { out.new
+        ≡ overlay at (take (length out.old - at) (parent_dir ++ slash ∷ [])) out.old }
 {
     out[at..at + 2].copy_from_slice(b"..");
     let end = at + 2;

@@ -1,13 +1,13 @@
 //! Writing the key of a path: the codes of its components, one after the other.
 ghost use Rattle.std.specs.Prelude.{◌≡◌, ◌+◌, ◌≤◌, ◌<◌, ◌^◌, ◌∷◌, ◌++◌, [], false, length};
-ghost use Rattle.std.specs.Prelude.{vec_capacity, vec_len, MatchOption};
+ghost use Rattle.std.specs.Prelude.{ℕ, List, drop, vec_capacity, vec_len, MatchOption};
 ghost use Rattle.unix_path.specs.CommonDir.{inner_values};
 ghost use Rattle.unix_path.specs.Parts.{values};
 ghost use Rattle.unix_path.specs.Scan.{is_filler};
 ghost use Rattle.path_runs.specs.Buffer.{buffer_after};
 ghost use Rattle.path_runs.specs.Overlay.{overlay};
 ghost use Rattle.path_keys.specs.Keys.{key_of};
-ghost use Rattle.path_keys.specs.PathRuns.{run_key, BeginsKey, IsRun};
+ghost use Rattle.path_keys.specs.PathRuns.{run_key};
 
 use crate::codes::{CUR_DIR_MARK, PARENT_DIR_MARK, ROOT_MARK};
 use crate::recode::names_to_key;
@@ -106,8 +106,8 @@ fn write_key_unchecked(path: &[u8], out: &mut [u8]) -> usize
 #[inline]
 fn write_lead(path: &[u8], out: &mut [u8]) -> usize
     requires { length (key_of (values path.now)) ≤ length out.old }
-    ensures { BeginsKey (key_of (values path.now)) (key_of (inner_values path.now)) result
-        out.old out.new }
+    ensures { (lead : List ℕ) × (key_of (values path.now) ≡ lead ++ key_of (inner_values path.now))
+        × (result ≡ length lead) × (out.new ≡ overlay 0 lead out.old) }
 {
     let Some(mark) = lead_mark(path) else {
         return 0;
@@ -141,7 +141,10 @@ fn lead_mark(path: &[u8]) -> Option<u8>
 fn run_len(bytes: &[u8]) -> usize
     requires some { 0 < length bytes.now }
     requires not_filler { is_filler bytes.now 0 ≡ false }
-    ensures { IsRun bytes.now result }
+    ensures some { 0 < result }
+    ensures in_range { result ≤ length bytes.now }
+    ensures key { key_of (inner_values bytes.now)
+        ≡ run_key bytes.now result ++ key_of (inner_values (drop result bytes.now)) }
 {
     if starts_with_parent_dir(bytes) {
         return 2;

@@ -1,14 +1,13 @@
 //! The parent and the file name of a key's path, as slices of the key, and a test for prefixes.
-ghost use Rattle.std.specs.Prelude.{◌≡◌, ◌↔◌, ◌≤◌, ℕ, [], List, length, map, None, IfSome, IsTrue};
-ghost use Rattle.std.specs.Prelude.{option_map};
+ghost use Rattle.std.specs.Prelude.{◌≡◌, ◌↔◌, ◌≤◌, ℕ, [], ◌∷◌, ◌++◌, List, length, map, take, None};
+ghost use Rattle.std.specs.Prelude.{option_map, IfSome, IsTrue};
 ghost use Rattle.unix_path.specs.Names.{file_name_of};
 ghost use Rattle.unix_path.specs.Parents.{parent_of};
-ghost use Rattle.unix_path.specs.Parts.{values};
+ghost use Rattle.unix_path.specs.Parts.{values, Value};
 ghost use Rattle.unix_path.specs.Prefixes.{IsPrefixOf};
 ghost use Rattle.unix_path.specs.Slices.{LiesIn, memory_offset};
-ghost use Rattle.path_keys.specs.Keys.{key_of, raised, IsKey};
-ghost use Rattle.path_keys.specs.Codes.{code_value, IsRaised};
-ghost use Rattle.path_keys.specs.Lasts.{EndsIn};
+ghost use Rattle.path_keys.specs.Keys.{code, key_of, raised, IsKey};
+ghost use Rattle.path_keys.specs.Codes.{code_bytes};
 
 use crate::codes::{Code, code_in};
 
@@ -23,8 +22,8 @@ struct LastCode<'a> {
 fn last_code(key: &[u8]) -> Option<LastCode<'_>>
     ensures in_range { IfSome result (λ last. last.start ≤ length key.now) }
     ensures some { IfSome result (λ last. (s : List ℕ) → key_of (values s) ≡ key.now
-        → EndsIn key.now (values s) last.start (code_value last.code)) }
-    ensures raised { IfSome result (λ last. IsRaised last.code) }
+        → (front : List Value) × (v : Value) × (values s ≡ front ++ v ∷ [])
+        × (take last.start key.now ≡ key_of front) × (code v ≡ code_bytes last.code)) }
     ensures none { result ≡ None → ((s : List ℕ) → key_of (values s) ≡ key.now
         → values s ≡ []) }
     ensures not_a_key { (IsKey key.now → ⊥) → result ≡ None }

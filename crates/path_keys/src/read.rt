@@ -7,7 +7,6 @@ ghost use Rattle.unix_path.specs.Parts.{values};
 ghost use Rattle.path_runs.specs.Buffer.{buffer_after};
 ghost use Rattle.path_runs.specs.Spelling.{spelling_of};
 ghost use Rattle.path_keys.specs.Keys.{key_of, IsKey};
-ghost use Rattle.path_keys.specs.Codes.{HasPath, IsRead};
 
 use crate::decode::{path_len, write_text};
 use std::alloc::{AllocError, Global};
@@ -63,8 +62,10 @@ impl From<AllocError> for KeyError {
 
 // Returns the path of a key. The path has `len` bytes.
 fn read_text(alloc: Global, key: &[u8], len: usize) -> Result<Vec<u8>, AllocError>
-    requires { HasPath key.now len }
-    ensures read { IfOk result (λ text. IsRead key.now text.items) }
+    requires { (s : List ℕ) × (key_of (values s) ≡ key.now)
+        × (len ≡ length (spelling_of (values s))) }
+    ensures read { (s : List ℕ) → key_of (values s) ≡ key.now
+        → IfOk result (λ text. text.items ≡ spelling_of (values s)) }
     ensures succeeds { len ≡ 0 → IsOk result }
 {
     let mut text = Vec::with_capacity(alloc, len)?;

@@ -1,11 +1,12 @@
 //! The runs of a key. A key is a lead, which is a root, a leading `.` or nothing, and then runs.
 //! Each `..` is a run, and so are names up to the next `..` or the end of the key.
-ghost use Rattle.std.specs.Prelude.{◌≡◌, ◌<◌, ◌^◌, length, None, IfSome};
-ghost use Rattle.unix_path.specs.Parts.{ParentDir};
+ghost use Rattle.std.specs.Prelude.{◌≡◌, ◌<◌, ◌≤◌, ◌^◌, ℕ, List, [], ◌++◌, length, None, IfSome};
+ghost use Rattle.unix_path.specs.CommonDir.{inner_values};
+ghost use Rattle.unix_path.specs.Parts.{values, ParentDir};
 ghost use Rattle.unix_path.specs.Prefixes.{IsPrefixOf};
-ghost use Rattle.path_keys.specs.Keys.{code};
-ghost use Rattle.path_keys.specs.Runs.{lead_text, run_code, run_text, BeginsLead, HoldsNone};
-ghost use Rattle.path_keys.specs.Runs.{LeavesText, TakesRun};
+ghost use Rattle.path_runs.specs.Spelling.{slash_each};
+ghost use Rattle.path_keys.specs.Keys.{code, key_of, IsKey};
+ghost use Rattle.path_keys.specs.Runs.{lead_text, run_code, run_text, TakesRun};
 
 use crate::codes::{CUR_DIR_MARK, PARENT_DIR_MARK, ROOT_MARK};
 use unix_path::internal::{name_run_end, no_name_starts_at};
@@ -42,7 +43,9 @@ pub(crate) struct Started<'a> {
 // Splits a key into its lead and the rest after it.
 #[inline(always)]
 pub(crate) fn past_lead(key: &[u8]) -> Started<'_>
-    ensures { BeginsLead key.now result.rest.now result.lead }
+    ensures lead { key.now ≡ key_of (values (lead_text result.lead)) ++ result.rest.now }
+    ensures inner { IsKey key.now
+        → (t : List ℕ) × (key_of (inner_values t) ≡ result.rest.now) }
 {
     let absent = Started {
         lead: Lead::Absent,
@@ -104,15 +107,17 @@ impl<'a> Run<'a> {
     }
 }
 
-// Does the same as `run_in`, for bytes at the end of a key. Their components, with a slash after
+// Does the same as `run_in`, for bytes at the end of a key. Their components, with a slash for
 // each, have at most `max_len` bytes in a path. If `bytes` has that many bytes too, all components
 // are names, since a `..` has more bytes in a path than in a key. Then `bytes` needn't be searched.
 // Most keys consist of a lead and names, so this holds at their first run.
 #[inline(always)]
 pub(crate) fn next_run(bytes: &[u8], max_len: usize) -> Option<Run<'_>>
-    requires { LeavesText bytes.now max_len }
+    requires { (t : List ℕ) × (key_of (inner_values t) ≡ bytes.now)
+        × (length (slash_each (inner_values t)) ≤ max_len) }
     ensures some { IfSome result (λ run. TakesRun bytes.now run) }
-    ensures none { result ≡ None → HoldsNone bytes.now }
+    ensures none { result ≡ None → (t : List ℕ) → key_of (inner_values t) ≡ bytes.now
+        → bytes.now ≡ [] }
 {
     if bytes.len() == max_len && max_len > 0 {
         return Some(Run::Names(&bytes[..max_len - 1]));
@@ -125,7 +130,8 @@ pub(crate) fn next_run(bytes: &[u8], max_len: usize) -> Option<Run<'_>>
 #[inline(always)]
 pub(crate) fn run_in(bytes: &[u8]) -> Option<Run<'_>>
     ensures some { IfSome result (λ run. TakesRun bytes.now run) }
-    ensures none { result ≡ None → HoldsNone bytes.now }
+    ensures none { result ≡ None → (t : List ℕ) → key_of (inner_values t) ≡ bytes.now
+        → bytes.now ≡ [] }
 {
     if bytes.starts_with(&[0, PARENT_DIR_MARK]) {
         return Some(Run::ParentDir);
@@ -140,7 +146,8 @@ pub(crate) fn run_in(bytes: &[u8]) -> Option<Run<'_>>
 fn names_in(bytes: &[u8]) -> Option<Run<'_>>
     requires { IsPrefixOf (code ParentDir) bytes.now → ⊥ }
     ensures some { IfSome result (λ run. TakesRun bytes.now run) }
-    ensures none { result ≡ None → HoldsNone bytes.now }
+    ensures none { result ≡ None → (t : List ℕ) → key_of (inner_values t) ≡ bytes.now
+        → bytes.now ≡ [] }
 {
     // A slash is a raised dot.
     if no_name_starts_at(bytes, 0, 0, b'/') {

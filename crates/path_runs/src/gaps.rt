@@ -1,9 +1,10 @@
 //! Finds the gaps of a path. A gap is a slash that is followed by an empty piece or the piece `.`;
 //! the canonical form leaves both out.
-ghost use Rattle.std.specs.Prelude.{◌≡◌, ℕ, ◌+◌, ◌<◌, ◌≤◌, length, drop, false, slice_index};
+ghost use Rattle.std.specs.Prelude.{◌≡◌, ℕ, ◌+◌, ◌<◌, ◌≤◌, length, drop, true, false};
+ghost use Rattle.std.specs.Prelude.{slice_index};
 ghost use Rattle.unix_path.specs.Parts.{slash};
 ghost use Rattle.unix_path.specs.Scan.{is_filler};
-ghost use Rattle.path_runs.specs.Gaps.{is_gap, slashed_parts, FirstGap, IsPartStart};
+ghost use Rattle.path_runs.specs.Gaps.{is_gap, slashed_parts, IsPartStart};
 
 use std::simd::prelude::*;
 use unix_path::internal::is_filler;
@@ -65,7 +66,9 @@ fn gapless_len(bytes: &[u8]) -> usize
 // time, and the last two bytes one by one. Fewer than 18 bytes are all searched one by one.
 #[inline]
 pub(crate) fn first_gap(bytes: &[u8]) -> usize
-    ensures { FirstGap bytes.now result }
+    ensures in_range { result ≤ length bytes.now }
+    ensures gap { result < length bytes.now → is_gap bytes.now result ≡ true }
+    ensures none_before { (i : ℕ) → i < result → is_gap bytes.now i ≡ false }
 {
     let mut at = gapless_len(bytes);
     while at < bytes.len() && !is_gap(bytes, at) {

@@ -1,13 +1,16 @@
 //! Answers to lists of edits.
-ghost use Rattle.std.specs.Prelude.{◌≡◌, ◌++◌, IfOk, OnOk, Some, map, option_map};
+ghost use Rattle.std.specs.Prelude.{◌≡◌, ◌++◌, ◌∷◌, IfOk, OnOk, None, Some, is_some, map};
+ghost use Rattle.std.specs.Prelude.{option_map};
+ghost use Rattle.std.specs.Prelude.{if◌then◌else◌};
+ghost use Rattle.std.specs.List.{filter_map, flat_map, list_all};
 ghost use Rattle.std.specs.Map.{lookup};
 ghost use Rattle.std.specs.Str.{bytes_eq};
 ghost use Rattle.path_runs.specs.EditViews.{edit_value};
-ghost use Rattle.pathtool.specs.Fields.{fields_of};
+ghost use Rattle.pathtool.specs.Fields.{fields_of, tabs};
 ghost use Rattle.pathtool.specs.ExtraFields.{extra_fields};
 ghost use Rattle.pathtool.specs.EditFields.{edits_by_name, edit_of_field, answer_word};
-ghost use Rattle.pathtool.specs.EditFields.{edit_answer};
-ghost use Rattle.pathtool.specs.Steps.{edits_of_fields, edited_answer, words_of};
+ghost use Rattle.pathtool.specs.EditFields.{edit_answer, edit_items};
+ghost use Rattle.pathtool.specs.Steps.{tab};
 
 use crate::fields::{ExtraFields, is_named};
 use crate::texts::push_bad_command;
@@ -57,7 +60,8 @@ fn edit_from(field: &[u8]) -> Option<Edit<'_>>
 // Returns the edits that these fields name, or `None` if one of the fields names no edit.
 fn edits_from(alloc: Global, fields: &[u8]) -> Result<Option<Vec<Edit<'_>>>, AllocError>
     ensures { IfOk result (λ edits. option_map (λ es. map edit_value es.items) edits
-        ≡ edits_of_fields (fields_of fields.now)) }
+        ≡ (if list_all (λ field. is_some (edit_of_field field)) (fields_of fields.now)
+        then Some (filter_map edit_of_field (fields_of fields.now)) else None)) }
 {
     let mut edits = Vec::new(alloc);
     for field in fields.split(|b| *b == b'\t') {
@@ -83,7 +87,8 @@ fn answer_word(answer: Answer) -> &'static str
 
 // Appends the word for each answer, with a tab before it.
 fn push_words(answers: &[Answer], answer: &mut Vec<u8>) -> Result<(), AllocError>
-    ensures { OnOk result (answer.new.items ≡ answer.old.items ++ words_of answers.now) }
+    ensures { OnOk result (answer.new.items
+        ≡ answer.old.items ++ flat_map (λ given. tab ∷ answer_word given) answers.now) }
 {
     for given in answers {
         answer.push(b'\t')?;
@@ -96,7 +101,7 @@ fn push_words(answers: &[Answer], answer: &mut Vec<u8>) -> Result<(), AllocError
 // the words for the answers of the edits.
 fn push_edited(path: Path<'_>, edits: &[Edit<'_>], answer: &mut Vec<u8>) -> Result<(), AllocError>
     ensures { OnOk result (answer.new.items ≡ answer.old.items
-        ++ edited_answer path.entry.bytes.now (Some (map edit_value edits.now))) }
+        ++ tabs (edit_items path.entry.bytes.now (map edit_value edits.now))) }
 {
     let alloc = *answer.allocator();
     let mut edited = path.to_path_buf(alloc)?;

@@ -1,10 +1,10 @@
 //! Answers that are lists, with a tab between two items.
-ghost use Rattle.std.specs.Prelude.{◌≡◌, ◌++◌, ◌∷◌, OnOk, List, reverse, if◌then◌else◌};
+ghost use Rattle.std.specs.Prelude.{◌≡◌, ◌++◌, ◌∷◌, OnOk, List, map, reverse, if◌then◌else◌};
 ghost use Rattle.std.specs.Iterator.{IsFinite, Drains};
 ghost use Rattle.unix_bytes.specs.declared.bytes.UnixStr.{UnixStr};
 ghost use Rattle.unix_path.specs.Parents.{ancestors_of};
 ghost use Rattle.pathtool.specs.Fields.{tabs};
-ghost use Rattle.pathtool.specs.Steps.{names_bytes, tab};
+ghost use Rattle.pathtool.specs.Steps.{tab};
 ghost use Rattle.pathtool.specs.Walks.{part_bytes};
 
 use std::alloc::AllocError;
@@ -30,7 +30,7 @@ pub(crate) fn push_list<'a, I: Iterator<Item = UnixStr<'a>>>(
     requires can { I.can_next items }
     requires ends { IsFinite (I.remaining items) }
     ensures { OnOk result ((xs : List UnixStr) × Drains I.next_gives items xs
-        × (answer.new.items ≡ answer.old.items ++ tabs (names_bytes xs))) }
+        × (answer.new.items ≡ answer.old.items ++ tabs (map (λ name. name.bytes.now) xs))) }
 {
     let mut is_first = true;
     for item in items {

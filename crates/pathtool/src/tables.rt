@@ -8,7 +8,7 @@ ghost use Rattle.path_table.specs.Table.{table_of};
 ghost use Rattle.pathtool.specs.Fields.{fields_of, tabs};
 ghost use Rattle.pathtool.specs.ExtraFields.{extra_fields};
 ghost use Rattle.pathtool.specs.Tables.{entries_with, under_answer};
-ghost use Rattle.pathtool.specs.Steps.{row_spelling, tab};
+ghost use Rattle.pathtool.specs.Steps.{tab};
 
 use crate::fields::ExtraFields;
 use crate::paths::push_canon;
@@ -64,7 +64,7 @@ fn push_canon_item(path: Path<'_>, is_first: bool, answer: &mut Vec<u8>) -> Resu
 // Appends the canonical form of each path, with a tab between two of them.
 fn push_all(paths: &[(Path<'_>, &())], answer: &mut Vec<u8>) -> Result<(), AllocError>
     ensures { OnOk result (answer.new.items ≡ answer.old.items
-        ++ tabs (map row_spelling paths.now)) }
+        ++ tabs (map (λ found. spelling_of (values found.0.bytes.now)) paths.now)) }
 {
     let mut is_first = true;
     for (path, _) in paths {

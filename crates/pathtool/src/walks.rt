@@ -1,15 +1,14 @@
 //! Answers to walks by turns.
-ghost use Rattle.std.specs.Prelude.{◌≡◌, ◌++◌, OnOk, IfOk, is_some};
+ghost use Rattle.std.specs.Prelude.{◌≡◌, ◌++◌, [], ◌∷◌, OnOk, IfOk, is_some};
 ghost use Rattle.std.specs.Fmt.{decimal};
 ghost use Rattle.std.specs.List.{filter_map, list_all};
-ghost use Rattle.pathtool.specs.Fields.{tabs};
-ghost use Rattle.pathtool.specs.Steps.{counts_text, walked_items};
+ghost use Rattle.pathtool.specs.Steps.{tab};
 ghost use Rattle.pathtool.specs.Walks.{turn_of, walk_answer};
 
 use crate::lists::push_list;
 use crate::texts::push_bad_command;
+use path_runs::Turn;
 use path_runs::walk::walk;
-use path_runs::{Turn, Walked};
 use std::alloc::{AllocError, Global};
 use std::iter::once;
 use unix_path::{Component, Path};
@@ -42,39 +41,15 @@ fn turns_from(alloc: Global, letters: &[u8]) -> Result<Vec<Turn>, AllocError>
         .collect(alloc)
 }
 
-// Appends a count in decimal.
+// Appends a count in decimal, and a tab.
 fn push_count(count: usize, answer: &mut Vec<u8>) -> Result<(), AllocError>
-    ensures { OnOk result (answer.new.items ≡ answer.old.items ++ decimal count) }
+    ensures { OnOk result (answer.new.items
+        ≡ (answer.old.items ++ decimal count) ++ tab ∷ []) }
 {
     let text = format!(in *answer.allocator(); "{count}")?;
-    answer.extend_from_slice(text.as_bytes())
-}
-
-// Appends the number of components that a walk took from the front, and then from the back, with a
-// tab after each number.
-fn push_counts(walked: &Walked<'_>, answer: &mut Vec<u8>) -> Result<(), AllocError>
-    ensures { OnOk result (answer.new.items ≡ answer.old.items ++ counts_text walked.now) }
-{
-    push_count(walked.front.len(), answer)?;
-    answer.push(b'\t')?;
-    push_count(walked.behind.len(), answer)?;
+    answer.extend_from_slice(text.as_bytes())?;
     answer.push(b'\t')?;
     Ok(())
-}
-
-// Appends the results of a walk as a list: the two counts, the components taken from the front, the
-// rest, and the components taken from the back.
-fn push_walked(walked: &Walked<'_>, answer: &mut Vec<u8>) -> Result<(), AllocError>
-    ensures { OnOk result (answer.new.items
-        ≡ answer.old.items ++ tabs (walked_items walked.now)) }
-{
-    push_counts(walked, answer)?;
-    let front = walked.front.iter().map(|part| part.as_unix_str());
-    let behind = walked.behind.iter().map(|part| part.as_unix_str());
-    push_list(
-        front.chain(once(walked.rest.as_unix_str())).chain(behind),
-        answer,
-    )
 }
 
 /// Takes a component from one end of the path for each letter, and appends the results to `answer`,
@@ -101,5 +76,12 @@ pub fn push_walk(path: Path<'_>, letters: &[u8], answer: &mut Vec<u8>) -> Result
     let alloc = *answer.allocator();
     let turns = turns_from(alloc, letters)?;
     let walked = walk(alloc, path, turns.as_slice())?;
-    push_walked(&walked, answer)
+    push_count(walked.front.len(), answer)?;
+    push_count(walked.behind.len(), answer)?;
+    let front = walked.front.iter().map(|part| part.as_unix_str());
+    let behind = walked.behind.iter().map(|part| part.as_unix_str());
+    push_list(
+        front.chain(once(walked.rest.as_unix_str())).chain(behind),
+        answer,
+    )
 }

@@ -7,4 +7,3 @@ pub mod ErrorCodes
 pub mod Entries
 pub mod Layout
 pub mod SaturatedSize
-pub mod Steps

@@ -28,14 +28,8 @@ part_from at p = record { start = p.start + at; end = p.end + at; value = p.valu
 abbrev pub remaining_parts : List ℕ → Walk → List paths.Part
 remaining_parts path walk = map (part_from walk.front) (parts (remaining path walk))
 
--- the kind of a component: 0 for the root, 1 for `.`, 2 for `..`, and 3 for a name
-abbrev pub kind_of : Value → ℕ
-kind_of RootDir = 0
-kind_of CurDir = 1
-kind_of ParentDir = 2
-kind_of (Normal name) = 3
-
--- the component of this kind, which has these bytes if it is a name
+-- the component of this kind, which has these bytes if it is a name; the kind is 0 for the root, 1
+-- for `.`, 2 for `..`, and 3 for a name
 abbrev pub value_of_kind : ℕ → List ℕ → Value
 value_of_kind kind bytes =
     if kind == 0 then RootDir

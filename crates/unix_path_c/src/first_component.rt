@@ -1,8 +1,10 @@
 //! A fast step over the first component in the rest of a walk. It applies if the rest ends in a
 //! component, and begins with neither the root nor a `.`. After a walk's first step this is always
 //! so.
-ghost use Rattle.std.specs.Prelude.{◌<◌, length, IfSome};
-ghost use Rattle.unix_path_c.specs.Steps.{StartsWithPart};
+ghost use Rattle.std.specs.Prelude.{◌≡◌, ◌≤◌, ◌<◌, ◌∷◌, false, length, take, drop, IfSome};
+ghost use Rattle.unix_path.specs.Parts.{inner_parts, parts, value_bytes};
+ghost use Rattle.unix_path.specs.Scan.{is_filler, EndsInPart};
+ghost use Rattle.unix_path_c.specs.Walks.{value_of_kind};
 
 use unix_path::internal::{
     is_filler, is_trailing, name_step, parent_dir_step, starts_with_parent_dir,
@@ -20,7 +22,16 @@ pub(crate) const NORMAL: u32 = 3;
 #[inline(always)]
 pub(crate) fn first_part(bytes: &[u8]) -> Option<(usize, usize, u32)>
     requires { 0 < length bytes.now }
-    ensures { IfSome result (λ part. StartsWithPart bytes.now part.0 part.1 part.2) }
+    ensures ends { IfSome result (λ _. EndsInPart bytes.now) }
+    ensures in_range { IfSome result (λ part. part.1 ≤ length bytes.now) }
+    ensures parts { IfSome result (λ part. parts bytes.now
+        ≡ record { start = 0; end = part.0; value = value_of_kind part.2 (take part.0 bytes.now) }
+        ∷ inner_parts part.1 (drop part.1 bytes.now)) }
+    ensures size { IfSome result (λ part.
+        part.0 ≡ length (value_bytes (value_of_kind part.2 (take part.0 bytes.now)))) }
+    ensures kind { IfSome result (λ part. part.2 < 4) }
+    ensures not_filler { IfSome result (λ part.
+        part.1 < length bytes.now → is_filler bytes.now part.1 ≡ false) }
 {
     if is_filler(bytes, 0) || is_trailing(bytes, bytes.len() - 1) {
         return None;

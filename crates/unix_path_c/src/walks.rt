@@ -5,10 +5,8 @@ ghost use Rattle.unix_path.specs.Parts.{parts, value_bytes, values};
 ghost use Rattle.unix_path.specs.Rest.{rest};
 ghost use Rattle.unix_path.specs.Views.{value_of};
 ghost use Rattle.unix_path_c.specs.Spans.{span_bytes, span_end};
-ghost use Rattle.unix_path_c.specs.Steps.{TakenFromBack, TakenFromFront};
-ghost use Rattle.unix_path_c.specs.Walks.{InOrder, remaining, kind_of as kind_of_value};
-ghost use Rattle.unix_path_c.specs.Walks.{part_bytes, part_end, part_in, part_value};
-ghost use Rattle.unix_path_c.specs.Walks.{remaining_parts};
+ghost use Rattle.unix_path_c.specs.Walks.{InOrder, remaining, part_bytes, part_end, part_in};
+ghost use Rattle.unix_path_c.specs.Walks.{part_value, remaining_parts, value_of_kind};
 
 use crate::first_component::{NORMAL, PARENT_DIR, first_part};
 use crate::last_step::last_name;
@@ -48,7 +46,9 @@ pub struct Part {
 // Returns the kind of a component.
 #[inline]
 fn kind_of(part: Component<'_>) -> u32
-    ensures { result ≡ kind_of_value (value_of part.entry) }
+    ensures value { value_of part.entry
+        ≡ value_of_kind result (value_bytes (value_of part.entry)) }
+    ensures in_range { result < 4 }
 {
     match part {
         Component::RootDir => 0,
@@ -70,14 +70,26 @@ fn rest_of<'a>(path: &'a [u8], walk: &Walk) -> Path<'a>
     }
 }
 
-// Removes the first component, of any kind, from the rest of a walk, and writes it to `part`.
-// Returns false if no component remains. Not inlined, so that most steps stay small.
+// Does the same as `unix_path_next`, for a first component of any kind. Not inlined, so that most
+// steps stay small.
 #[inline(never)]
 fn take_first(path: &[u8], walk: &mut Walk, part: &mut Part) -> bool
-    ensures ended { IsFalse result → (remaining path.now walk.old ≡ []) }
+    ensures ended { IsFalse result ↔ (remaining path.now walk.old ≡ []) }
     ensures walk_unchanged { IsFalse result → walk.new ≡ walk.old }
     ensures part_unchanged { IsFalse result → part.new ≡ part.old }
-    ensures taken { IsTrue result → TakenFromFront path.now walk.old walk.new part.new }
+    ensures parts { IsTrue result →
+        remaining_parts path.now walk.old ≡ part_in path.now part.new
+        ∷ remaining_parts path.now walk.new }
+    ensures values { IsTrue result → values (remaining path.now walk.old)
+        ≡ part_value path.now part.new ∷ values (remaining path.now walk.new) }
+    ensures bytes { IsTrue result →
+        part_bytes path.now part.new ≡ value_bytes (part_value path.now part.new) }
+    ensures kind { IsTrue result → part.new.kind < 4 }
+    ensures remaining_bytes { IsTrue result
+        → remaining path.now walk.new ≡ rest (remaining path.now walk.old) 1 0 }
+    ensures in_order { IsTrue result → InOrder (walk.old.front ∷ part.new.start
+        ∷ part_end part.new ∷ walk.new.front ∷ walk.new.back ∷ walk.old.back
+        ∷ length path.now ∷ []) }
 {
     let mut parts = rest_of(path, walk).components();
     let len = parts.as_path().bytes.len();
@@ -97,14 +109,24 @@ fn take_first(path: &[u8], walk: &mut Walk, part: &mut Part) -> bool
     true
 }
 
-// Removes the last component, of any kind, from the rest of a walk, and writes it to `part`.
-// Returns false if no component remains. Not inlined, so that most steps stay small.
+// Does the same as `unix_path_next_back`, for a last component of any kind. Not inlined, so that
+// most steps stay small.
 #[inline(never)]
 fn take_last(path: &[u8], walk: &mut Walk, part: &mut Part) -> bool
-    ensures ended { IsFalse result → (remaining path.now walk.old ≡ []) }
+    ensures ended { IsFalse result ↔ (remaining path.now walk.old ≡ []) }
     ensures walk_unchanged { IsFalse result → walk.new ≡ walk.old }
     ensures part_unchanged { IsFalse result → part.new ≡ part.old }
-    ensures taken { IsTrue result → TakenFromBack path.now walk.old walk.new part.new }
+    ensures parts { IsTrue result → remaining_parts path.now walk.old
+        ≡ remaining_parts path.now walk.new ++ part_in path.now part.new ∷ [] }
+    ensures values { IsTrue result → values (remaining path.now walk.old)
+        ≡ values (remaining path.now walk.new) ++ part_value path.now part.new ∷ [] }
+    ensures bytes { IsTrue result →
+        part_bytes path.now part.new ≡ value_bytes (part_value path.now part.new) }
+    ensures kind { IsTrue result → part.new.kind < 4 }
+    ensures remaining_bytes { IsTrue result
+        → remaining path.now walk.new ≡ rest (remaining path.now walk.old) 0 1 }
+    ensures in_order { IsTrue result → InOrder (walk.old.front ∷ walk.new.front ∷ walk.new.back
+        ∷ part.new.start ∷ part_end part.new ∷ walk.old.back ∷ length path.now ∷ []) }
 {
     let mut parts = rest_of(path, walk).components();
     let len = parts.as_path().bytes.len();

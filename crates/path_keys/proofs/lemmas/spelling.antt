@@ -1,4 +1,5 @@
 -- Keys read run by run, and their paths written run by run.
+pub mod RunTextLemmas
 pub mod ParentRunLemmas
 pub mod StartLemmas
 pub mod RunReadLemmas

@@ -1,6 +1,7 @@
 -- Keys of values: their codes, order, length and ranges.
 pub mod KeyLemmas
 pub mod LengthLemmas
+pub mod Fitting
 pub mod CodeLemmas
 pub mod OrderLemmas
 pub mod RangeLemmas
@@ -10,4 +11,3 @@ pub mod BeginLemmas
 -- Used only in this crate.
 mod ByteLemmas
 pub mod JoinLemmas
-pub mod MarkLemmas

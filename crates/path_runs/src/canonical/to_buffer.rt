@@ -1,9 +1,10 @@
 //! The canonical form, written to the caller's buffer.
-ghost use Rattle.std.specs.Prelude.{◌≡◌, ◌+◌, ◌<◌, ◌≤◌, ◌++◌, true, length, take, drop};
-ghost use Rattle.unix_path.specs.Parts.{values};
+ghost use Rattle.std.specs.Prelude.{◌≡◌, ◌+◌, ◌-◌, ◌<◌, ◌≤◌, ◌++◌, true, length, take, drop};
+ghost use Rattle.std.specs.Prelude.{slice_index};
+ghost use Rattle.unix_path.specs.Parts.{slash, values};
 ghost use Rattle.unix_path.specs.Scan.{EndsInPart};
 ghost use Rattle.path_runs.specs.Buffer.{buffer_after};
-ghost use Rattle.path_runs.specs.Gaps.{is_gap, slashed_parts, IsGaplessRun, IsPartStart};
+ghost use Rattle.path_runs.specs.Gaps.{is_gap, slashed_parts, IsPartStart};
 ghost use Rattle.path_runs.specs.Overlay.{overlay};
 ghost use Rattle.path_runs.specs.Spelling.{spelling_of};
 
@@ -38,7 +39,12 @@ fn canonical_prefix_len(bytes: &[u8]) -> usize
 pub(super) fn gapless_run_at(bytes: &[u8], start: usize) -> &[u8]
     requires in_range { start < length bytes.now }
     requires part { IsPartStart bytes.now start }
-    ensures { IsGaplessRun bytes.now start result.now }
+    ensures more { 1 < length result.now }
+    ensures in_range { start - 1 + length result.now ≤ length bytes.now }
+    ensures gap { start - 1 + length result.now < length bytes.now
+        → slice_index bytes.now (start - 1 + length result.now) ≡ slash }
+    ensures same { slashed_parts (drop start bytes.now)
+        ≡ result.now ++ slashed_parts (drop (start - 1 + length result.now) bytes.now) }
 {
     let len = first_gap(&bytes[start..]);
     &bytes[start - 1..start + len]

@@ -2,7 +2,6 @@ use Rattle.std.proofs.Common.{take, ap, sym, ◌∙◌, arith, rules}
 use Rattle.std.proofs.lemmas.Bool.{true≢false}
 use Rattle.std.specs.Str.{bytes_eq}
 use Rattle.unix_path.specs.Parts.{cur_dir, parent_dir}
-use Rattle.path_keys.proofs.lemmas.values.LoweredLemmas.{map-raised-lowered, NoZero-before}
 use Rattle.path_keys.proofs.lemmas.reading.NameLemmas.{no_name_first, no_name_read, takes_name}
 use Rattle.path_keys.proofs.codes.name_in.Goals as goal
 
@@ -41,6 +40,3 @@ returns-clause-some c =
     ∙ c.if-eq.false)
     (ap (bytes_eq (take n c.args.bytes.now)) (sym c.as_slice-2.ensures) ∙ sym c.eq-2.ensures
     ∙ c.if-eq-2.false)
-
-pub returns-clause-raised : goal.returns-clause-raised
-returns-clause-raised c = grind (arith, map-raised-lowered, NoZero-before)

@@ -1,12 +1,20 @@
 use Rattle.std.proofs.Common.{refl, arith}
 use Rattle.std.proofs.lemmas.List.{take_rest}
-use Rattle.path_keys.proofs.lemmas.spelling.CutLemmas.{cut_lead, cut_fits, cut_one}
+use Rattle.path_keys.proofs.lemmas.spelling.CutLemmas.{cut_lead, cut_leaves, cut_fits, cut_one}
 use Rattle.path_keys.proofs.lemmas.spelling.CutLemmas.{cut_all}
+use Rattle.path_keys.proofs.lemmas.spelling.RunTextLemmas.{lead_known}
 use Rattle.path_keys.proofs.decode.write_text.Goals as goal
 
 pub loop-run-init : goal.loop-run-init
 loop-run-init c =
-    cut_lead c.requires c.past_lead-started.ensures c.write_lead.ensures c.len_in_path-at.ensures
+    let started = c.past_lead-started.ensures in
+    cut_lead c.requires (lead_known started.lead started.inner) c.write_lead.ensures
+    c.len_in_path-at.ensures
+
+pub next_run-requires : goal.next_run-requires
+next_run-requires c =
+    let (t, key_is, short) = cut_leaves c.loop-run.invariant in
+    (t, key_is, omega (arith, short, c.loop-run.auto.out, c.write_lead.auto.out))
 
 pub write_run-requires : goal.write_run-requires
 write_run-requires c =

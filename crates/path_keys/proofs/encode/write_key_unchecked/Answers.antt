@@ -13,8 +13,8 @@ loop-rest-preserved c =
     let rest = c.after_filler-rest-in-loop-rest in
     record {
       not_filler = rest.ensures.not_filler;
-      written = written_run c.loop-rest.rest.now rest.result.now c.loop-rest.invariant.written
-          c.run_len-end.ensures c.write_run-at.ensures.out
+      written = written_run n c.loop-rest.rest.now rest.result.now c.loop-rest.invariant.written
+          c.run_len-end.ensures.key c.write_run-at.ensures.out
           (ap inner_values (sym (take_rest c.loop-rest.rest.now n)) ∙ rest.ensures.same)
           (ap (λ k. c.loop-rest.at + k) c.write_run-at.ensures.len);
     }

@@ -13,7 +13,7 @@ use Rattle.unix_path.proofs.lemmas.parts.PartLemmas.{values-nil}
 use Rattle.path_runs.specs.Spelling.{slashed_bytes, spelling_of}
 use Rattle.path_runs.proofs.lemmas.joins.LeadLemmas.{dot_first}
 use Rattle.path_runs.proofs.lemmas.spelling.PieceValueLemmas.{AllCount, HoldsOfPieces, NoSlash}
-use Rattle.path_runs.proofs.lemmas.spelling.PieceValueLemmas.{names_of}
+use Rattle.path_runs.proofs.lemmas.spelling.PieceValueLemmas.{inner_values-pieces, names_of}
 use Rattle.path_runs.proofs.lemmas.spelling.PieceValueLemmas.{values-hold_rooted, values-rooted}
 use Rattle.path_runs.proofs.lemmas.spelling.PieceValueLemmas.{values-rootless}
 use Rattle.path_runs.proofs.lemmas.spelling.ReadBackLemmas.{names_of-join_with_byte}
@@ -22,7 +22,9 @@ use Rattle.path_runs.proofs.lemmas.spelling.ReadBackLemmas.{values-join_with_byt
 use Rattle.path_runs.proofs.lemmas.spelling.SpellLemmas.{spelling_of-nil, spelling_of-root}
 use Rattle.path_runs.proofs.lemmas.spelling.SpellLemmas.{spelling_of-dot}
 use Rattle.path_runs.proofs.lemmas.spelling.SpellLemmas.{spelling_of-cons}
-use Rattle.path_keys.specs.Codes.{Fits, AllFit}
+use Rattle.path_keys.proofs.lemmas.values.Fitting.{Fits, AllFit}
+use Rattle.unix_path.specs.CommonDir.{inner_values}
+use Rattle.path_keys.specs.Codes.{IsComponent}
 use Rattle.path_keys.specs.Keys.{key_of}
 use Rattle.path_keys.proofs.lemmas.values.CodeLemmas.{IsCoded}
 use Rattle.path_keys.proofs.lemmas.values.KeyLemmas.{key_of-append}
@@ -174,3 +176,29 @@ values-spelled (ParentDir ∷ vs) h =
     ap values (spelling_of-cons ParentDir vs (λ e. cc)) ∙ inner-spelled (ParentDir ∷ vs) (tt, h.1)
 values-spelled (Normal name ∷ vs) h =
     ap values (spelling_of-cons (Normal name) vs (λ e. cc)) ∙ inner-spelled (Normal name ∷ vs) h
+
+-- the inner components of s may follow other components
+pub inner-fit : (s : List ℕ) → AllFit false (inner_values s)
+inner-fit s = subst (AllFit false) (sym (inner_values-pieces s)) (names-fit s)
+
+-- if vs may follow other components, vs joined by slashes has the inner components vs
+pub inner_values-slashed : (vs : List Value) → AllFit false vs
+    → inner_values (slashed_bytes vs) ≡ vs
+inner_values-slashed vs h =
+    inner_values-pieces (slashed_bytes vs)
+    ∙ names_of-join_with_byte (map value_bytes vs) (pieces-no_slash vs h) (pieces-count vs h)
+    ∙ pieces-values vs h
+
+-- if v fits, it is the only component of some bytes
+pub fits-component : (first : Bool) (v : Value) → Fits first v → IsComponent first v
+fits-component true v h = (spelling_of (v ∷ []), values-spelled (v ∷ []) (h, tt))
+fits-component false v h = (slashed_bytes (v ∷ []), inner_values-slashed (v ∷ []) (h, tt))
+
+-- if v is the only component of some bytes, it fits
+pub component-fits : (first : Bool) (v : Value) → IsComponent first v → Fits first v
+component-fits true v h = (subst (AllFit true) h.1 (values-fit h.0)).0
+component-fits false v h = (subst (AllFit false) h.1 (inner-fit h.0)).0
+
+-- if v may follow other components, it may be a component after none or some
+pub component-any : (first : Bool) (v : Value) → IsComponent false v → IsComponent first v
+component-any first v h = fits-component first v (Fits-any first v (component-fits false v h))

@@ -9,80 +9,79 @@ use Rattle.path_runs.specs.Buffer.{buffer_after}
 use Rattle.path_runs.specs.Spelling.{spelling_of}
 use Rattle.path_runs.proofs.lemmas.lists.OverlayLemmas.{buffer_after-fits}
 use Rattle.path_keys.specs.Keys.{key_of, IsKey}
-use Rattle.path_keys.specs.Codes.{text_of, AllFit, HasPath, IsRead, ReadsAs}
+use Rattle.path_keys.proofs.lemmas.values.Fitting.{AllFit}
+use Rattle.path_keys.proofs.lemmas.reading.TextLemmas.{text_of}
 use Rattle.path_runs.proofs.lemmas.spelling.SpellLemmas.{spelling_of-nil}
 use Rattle.path_keys.proofs.lemmas.values.CodeLemmas.{values-coded}
-use Rattle.path_keys.proofs.lemmas.reading.FitLemmas.{values-spelled}
+use Rattle.path_keys.proofs.lemmas.reading.FitLemmas.{AllFit-coded, values-spelled}
 use Rattle.path_keys.proofs.lemmas.values.KeyLemmas.{key_of-nil}
 use Rattle.path_keys.proofs.lemmas.values.OrderLemmas.{key_of-same}
 use Rattle.path_keys.proofs.lemmas.reading.TextLemmas.{text_of-spelled}
 
--- if vs may be all components of a path, and `key` is their key, it reads back as their canonical
+-- if vs may be all components of a path, and `key` is their key, it is the key of their canonical
 -- form
-pub spelled_read : (key : List ℕ) (vs : List Value) → AllFit true vs → key_of vs ≡ key
-    → IsRead key (spelling_of vs)
-spelled_read key vs fit e =
-    let same = values-spelled vs fit in
-    record { key_is = ap key_of same ∙ e; spelled = ap spelling_of (sym same) }
+pub spelled_key : {key : List ℕ} (vs : List Value) → AllFit true vs → key_of vs ≡ key
+    → key_of (values (spelling_of vs)) ≡ key
+spelled_key vs fit e = ap key_of (values-spelled vs fit) ∙ e
 
--- if `key` reads back as components whose text has `len` bytes, more than one, its path has
--- `len - 1` bytes
-pub path_longer : (key : List ℕ) (len : ℕ) → ReadsAs key len → 1 < len → HasPath key (len - 1)
-path_longer key len h more =
-    let text = text_of h.vs in
-    let is = (text_of-spelled h.vs h.fit text refl).0 (omega (arith, h.len_is)) in
-    record {
-      path = spelling_of h.vs;
-      read = spelled_read key h.vs h.fit h.key_is;
-      len_is = omega (
-        arith,
-        h.len_is,
-        ap length is,
-        length-take-le (length text - 1) text (omega arith),
-      );
-    }
+-- if vs may be all components of a path, and `key` is their key, each path with the key has these
+-- components
+pub same_values : {key : List ℕ} (vs : List Value) (s : List ℕ) → AllFit true vs
+    → key_of vs ≡ key → key_of (values s) ≡ key → vs ≡ values s
+same_values vs s fit e k =
+    key_of-same vs (values s) (AllFit-coded true vs fit) (values-coded s) (e ∙ sym k)
 
--- if `key` reads back as components whose text has `len` bytes, at most one, its path has `len`
--- bytes
-pub path_lone : (key : List ℕ) (len : ℕ) → ReadsAs key len → len ≤ 1 → HasPath key len
-path_lone key len h few = record {
-  path = spelling_of h.vs;
-  read = spelled_read key h.vs h.fit h.key_is;
-  len_is = h.len_is
-      ∙ ap length ((text_of-spelled h.vs h.fit (text_of h.vs) refl).1 (omega (arith, h.len_is)));
-}
+-- if the text of vs, which may be all components of a path, has `len` bytes, more than one, the
+-- canonical form of vs has one byte less
+pub spelled_longer : (vs : List Value) → AllFit true vs → (len : ℕ) → len ≡ length (text_of vs)
+    → 1 < len → len - 1 ≡ length (spelling_of vs)
+spelled_longer vs fit len e more =
+    let text = text_of vs in
+    let is = (text_of-spelled vs fit text refl).0 (omega (arith, e)) in
+    omega (arith, e, ap length is, length-take-le (length text - 1) text (omega arith))
 
--- if `key` reads back as `path`, and is the key of s, `path` is the canonical form of s
-pub read_back : (key path s : List ℕ) → IsRead key path → key_of (values s) ≡ key
-    → path ≡ spelling_of (values s)
-read_back key path s h e = grind (arith, key_of-same, values-coded)
+-- if the text of vs, which may be all components of a path, has `len` bytes, at most one, the
+-- canonical form of vs has as many bytes
+pub spelled_lone : (vs : List Value) → AllFit true vs → (len : ℕ) → len ≡ length (text_of vs)
+    → len ≤ 1 → len ≡ length (spelling_of vs)
+spelled_lone vs fit len e few =
+    e ∙ ap length ((text_of-spelled vs fit (text_of vs) refl).1 (omega (arith, e)))
 
--- if the path of `key` has n bytes, and `key` is the key of s, the canonical form of s has n bytes
-spelled_long : {key : List ℕ} {n : ℕ} (s : List ℕ) → HasPath key n → key_of (values s) ≡ key
-    → n ≡ length (spelling_of (values s))
-spelled_long {key} {n} s h e = h.len_is ∙ ap length (read_back key h.path s h.read e)
+-- `key` is the key of a path whose canonical form has n bytes
+abbrev pub HasPath : List ℕ → ℕ → Type 0
+HasPath key n = (s : List ℕ) × (key_of (values s) ≡ key) × (n ≡ length (spelling_of (values s)))
 
--- if the path of `key` has n bytes, and `key` is the key of s, `Some n` is what `write_path_of` has
--- to return: the length of the canonical form of s
-pub path_long : {key : List ℕ} {n : ℕ} (s : List ℕ) → HasPath key n → key_of (values s) ≡ key
-    → Some n ≡ Some (length (spelling_of (values s)))
-path_long s h e = ap Some (spelled_long s h e)
+-- if `key` is a key, and n is the length of the canonical form of each path with the key, a path
+-- with the key has a canonical form of m bytes if m is n
+pub has_path : {key : List ℕ} {n m : ℕ} → IsKey key
+    → ((s : List ℕ) → key_of (values s) ≡ key → Some n ≡ Some (length (spelling_of (values s))))
+    → m ≡ n → HasPath key m
+has_path (s, e) long same = (s, e, same ∙ (let is = long s e in cc))
 
--- if `key` is the key of s, and its path has more bytes than the buffer `old`, a call that writes
--- the canonical form of s leaves the buffer unchanged
-pub kept_back : {key old : List ℕ} {n : ℕ} (s : List ℕ) → HasPath key n
-    → key_of (values s) ≡ key → length old < n → old ≡ buffer_after (spelling_of (values s)) old
-kept_back {key} {old} {n} s h e few =
+-- if two paths have the same key, they have the same canonical form
+pub same_spelling : {key : List ℕ} (s t : List ℕ) → key_of (values s) ≡ key
+    → key_of (values t) ≡ key → spelling_of (values s) ≡ spelling_of (values t)
+same_spelling s t e k = ap spelling_of
+    (key_of-same (values s) (values t) (values-coded s) (values-coded t) (e ∙ sym k))
+
+-- if the canonical form of s has n bytes, and the buffer `old` has fewer, a call that writes it
+-- leaves the buffer unchanged
+pub kept_back : {old : List ℕ} {n : ℕ} (s : List ℕ)
+    → Some n ≡ Some (length (spelling_of (values s))) → length old < n
+    → old ≡ buffer_after (spelling_of (values s)) old
+kept_back {old} {n} s long few =
+    let is : n ≡ length (spelling_of (values s)) = cc in
     sym (cond-false _ _ _ (lt-leb (length (spelling_of (values s))) (length old)
-    (omega (arith, spelled_long s h e))))
+    (omega (arith, is))))
 
--- if `key` is the key of s and reads back as `path`, which fits in the buffer `old`, the buffer
--- after a call that writes the canonical form of s is `path` and then the remaining bytes of `old`
-pub written_back : {key path : List ℕ} {n : ℕ} (old s : List ℕ) → HasPath key n
-    → IsRead key path → key_of (values s) ≡ key → n ≤ length old
-    → path ++ drop n old ≡ buffer_after (spelling_of (values s)) old
-written_back {key} {path} {n} old s h read e fits =
-    grind (arith, spelled_long, read_back, buffer_after-fits)
+-- if `path`, the canonical form of s, has n bytes, which fit in the buffer `old`, the buffer after
+-- a call that writes the canonical form of s is `path` and then the remaining bytes of `old`
+pub written_back : {path : List ℕ} {n : ℕ} (old s : List ℕ)
+    → Some n ≡ Some (length (spelling_of (values s))) → path ≡ spelling_of (values s)
+    → n ≤ length old → path ++ drop n old ≡ buffer_after (spelling_of (values s)) old
+written_back {path} {n} old s long is fits =
+    let count : n ≡ length (spelling_of (values s)) = cc in
+    grind (arith, buffer_after-fits)
 
 -- if `key` is empty, it is the key of the empty path
 empty_values : (key : List ℕ) → key ≡ [] → key_of (values []) ≡ key
@@ -92,7 +91,11 @@ empty_values key e = ap key_of values-nil ∙ key_of-nil ∙ sym e
 pub empty_key : (key : List ℕ) → key ≡ [] → IsKey key
 empty_key key e = ([], empty_values key e)
 
--- if `key` is empty, its path has no bytes
-pub empty_long : (key : List ℕ) (len : ℕ) → HasPath key len → key ≡ [] → len ≡ 0
-empty_long key len h e = spelled_long [] h (empty_values key e)
-    ∙ ap length (ap spelling_of values-nil ∙ spelling_of-nil)
+-- if `key` is empty, and n is the length of the canonical form of each path with the key, n is 0
+pub empty_long : (key : List ℕ) (n : ℕ)
+    → ((s : List ℕ) → key_of (values s) ≡ key → Some n ≡ Some (length (spelling_of (values s))))
+    → key ≡ [] → n ≡ 0
+empty_long key n long e =
+    let is = long [] (empty_values key e) in
+    let count : n ≡ length (spelling_of (values [])) = cc in
+    count ∙ ap length (ap spelling_of values-nil ∙ spelling_of-nil)

@@ -10,7 +10,7 @@ use Rattle.unix_path.specs.Parts.{Value, RootDir, CurDir, ParentDir, Normal, val
 use Rattle.path_runs.specs.Spelling.{spelling_of}
 use Rattle.path_runs.proofs.lemmas.spelling.PieceValueLemmas.{NoSlash}
 use Rattle.path_runs.proofs.lemmas.spelling.ReadBackLemmas.{values-spelling_of}
-use Rattle.path_keys.specs.Codes.{Fits, AllFit}
+use Rattle.path_keys.proofs.lemmas.values.Fitting.{Fits, AllFit}
 use Rattle.path_keys.specs.Keys.{code, key_of, raised, IsKey}
 use Rattle.path_keys.specs.Ranges.{bytes_cmp}
 use Rattle.path_keys.proofs.lemmas.values.CodeLemmas.{values-coded}

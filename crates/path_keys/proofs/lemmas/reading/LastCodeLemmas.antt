@@ -4,31 +4,38 @@ use Rattle.std.proofs.Common.{length, take, drop, map, refl, sym, ap, ◌∙◌,
 use Rattle.std.proofs.Common.{append_assoc, length-append, length-drop, Option, Some, None}
 use Rattle.std.proofs.Common.{option_map, IfSome}
 use Rattle.std.proofs.lemmas.Bool.{and_left}
-use Rattle.std.proofs.lemmas.List.{take_at, nil_from_length}
-use Rattle.std.specs.Borrow.{Bor}
+use Rattle.std.proofs.lemmas.List.{drop_at, take_at, nil_from_length}
 use Rattle.unix_path.specs.Names.{file_name_of, name_of}
 use Rattle.unix_path.specs.Parents.{parent_of}
-use Rattle.unix_path.specs.Parts.{Value, RootDir, values}
+use Rattle.unix_path.specs.Parts.{Value, RootDir, CurDir, ParentDir, Normal, values}
+use Rattle.unix_path.specs.Prefixes.{IsPrefixOf}
+use Rattle.path_keys.specs.Codes.{code_bytes, IsComponent}
 use Rattle.unix_path.proofs.lemmas.names.ParentLemmas.{parent_of-none, parent_of-root}
 use Rattle.unix_path.proofs.lemmas.names.ParentLemmas.{parent_of-push}
 use Rattle.unix_path.proofs.lemmas.names.ParentLemmas.{file_name_of-last, file_name_of-none}
 use Rattle.path_runs.proofs.lemmas.joins.SiblingLemmas.{values-rest_push}
 use Rattle.path_keys.specs.Keys.{code, key_of, raised, IsKey}
-use Rattle.path_keys.specs.Codes.{code_value, lowered, AllFit, Fits, HasNoCode, IsRaised}
-use Rattle.path_keys.specs.Codes.{TakesCode}
-use Rattle.path_keys.specs.Lasts.{EndsIn}
+use Rattle.path_keys.proofs.lemmas.values.Fitting.{AllFit, Fits}
 use Rattle.path_keys.specs.declared.parent.LastCode.{LastCode}
 use Rattle.path_keys.proofs.lemmas.reading.FitLemmas.{AllFit-after, AllFit-append, key_of-split}
 use Rattle.path_keys.proofs.lemmas.reading.FitLemmas.{starts, starts-more, values-fit}
+use Rattle.path_keys.proofs.lemmas.reading.FitLemmas.{component-fits, fits-component}
 use Rattle.path_keys.proofs.lemmas.reading.FitLemmas.{values-spelled}
+use Rattle.path_keys.proofs.lemmas.reading.MarkLemmas.{no_mark_last}
 use Rattle.path_keys.proofs.lemmas.values.KeyLemmas.{key_of-append, key_of-cons, key_of-nil}
 use Rattle.path_keys.proofs.lemmas.values.KeyLemmas.{key_of-one}
+
+-- the last of the components vs has the code `bytes`, and the bytes of the key before index `start`
+-- are the key of the components before it
+abbrev pub EndsIn : List ℕ → List Value → ℕ → List ℕ → Type 0
+EndsIn key vs start bytes = (front : List Value) × (v : Value) × (vs ≡ front ++ v ∷ [])
+    × (take start key ≡ key_of front) × (code v ≡ bytes)
 
 -- the last of the components us has the last code that was read; if no code was read, us is empty
 abbrev pub LastIs : List ℕ → List Value → Option LastCode → Type 0
 LastIs key us None = us ≡ []
-LastIs key us (Some last) = EndsIn key us last.start (code_value last.code)
-    × (last.start ≤ length key) × IsRaised last.code
+LastIs key us (Some last) =
+    EndsIn key us last.start (code_bytes last.code) × (last.start ≤ length key)
 
 -- `rest` is the rest of the key after the codes of some components, which may be all components of
 -- a path, and `last` is the last of these codes; `first` is true if no code was read
@@ -51,38 +58,53 @@ walks_none key = record {
   last_is = refl;
 }
 
+-- s begins with the code `bytes`, with which a path may begin if `first` is true, and which follows
+-- other codes otherwise
+abbrev pub TakesCode : Bool → List ℕ → List ℕ → Type 0
+TakesCode first s bytes = (v : Value) × IsComponent first v × (code v ≡ bytes)
+    × IsPrefixOf (code v) s
+
 -- if `rest` begins with the code of `next`, reading this code leads to `more`, the bytes of `rest`
 -- after it
 pub walks_one : {key rest more : List ℕ} {first : Bool} {last : Option LastCode} (next : LastCode)
-    → WalksTo key rest first last → TakesCode first rest (code_value next.code)
-    → IsRaised next.code → next.start ≡ length key - length rest
-    → more ≡ drop (length (code (code_value next.code))) rest → WalksTo key more false (Some next)
-walks_one {key} {rest} {more} {first} {last} next h k raised at e =
-    let v = code_value next.code in
+    → WalksTo key rest first last → TakesCode first rest (code_bytes next.code)
+    → next.start ≡ length key - length rest
+    → more ≡ drop (length (code_bytes next.code)) rest → WalksTo key more false (Some next)
+walks_one {key} {rest} {more} {first} {last} next h (v, is_part, code_is, begins) at e =
     let count : next.start ≡ length (key_of h.us) =
     omega (arith, at, ap length h.whole, length-append (key_of h.us) rest) in
+    let after : code v ++ more ≡ rest =
+    ap (λ r. code v ++ r) (e ∙ ap (λ c. drop (length c) rest) (sym code_is)
+    ∙ ap (drop (length (code v))) (sym begins.1)
+    ∙ drop_at (code v) begins.0 (length (code v)) refl) ∙ begins.1 in
     record {
       us = h.us ++ v ∷ [];
       fit = AllFit-append true h.us (v ∷ []) h.fit
-          (subst (λ b. Fits b v) h.first_is k.fits, tt);
+          (subst (λ b. Fits b v) h.first_is (component-fits first v is_part), tt);
       first_is = sym (and_left _ true (starts-more h.us (v ∷ []) (omega arith)));
       whole =
           ap (λ c. c ++ more) (key_of-append h.us (v ∷ []) ∙ ap (λ c. key_of h.us ++ c)
           (key_of-one v))
           ∙ append_assoc (key_of h.us) (code v) more
-          ∙ ap (λ r. key_of h.us ++ r) (ap (λ r. code v ++ r) e ∙ sym k.is) ∙ h.whole;
-      short = omega (arith, h.short, ap length e, length-drop (length (code v)) rest);
+          ∙ ap (λ r. key_of h.us ++ r) after ∙ h.whole;
+      short = omega (arith, h.short, ap length e, length-drop (length (code_bytes next.code)) rest);
       last_is = (
-        record {
-          front = h.us;
-          is = refl;
-          front_is = ap (take next.start) (sym h.whole)
-              ∙ take_at (key_of h.us) rest next.start (sym count);
-        },
+        (
+          h.us,
+          v,
+          refl,
+          ap (take next.start) (sym h.whole)
+              ∙ take_at (key_of h.us) rest next.start (sym count),
+          code_is,
+        ),
         omega arith,
-        raised,
       );
     }
+
+-- `rest` doesn't begin with the code of a component with which a path may begin if `first` is true,
+-- and which follows others otherwise
+abbrev pub HasNoCode : Bool → List ℕ → Type 0
+HasNoCode first s = (v : Value) → IsComponent first v → IsPrefixOf (code v) s → ⊥
 
 -- if `rest` begins with no code, the components that were read are those of each path s with the
 -- key, and `rest` is empty
@@ -95,19 +117,20 @@ walks_all {key} {rest} h none s e =
     by : (ws : List Value) × (h.us ++ ws ≡ values s) × (key_of ws ≡ rest)
         → (h.us ≡ values s) × (rest ≡ [])
     by ([], same, remain) = (sym (append-nil h.us) ∙ same, sym remain ∙ key_of-nil)
-    by (w ∷ ws, same, remain) = absurd (none w (key_of ws) (subst (λ b. Fits b w) (sym h.first_is)
-        (AllFit-after true h.us (w ∷ ws) (subst (AllFit true) (sym same) (values-fit s))).0)
-        (sym (key_of-cons w ws) ∙ remain))
+    by (w ∷ ws, same, remain) = absurd (none w (fits-component _ w
+        (subst (λ b. Fits b w) (sym h.first_is)
+        (AllFit-after true h.us (w ∷ ws) (subst (AllFit true) (sym same) (values-fit s))).0))
+        (key_of ws, sym (key_of-cons w ws) ∙ remain))
 
 -- if `rest` begins with no code, the last code that was read is that of the last component of each
 -- path with the key
 pub walks_some : {key rest : List ℕ} {first : Bool} (last : Option LastCode)
     → WalksTo key rest first last → HasNoCode first rest
     → IfSome last (λ last. (s : List ℕ) → key_of (values s) ≡ key
-    → EndsIn key (values s) last.start (code_value last.code))
+    → EndsIn key (values s) last.start (code_bytes last.code))
 walks_some None h none = tt
 walks_some {key} (Some last) h none = λ s e.
-    subst (λ vs. EndsIn key vs last.start (code_value last.code)) (walks_all h none s e).0
+    subst (λ vs. EndsIn key vs last.start (code_bytes last.code)) (walks_all h none s e).0
     h.last_is.0
 
 -- if no code was read, and `rest` begins with no code, each path with the key has no component
@@ -134,39 +157,46 @@ pub no_parent : (s : List ℕ) → values s ≡ []
 no_parent s e =
     ap (option_map (λ parent. key_of (values parent))) (parent_of-none s e)
 
--- if the last component of s is a root, it has no parent, so there is no key of a parent
-pub root_parent : (key s : List ℕ) (start : ℕ) → EndsIn key (values s) start RootDir
-    → None ≡ option_map (λ parent. key_of (values parent)) (parent_of s)
-root_parent key s start h =
-    ap (option_map (λ parent. key_of (values parent))) (parent_of-root s h.front h.is)
+-- if v has the code of a root, v is a root
+code_root : (v : Value) → code v ≡ code RootDir → v ≡ RootDir
+code_root RootDir e = refl
+code_root CurDir e = absurd (cc)
+code_root ParentDir e = absurd (cc)
+code_root (Normal name) e = absurd (no_mark_last (map raised name) 1 (omega arith) e)
 
--- if v, the last component of s, is no root, the bytes of the key before the code of v are the key
--- of the parent of s
-pub front_parent : (key s : List ℕ) (start : ℕ) (v : Value) → (v ≡ RootDir → ⊥)
-    → EndsIn key (values s) start v
+-- if the last component of s has the code of a root, s has no parent, so there is no key of a
+-- parent
+pub root_parent : (key s : List ℕ) (start : ℕ) (bytes : List ℕ)
+    → EndsIn key (values s) start bytes → bytes ≡ code RootDir
+    → None ≡ option_map (λ parent. key_of (values parent)) (parent_of s)
+root_parent key s start bytes (front, v, is, front_is, code_is) e =
+    ap (option_map (λ parent. key_of (values parent))) (parent_of-root s front
+    (is ∙ ap (λ v. front ++ v ∷ []) (code_root v (code_is ∙ e))))
+
+-- if the last component of s doesn't have the code of a root, the bytes of the key before its code
+-- are the key of the parent of s
+pub front_parent : (key s : List ℕ) (start : ℕ) (bytes : List ℕ) → (bytes ≡ code RootDir → ⊥)
+    → EndsIn key (values s) start bytes
     → Some (take start key) ≡ option_map (λ parent. key_of (values parent)) (parent_of s)
-front_parent key s start v no_root h = grind (arith, values-rest_push, parent_of-push)
+front_parent key s start bytes other (front, v, is, front_is, code_is) =
+    by (λ e. other (sym code_is ∙ ap code e))
+  where
+    by : (v ≡ RootDir → ⊥)
+        → Some (take start key) ≡ option_map (λ parent. key_of (values parent)) (parent_of s)
+    by no_root = grind (arith, values-rest_push, parent_of-push)
 
 -- if s has no component, it has no file name
 pub no_name : (s : List ℕ) → values s ≡ []
     → None ≡ option_map (λ name. map raised name) (file_name_of (values s))
 no_name s e = ap (option_map (λ name. map raised name)) (file_name_of-none s e)
 
--- if `name` has the raised bytes of the name of v, the last component of s, or is `None` if v has
--- no name, then `name` has the raised bytes of the file name of s, or is `None` if s has none
-pub last_name : (key s : List ℕ) (start : ℕ) (v : Value) (name : Option (Bor (List ℕ)))
-    → EndsIn key (values s) start v → option_map (λ name. map lowered name.now) name ≡ name_of v
-    → IfSome name (λ name. map raised (map lowered name.now) ≡ name.now)
-    → option_map (λ name. name.now) name
-    ≡ option_map (λ name. map raised name) (file_name_of (values s))
-last_name key s start v name h e raises =
-    by name raises
+-- if `name` is the raised name of a component with the code `bytes`, and the last component of s
+-- has this code, `name` has the raised bytes of the file name of s, or is `None` if s has none
+pub last_name : (key s : List ℕ) (start : ℕ) (bytes : List ℕ) (name : Option (List ℕ))
+    → EndsIn key (values s) start bytes
+    → ((v : Value) → code v ≡ bytes → name ≡ option_map (λ name. map raised name) (name_of v))
+    → name ≡ option_map (λ name. map raised name) (file_name_of (values s))
+last_name key s start bytes name (front, v, is, front_is, code_is) h =
+    h v code_is
     ∙ ap (option_map (λ name. map raised name))
-    (e ∙ sym (file_name_of-last h.front v) ∙ ap file_name_of (sym h.is))
-  where
-    by : (name : Option (Bor (List ℕ)))
-        → IfSome name (λ name. map raised (map lowered name.now) ≡ name.now)
-        → option_map (λ name. name.now) name
-        ≡ option_map (λ name. map raised name) (option_map (λ name. map lowered name.now) name)
-    by None k = refl
-    by (Some name) k = ap Some (sym k)
+    (sym (file_name_of-last front v) ∙ ap file_name_of (sym is))

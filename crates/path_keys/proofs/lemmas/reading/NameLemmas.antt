@@ -1,7 +1,7 @@
 -- The name with which a key's bytes begin.
 use Rattle.std.proofs.lemmas.Grind.{common_steps}
 use Rattle.std.proofs.Common.{◌≡◌, ◌<◌, ℕ, ◌+◌, true, false, eqb, List, [], ◌∷◌, ◌++◌}
-use Rattle.std.proofs.Common.{length, map, take, drop, get_or, refl, sym, ap, ap₂, ◌∙◌, arith}
+use Rattle.std.proofs.Common.{length, map, take, drop, get_or, refl, sym, ap, ◌∙◌, arith}
 use Rattle.std.proofs.Common.{subst}
 use Rattle.std.proofs.Common.{append_assoc, length-append, eqb-true}
 use Rattle.std.proofs.lemmas.Bool.{false≢true}
@@ -10,9 +10,12 @@ use Rattle.std.proofs.lemmas.List.Sums.{split_at_first, passes_at_first}
 use Rattle.std.proofs.lemmas.Slice.Eq.{bytes_eq-Decides}
 use Rattle.std.specs.List.{AllByRecursion, position_or_len}
 use Rattle.std.specs.Str.{bytes_eq}
-use Rattle.unix_path.specs.Parts.{slash, cur_dir, parent_dir, Normal}
+use Rattle.unix_path.specs.Parts.{slash, cur_dir, parent_dir, Normal, Value}
+use Rattle.unix_path.specs.Prefixes.{IsPrefixOf}
 use Rattle.path_keys.specs.Keys.{code, raised}
-use Rattle.path_keys.specs.Codes.{lowered, IsName, TakesCode}
+use Rattle.path_keys.specs.Codes.{lowered, IsComponent}
+use Rattle.path_keys.proofs.lemmas.reading.FitLemmas.{component-fits, fits-component}
+use Rattle.path_keys.proofs.lemmas.values.Fitting.{IsName}
 use Rattle.path_keys.proofs.lemmas.values.LoweredLemmas.{NoZero, is_zero, map-raised-lowered}
 use Rattle.path_keys.proofs.lemmas.values.LoweredLemmas.{map-lowered-raised}
 use Rattle.path_keys.proofs.lemmas.values.LoweredLemmas.{lowered-NoSlash, raised-NoZero}
@@ -39,31 +42,33 @@ not_read bytes p h other_bytes = grind (arith, map-raised-lowered, bytes_eq-Deci
 -- of `.` or `..`, s begins with the code of the name that these bytes represent
 pub takes_name : (s : List ℕ) (n : ℕ) → n ≡ position_or_len is_zero s → 0 < n → n < length s
     → bytes_eq (take n s) (slash ∷ []) ≡ false → bytes_eq (take n s) (slash ∷ slash ∷ []) ≡ false
-    → TakesCode false s (Normal (map lowered (take n s)))
+    → (v : Value) × IsComponent false v × (code v ≡ take n s ++ 0 ∷ []) × IsPrefixOf (code v) s
 takes_name s n e some l no_dot no_up =
     let name = take n s in
     let clean = NoZero-before s n e l in
     let long : length name ≡ n = length-take-le n s (omega arith) in
     let spelled = map-raised-lowered name clean in
     let coded : code (Normal (map lowered name)) ≡ name ++ 0 ∷ [] = ap (λ p. p ++ 0 ∷ []) spelled in
-    let count : length (code (Normal (map lowered name))) ≡ n + 1 =
-    omega (arith, ap length coded, length-append name (0 ∷ [])) in
     let zero_there : get_or s n 0 ≡ 0 = eqb-true _ 0
     (ap (λ k. is_zero (get_or s k 0)) e ∙ passes_at_first is_zero s 0 (omega (arith, e))) in
     let split : s ≡ take n s ++ get_or s n 0 ∷ drop (n + 1) s =
     subst (λ k. s ≡ take k s ++ get_or s k 0 ∷ drop (k + 1) s) (sym e)
     (split_at_first is_zero s 0 (omega (arith, e))) in
-    record {
-      fits = record {
-        some = not_read name [] clean (not_empty name (omega arith));
-        no_slash = lowered-NoSlash name clean;
-        no_dot = not_read name cur_dir clean no_dot;
-        no_up = not_read name parent_dir clean no_up;
-      };
-      is = split ∙ ap (λ b. name ++ b ∷ drop (n + 1) s) zero_there
-          ∙ sym (append_assoc name (0 ∷ []) (drop (n + 1) s))
-          ∙ ap₂ (λ c k. c ++ drop k s) (sym coded) (sym count);
-    }
+    let fit : IsName (map lowered name) = record {
+      some = not_read name [] clean (not_empty name (omega arith));
+      no_slash = lowered-NoSlash name clean;
+      no_dot = not_read name cur_dir clean no_dot;
+      no_up = not_read name parent_dir clean no_up;
+    } in (
+      Normal (map lowered name),
+      fits-component false (Normal (map lowered name)) fit,
+      coded,
+      (
+        drop (n + 1) s,
+        ap (λ c. c ++ drop (n + 1) s) coded ∙ append_assoc name (0 ∷ []) (drop (n + 1) s)
+            ∙ sym (split ∙ ap (λ b. name ++ b ∷ drop (n + 1) s) zero_there),
+      ),
+    )
 
 -- the first n bytes of s, at least one, are the raised bytes of the name, and at least one byte
 -- follows
@@ -91,15 +96,19 @@ finds_name s name x n e h begins =
 -- if s begins with a 0 or has none, s doesn't begin with the code of a name
 pub no_name_first : (s : List ℕ) (n : ℕ) → n ≡ position_or_len is_zero s
     → (0 < n → n < length s → ⊥)
-    → (name x : List ℕ) → IsName name → code (Normal name) ++ x ≡ s → ⊥
-no_name_first s n e none name x h begins =
-    let found = finds_name s name x n e h begins in none found.some found.in_range
+    → (name : List ℕ) → IsComponent false (Normal name) → IsPrefixOf (code (Normal name)) s → ⊥
+no_name_first s n e none name h begins =
+    let found = finds_name s name begins.0 n e (component-fits false (Normal name) h) begins.1 in
+    none found.some found.in_range
 
 -- if the bytes of s before its first 0 are the raised bytes of p, which is no name, then s doesn't
 -- begin with the code of a name
 pub no_name_read : (s p : List ℕ) (n : ℕ) → n ≡ position_or_len is_zero s
     → bytes_eq (take n s) (map raised p) ≡ true → (IsName p → ⊥)
     → AllByRecursion (λ b. eqb b 47 ≡ false) p
-    → (name x : List ℕ) → IsName name → code (Normal name) ++ x ≡ s → ⊥
-no_name_read s p n e same none clean name x h begins =
-    grind (arith, common_steps, finds_name, bytes_eq-Decides, map-lowered-raised)
+    → (name : List ℕ) → IsComponent false (Normal name) → IsPrefixOf (code (Normal name)) s → ⊥
+no_name_read s p n e same none clean name h begins =
+    by begins.0 (component-fits false (Normal name) h) begins.1
+  where
+    by : (x : List ℕ) → IsName name → code (Normal name) ++ x ≡ s → ⊥
+    by x h begins = grind (arith, common_steps, finds_name, bytes_eq-Decides, map-lowered-raised)

@@ -7,13 +7,27 @@ use Rattle.std.proofs.Common.{length, take, map, refl, sym, ap, ◌∙◌, arith
 use Rattle.std.proofs.Common.{length-append, append-nil, ap₂, subst}
 use Rattle.std.proofs.lemmas.List.{take_at, length-map}
 use Rattle.std.proofs.lemmas.List.Concat.{flat_map-append}
+use Rattle.std.specs.List.{flat_map}
 use Rattle.unix_path.specs.Parts.{Value, RootDir, CurDir, ParentDir, Normal, slash, value_bytes}
-use Rattle.path_runs.specs.Spelling.{slashed_bytes, spelling_of}
+use Rattle.unix_path.specs.Parts.{cur_dir, parent_dir}
+use Rattle.path_runs.specs.Spelling.{slash_each, slashed_bytes, spelling_of}
 use Rattle.path_runs.proofs.lemmas.spelling.SpellLemmas.{spelling_of-nil, spelling_of-root}
 use Rattle.path_runs.proofs.lemmas.spelling.SpellLemmas.{spelling_of-cons}
 use Rattle.path_keys.specs.Keys.{raised, code}
-use Rattle.path_keys.specs.Codes.{slashed, text_of, Fits, AllFit}
+use Rattle.path_keys.proofs.lemmas.values.Fitting.{Fits, AllFit}
 use Rattle.path_keys.proofs.lemmas.reading.NameLemmas.{some_bytes}
+
+-- the text of a component, its bytes before other components in a path: a slash for the root, and
+-- otherwise the component's bytes and a slash
+abbrev pub slashed : Value → List ℕ
+slashed RootDir = slash ∷ []
+slashed CurDir = cur_dir ++ slash ∷ []
+slashed ParentDir = parent_dir ++ slash ∷ []
+slashed (Normal name) = name ++ slash ∷ []
+
+-- the text of these components, their bytes before other components in a path, one after the other
+unfoldable pub text_of : List Value → List ℕ
+text_of vs = flat_map slashed vs
 
 -- the text of no components is empty
 pub text_of-nil : text_of [] ≡ []
@@ -55,7 +69,7 @@ slashed-inner ParentDir h = refl
 slashed-inner (Normal name) h = refl
 
 -- if v may follow other components, it is not the root
-no_root : (v : Value) → Fits false v → v ≡ RootDir → ⊥
+pub no_root : (v : Value) → Fits false v → v ≡ RootDir → ⊥
 no_root v h e = let d : false ≡ true = subst (Fits false) e h in cc
 
 -- if v is not the root, and vs may follow other components, the text of v and vs is their bytes
@@ -70,6 +84,19 @@ text_of-slashed v (w ∷ vs) n h =
     ∙ ap₂ (λ s t. s ++ t) (slashed-inner v n) (text_of-slashed w vs (no_root w h.0) h.1)
     ∙ append_assoc (value_bytes v) (slash ∷ []) (more ++ slash ∷ [])
     ∙ sym (append_assoc (value_bytes v) (slash ∷ more) (slash ∷ []))
+
+-- if ws may follow other components, a slash before their text is each component after a slash, and
+-- a slash at the end
+pub text_of-each : (ws : List Value) → AllFit false ws
+    → slash ∷ text_of ws ≡ slash_each ws ++ slash ∷ []
+text_of-each [] h = ap (λ t. slash ∷ t) text_of-nil
+text_of-each (w ∷ ws) h =
+    let front = slash ∷ value_bytes w in
+    ap (λ t. slash ∷ t) (text_of-cons w ws
+    ∙ ap (λ t. t ++ text_of ws) (slashed-inner w (no_root w h.0))
+    ∙ append_assoc (value_bytes w) (slash ∷ []) (text_of ws))
+    ∙ ap (λ t. front ++ t) (text_of-each ws h.1)
+    ∙ sym (append_assoc front (slash_each ws) (slash ∷ []))
 
 -- `text` has at most one byte and is `spelled`, or it is `spelled`, which is not empty, and a slash
 pub data IsText (text spelled : List ℕ) : Type 0 where

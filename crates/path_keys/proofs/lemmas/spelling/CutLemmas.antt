@@ -1,6 +1,6 @@
 -- A path written run by run to a buffer in which its last slash doesn't fit.
 use Rattle.std.proofs.Common.{◌≡◌, ◌≤◌, ◌+◌, ◌-◌, ℕ, List, [], ◌∷◌, ◌++◌}
-use Rattle.std.proofs.Common.{length, take, drop, refl, sym, ap, ap₂, ◌∙◌, arith, subst, ◌<◌}
+use Rattle.std.proofs.Common.{length, take, drop, refl, sym, ap, ap₂, ◌∙◌, arith, ◌<◌}
 use Rattle.std.proofs.Common.{length-append, length-take-le, take_all, append_assoc, append-nil}
 use Rattle.std.proofs.Common.{⊎_elim, map}
 use Rattle.std.proofs.lemmas.Bool.{cases_lt}
@@ -9,21 +9,24 @@ use Rattle.std.proofs.lemmas.List.{drop-take, drop_all}
 use Rattle.std.proofs.Math.Seq.{take-append-add}
 use Rattle.unix_path.specs.Parts.{Value, slash, values}
 use Rattle.path_runs.specs.Overlay.{overlay}
-use Rattle.path_runs.specs.Spelling.{spelling_of}
-use Rattle.path_keys.specs.Codes.{text_of, HasPath, IsRead, ReadsAs}
+use Rattle.path_runs.specs.Spelling.{slash_each, slashed_bytes, spelling_of}
+use Rattle.path_keys.proofs.lemmas.reading.TextLemmas.{text_of}
 use Rattle.path_keys.specs.NameBytes.{decoded}
-use Rattle.path_keys.specs.Runs.{lead_text, run_code, run_text, BeginsLead, HoldsNone}
-use Rattle.path_keys.specs.Runs.{TakesRun}
+use Rattle.path_keys.specs.Runs.{lead_text, run_code, run_text, TakesRun}
+use Rattle.path_keys.specs.Keys.{key_of}
+use Rattle.unix_path.specs.CommonDir.{inner_values}
+use Rattle.path_keys.proofs.lemmas.reading.FitLemmas.{inner_values-slashed}
+use Rattle.path_keys.proofs.lemmas.spelling.RunTextLemmas.{none_known, run_known, BeginsLead}
 use Rattle.path_keys.specs.declared.runs.Lead.{Lead}
 use Rattle.path_keys.specs.declared.runs.Run.{Run}
 use Rattle.path_keys.specs.declared.runs.Run.TheVariants.{Names}
 use Rattle.path_keys.specs.declared.runs.Run.TheVariants as run_variants
 use Rattle.path_keys.proofs.lemmas.reading.FitLemmas.{values-fit}
-use Rattle.path_keys.proofs.lemmas.reading.KeyReadLemmas.{spelled_read}
+use Rattle.path_keys.proofs.lemmas.reading.KeyReadLemmas.{same_spelling, HasPath}
 use Rattle.path_keys.proofs.lemmas.spelling.SpellLemmas.{SpellsOn, spells_lead, spells_fits}
 use Rattle.path_keys.proofs.lemmas.spelling.SpellLemmas.{spells_one, spells_all}
 use Rattle.path_keys.proofs.lemmas.spelling.SpellLemmas.{spells_long}
-use Rattle.path_keys.proofs.lemmas.reading.TextLemmas.{IsText, lone, longer, text_is}
+use Rattle.path_keys.proofs.lemmas.reading.TextLemmas.{IsText, lone, longer, text_is, text_of-each}
 
 -- if `at + m` is at most the length of `old`, writing `bytes` at index `at` and then keeping the
 -- first `at + m` bytes is the same as keeping these first and then writing only the first m of
@@ -80,59 +83,72 @@ pub record SpellsCut (key rest old : List ℕ) (at : ℕ) (out : List ℕ) : Typ
   pub enough : length old ≤ length wide
   pub cut : out ≡ take (length old) wide_out
 
--- if the path of the key is as long as `old`, and the key begins with `lead`, writing the text of
--- `lead`, as far as it fits, leaves the text of the rest to be written
+-- if the canonical form of a path with the key is as long as `old`, and the key begins with `lead`,
+-- writing the text of `lead`, as far as it fits, leaves the text of the rest to be written
 pub cut_lead : {key rest old out : List ℕ} {lead : Lead} {at : ℕ} → HasPath key (length old)
     → BeginsLead key rest lead → out ≡ overlay 0 (take (length old) (lead_text lead)) old
     → at ≡ length (lead_text lead) → SpellsCut key rest old at out
-cut_lead {key} {rest} {old} {out} {lead} {at} h k is_put ends =
-    by (text_is (values h.path) (values-fit h.path))
+cut_lead {key} {rest} {old} {out} {lead} {at} (s, key_is, spelled) k is_put ends =
+    by (text_is (values s) (values-fit s))
   where
-    reads : (n : ℕ) → n ≡ length (text_of (values h.path)) → ReadsAs key n
-    reads n e = record {
-      vs = values h.path;
-      fit = values-fit h.path;
-      key_is = h.read.key_is;
-      len_is = e;
-    }
-
-    spelled : length old ≡ length (spelling_of (values h.path))
-    spelled = h.len_is ∙ ap length h.read.spelled
-
-    within : (wide : List ℕ) → ReadsAs key (length wide) → length wide ≤ length old + 1
-        → length old ≤ length wide → old ≡ take (length old) wide → SpellsCut key rest old at out
-    within wide r few enough front = record {
+    within : (wide : List ℕ) → length wide ≡ length (text_of (values s))
+        → length wide ≤ length old + 1 → length old ≤ length wide
+        → old ≡ take (length old) wide → SpellsCut key rest old at out
+    within wide long few enough front = record {
       wide = wide;
       wide_out = overlay 0 (lead_text lead) wide;
-      spells = spells_lead r k refl ends;
+      spells = spells_lead s key_is long k refl ends;
       few = few;
       enough = enough;
       cut = is_put ∙ ap (overlay 0 (take (length old) (lead_text lead))) front
           ∙ sym (cut_first (length old) (lead_text lead) wide enough);
     }
 
-    by : IsText (text_of (values h.path)) (spelling_of (values h.path))
-        → SpellsCut key rest old at out
-    by (lone l e) = within old (reads (length old) (spelled ∙ ap length (sym e))) (omega arith)
-        (omega arith) (sym (take_all (length old) old (omega arith)))
+    by : IsText (text_of (values s)) (spelling_of (values s)) → SpellsCut key rest old at out
+    by (lone l e) = within old (spelled ∙ ap length (sym e)) (omega arith) (omega arith)
+        (sym (take_all (length old) old (omega arith)))
     by (longer l e) =
         let wide = old ++ 0 ∷ [] in
         let long : length wide ≡ length old + 1 = length-append old (0 ∷ []) in
-        within wide (reads (length wide) (omega (
+        within wide (omega (
           arith,
           long,
           spelled,
           ap length e,
-          length-append (spelling_of (values h.path)) (slash ∷ []),
-        ))) (omega (arith, long)) (omega (arith, long))
+          length-append (spelling_of (values s)) (slash ∷ []),
+        )) (omega (arith, long)) (omega (arith, long))
         (sym (take_at old (0 ∷ []) (length old) refl))
+
+-- the components of which `rest` is the key have, with a slash each, at most one byte more than
+-- `old` has from index `at` on
+pub cut_leaves : {key rest old out : List ℕ} {at : ℕ} → SpellsCut key rest old at out
+    → (t : List ℕ) × (key_of (inner_values t) ≡ rest)
+    × (length (slash_each (inner_values t)) ≤ length old + 1 - at)
+cut_leaves {key} {rest} {old} {out} {at} h =
+    let ws = h.spells.ws in
+    let same : inner_values (slashed_bytes ws) ≡ ws = inner_values-slashed ws h.spells.inner in
+    let written = h.spells.written in (
+      slashed_bytes ws,
+      ap key_of same ∙ sym h.spells.rest_is,
+      omega (
+        arith,
+        ap (λ ws. length (slash_each ws)) same,
+        ap length (text_of-each ws h.spells.inner),
+        length-append (slash_each ws) (slash ∷ []),
+        ap length written.whole_is,
+        length-append written.start (text_of ws),
+        written.at_is,
+        h.spells.fits,
+        h.few,
+      ),
+    )
 
 -- if `rest` begins with `run`, the text of `run`, perhaps without the slash at its end, fits
 -- between index `at` and the end of `old`
 pub cut_fits : {key rest old out : List ℕ} {at : ℕ} {run : Run}
     → SpellsCut key rest old at out → TakesRun rest run
     → at + length (run_text run) ≤ length old + 1
-cut_fits h k = omega (arith, h.few, spells_fits h.spells k)
+cut_fits h k = omega (arith, h.few, spells_fits h.spells (run_known k))
 
 -- the text of a run has at least one byte
 text_some : (run : Run) → 0 < length (run_text run)
@@ -153,7 +169,7 @@ cut_one {key} {rest} {old} {out} {more} {new} {at} {end} {run} h k e is_put ends
     record {
       wide = h.wide;
       wide_out = overlay at (run_text run) h.wide_out;
-      spells = spells_one h.spells k e refl ends;
+      spells = spells_one h.spells (run_known k) e refl ends;
       few = h.few;
       enough = h.enough;
       cut = is_put ∙ ap (overlay at (take (n - at) (run_text run))) (h.cut
@@ -163,28 +179,25 @@ cut_one {key} {rest} {old} {out} {more} {new} {at} {end} {run} h k e is_put ends
           ∙ ap (λ k. take k (overlay at (run_text run) h.wide_out)) whole;
     }
 
--- if no run remains in `rest`, and the path of `key` is as long as the buffer `old`, `out` is that
--- path
-pub cut_all : {key rest old out : List ℕ} {at : ℕ}
-    → SpellsCut key rest old at out → HoldsNone rest → HasPath key (length old)
-    → IsRead key out
-cut_all {key} {rest} {old} {out} {at} h none p = subst (IsRead key) (sym is)
-    (spelled_read key (values p.path) (values-fit p.path) p.read.key_is)
+-- if no run remains in `rest`, and the canonical form of a path with the key is as long as the
+-- buffer `old`, `out` is the canonical form of each path with the key
+pub cut_all : {key rest old out : List ℕ} {at : ℕ} → SpellsCut key rest old at out
+    → ((t : List ℕ) → key_of (inner_values t) ≡ rest → rest ≡ []) → HasPath key (length old)
+    → (s : List ℕ) → key_of (values s) ≡ key → out ≡ spelling_of (values s)
+cut_all {key} {rest} {old} {out} {at} h empty (p, key_is, count) s e =
+    text ∙ by (text_is vs (values-fit s))
   where
     vs : List Value
-    vs = values p.path
+    vs = values s
 
     text : out ≡ take (length old) (text_of vs)
     text = h.cut ∙ ap (take (length old))
-        (spells_all h.spells none vs (values-fit p.path) p.read.key_is)
+        (spells_all h.spells (none_known empty) vs (values-fit s) e)
 
     spelled : length old ≡ length (spelling_of vs)
-    spelled = p.len_is ∙ ap length p.read.spelled
+    spelled = count ∙ ap length (same_spelling p s key_is e)
 
     by : IsText (text_of vs) (spelling_of vs) → take (length old) (text_of vs) ≡ spelling_of vs
     by (lone l e) = take_all (length old) (text_of vs) (omega (arith, spelled, ap length e)) ∙ e
     by (longer l e) = ap (take (length old)) e
         ∙ take_at (spelling_of vs) (slash ∷ []) (length old) (sym spelled)
-
-    is : out ≡ spelling_of vs
-    is = text ∙ by (text_is vs (values-fit p.path))

@@ -17,12 +17,12 @@ use Rattle.unix_path.specs.Parts.{slash, is_slash, Normal}
 use Rattle.unix_path.specs.Parts.{value_bytes}
 use Rattle.path_runs.proofs.lemmas.spelling.PieceValueLemmas.{inner_values-pieces}
 use Rattle.path_keys.specs.Keys.{key_of, raised}
-use Rattle.path_keys.specs.Codes.{text_of, AllFit, IsName}
+use Rattle.path_keys.proofs.lemmas.values.Fitting.{AllFit, IsName}
+use Rattle.path_keys.proofs.lemmas.reading.TextLemmas.{text_of}
 use Rattle.path_keys.specs.NameBytes.{coded, decoded}
 use Rattle.path_keys.specs.Runs.{TakesRun}
 use Rattle.path_keys.specs.declared.runs.Run.TheVariants.{Names}
 use Rattle.unix_path.specs.NameRunEnds.{ends_name_run_of, no_name_starts_at, IsNameRunEnd}
-use Rattle.path_keys.specs.PathRuns.{ends_name_run}
 use Rattle.unix_path.proofs.lemmas.name_run_ends.NameRunEndLemmas.{no_name, no_name-same}
 use Rattle.unix_path.proofs.lemmas.name_run_ends.NameRunEndLemmas.{no_name_starts_at-take}
 use Rattle.unix_path.proofs.lemmas.name_run_ends.NameRunEndLemmas.{separator_or_no_byte}
@@ -32,6 +32,7 @@ use Rattle.path_keys.proofs.lemmas.writing.PieceCodeLemmas.{some_piece}
 use Rattle.path_keys.proofs.lemmas.writing.PieceCodeLemmas.{stretch_key}
 use Rattle.path_keys.proofs.lemmas.values.LoweredLemmas.{map-back}
 use Rattle.path_keys.proofs.lemmas.reading.TextLemmas.{text_of-slashed}
+use Rattle.path_keys.proofs.lemmas.spelling.RunTextLemmas.{run_told}
 
 -- decoding a byte of a key and coding the result leads back to the byte
 coded-decoded : (b : ℕ) → coded (decoded b) ≡ b
@@ -71,7 +72,7 @@ no_name_starts_at-decoded t i =
 -- if i is less than the length of t, a run of names ends at index i of the decoded bytes t if and
 -- only if one ends at index i of t
 ends_name_run-decoded : (t : List ℕ) (i : ℕ) → i < length t
-    → ends_name_run (map decoded t) i ≡ ends_name_run_of 0 47 t i
+    → ends_name_run_of 47 46 (map decoded t) i ≡ ends_name_run_of 0 47 t i
 ends_name_run-decoded t i l = grind (arith, get_or-map, decoded-slash, no_name_starts_at-decoded)
 
 -- if p has no slash, raising all bytes of p and decoding the results leads back to p
@@ -107,13 +108,13 @@ names_run names s n e h l is =
     no_name_starts_at-decoded t 0
     ∙ no_name_starts_at-take 0 47 s n 0 h.in_range (separator_or_no_byte 0 47 s n h) (omega arith)
     ∙ e in
-    let unstopped : (i : ℕ) → i < length d → ends_name_run d i ≡ false =
+    let unstopped : (i : ℕ) → i < length d → ends_name_run_of 47 46 d i ≡ false =
     λ i few. let low : i < length t = omega (arith, length-map t decoded) in
     ends_name_run-decoded t i low ∙ no_end_before 0 47 s n h i low in
     let hold : AllByRecursion IsName pieces = all_pieces_names d begins unstopped in
     let some = some_piece d in
     let coded_is : t ++ 0 ∷ [] ≡ names.now ++ 0 ∷ [] = ap (λ xs. xs ++ 0 ∷ []) (sym is) in
-    record {
+    run_told (record {
       vs = map Normal pieces;
       some = omega (arith, ap (λ ps. length (map Normal ps)) some.2);
       fit = names_fit false pieces hold;
@@ -129,4 +130,4 @@ names_run names s n e h l is =
           ∙ sym (append_assoc t (0 ∷ []) (drop (n + 1) s))
           ∙ ap₂ (λ xs k. xs ++ drop k s) coded_is
           (omega (arith, size, ap length is, length-append names.now (0 ∷ [])));
-    }
+    })

@@ -6,10 +6,11 @@ use Rattle.std.proofs.lemmas.Bool.{false≢true, true≢false}
 use Rattle.std.proofs.lemmas.Bool.Decides.{nat_tests}
 use Rattle.unix_path.specs.Parts.{is_slash, Value, RootDir, CurDir, ParentDir, Normal}
 use Rattle.unix_path.specs.Prefixes.{IsPrefixOf}
+use Rattle.unix_path.specs.CommonDir.{inner_values}
+use Rattle.path_keys.proofs.lemmas.spelling.RunTextLemmas.{none_told, HoldsNone}
 use Rattle.unix_bytes.proofs.lemmas.lists.ListLemmas.{by_test}
 use Rattle.path_keys.specs.Keys.{code, key_of, raised}
-use Rattle.path_keys.specs.Codes.{AllFit, IsName}
-use Rattle.path_keys.specs.Runs.{HoldsNone}
+use Rattle.path_keys.proofs.lemmas.values.Fitting.{AllFit, IsName}
 use Rattle.unix_path.specs.NameRunEnds.{ends_name_run_of, no_name_starts_at, IsNameRunEnd}
 use Rattle.path_keys.proofs.lemmas.values.KeyLemmas.{key_of-nil, key_of-cons}
 use Rattle.path_keys.proofs.lemmas.values.LoweredLemmas.{raised-no_zero}
@@ -95,25 +96,37 @@ name_begins (x ∷ y ∷ z ∷ q) r h =
 
 -- if a name begins at index 0 of s, but no run of names ends within s, then s is not the key of one
 -- or more components that may follow others
-pub no_stop_none : (s : List ℕ) → no_name_starts_at 0 47 s 0 ≡ false
+stops_none : (s : List ℕ) → no_name_starts_at 0 47 s 0 ≡ false
     → IsNameRunEnd 0 47 s (length s)
     → HoldsNone s
-no_stop_none s e h RootDir vs fit is = true≢false (sym fit.0)
-no_stop_none s e h CurDir vs fit is = true≢false (sym fit.0)
-no_stop_none s e h ParentDir vs fit is =
+stops_none s e h RootDir vs fit is = true≢false (sym fit.0)
+stops_none s e h CurDir vs fit is = true≢false (sym fit.0)
+stops_none s e h ParentDir vs fit is =
     true≢false (ap (λ k. no_name_starts_at 0 47 k 0) (sym (key_of-cons ParentDir vs) ∙ is) ∙ e)
-no_stop_none s e h (Normal q) vs fit is =
+stops_none s e h (Normal q) vs fit is =
     let name_run_ends = subst NameRunEnds is (key_stops q vs fit.1) in
     false≢true (sym (h.none_before name_run_ends.at name_run_ends.in_range) ∙ name_run_ends.is)
 
+-- if a name begins at index 0 of s, but no run of names ends within s, and s is the key of inner
+-- components, it is empty
+pub no_stop_none : (s : List ℕ) → no_name_starts_at 0 47 s 0 ≡ false
+    → IsNameRunEnd 0 47 s (length s) → (t : List ℕ) → key_of (inner_values t) ≡ s → s ≡ []
+no_stop_none s e h = none_told (stops_none s e h)
+
 -- if s begins neither with a name nor with the code of `..`, then s is not the key of one or more
 -- components that may follow others
-pub no_name_none : (s : List ℕ) → no_name_starts_at 0 47 s 0 ≡ true
+names_none : (s : List ℕ) → no_name_starts_at 0 47 s 0 ≡ true
     → (IsPrefixOf (code ParentDir) s → ⊥) → HoldsNone s
-no_name_none s e up RootDir vs fit is = true≢false (sym fit.0)
-no_name_none s e up CurDir vs fit is = true≢false (sym fit.0)
-no_name_none s e up ParentDir vs fit is =
+names_none s e up RootDir vs fit is = true≢false (sym fit.0)
+names_none s e up CurDir vs fit is = true≢false (sym fit.0)
+names_none s e up ParentDir vs fit is =
     up (key_of vs, sym (key_of-cons ParentDir vs) ∙ is)
-no_name_none s e up (Normal q) vs fit is =
+names_none s e up (Normal q) vs fit is =
     true≢false (sym e ∙ ap (λ k. no_name_starts_at 0 47 k 0) (sym is ∙ named_key q vs)
     ∙ name_begins q (key_of vs) fit.0)
+
+-- if s begins neither with a name nor with the code of `..`, and is the key of inner components, it
+-- is empty
+pub no_name_none : (s : List ℕ) → no_name_starts_at 0 47 s 0 ≡ true
+    → (IsPrefixOf (code ParentDir) s → ⊥) → (t : List ℕ) → key_of (inner_values t) ≡ s → s ≡ []
+no_name_none s e up = none_told (names_none s e up)

@@ -9,13 +9,18 @@ use Rattle.std.specs.Borrow.{Bor}
 use Rattle.std.specs.List.{AllByRecursion}
 use Rattle.unix_path.specs.Parts.{slash, Value, RootDir, CurDir, ParentDir, Normal}
 use Rattle.path_keys.specs.Keys.{code, key_of, raised}
-use Rattle.path_keys.specs.Codes.{slashed, text_of, AllFit, Fits, IsName}
+use Rattle.path_keys.proofs.lemmas.values.Fitting.{AllFit, Fits, IsName}
+use Rattle.path_keys.proofs.lemmas.reading.TextLemmas.{slashed, text_of}
 use Rattle.path_keys.specs.NameBytes.{decoded}
-use Rattle.path_keys.specs.Runs.{LeavesText, TakesRun}
+use Rattle.path_keys.specs.Runs.{TakesRun}
+use Rattle.path_runs.specs.Spelling.{slash_each}
+use Rattle.unix_path.specs.CommonDir.{inner_values}
+use Rattle.path_keys.proofs.lemmas.reading.FitLemmas.{inner-fit}
+use Rattle.path_keys.proofs.lemmas.spelling.RunTextLemmas.{run_told, ReadsRun}
 use Rattle.path_keys.specs.declared.runs.Run.TheVariants.{Names}
 use Rattle.path_keys.proofs.lemmas.values.KeyLemmas.{key_of-nil, key_of-cons, key_of-one}
 use Rattle.path_keys.proofs.lemmas.spelling.KeyRunLemmas.{map-decoded-raised, names_fit}
-use Rattle.path_keys.proofs.lemmas.reading.TextLemmas.{text_of-nil, text_of-cons}
+use Rattle.path_keys.proofs.lemmas.reading.TextLemmas.{text_of-nil, text_of-cons, text_of-each}
 
 -- if v is not the root, its code is at most as long as its text
 code_shorter : (v : Value) → (v ≡ RootDir → ⊥) → length (code v) ≤ length (slashed v)
@@ -114,11 +119,11 @@ ends_in_mark p (q ∷ ps) =
 -- if s is not empty, and is the key of names, s begins with the run of these names, whose bytes are
 -- all bytes of s except the last end mark
 all_names : (bytes : Bor (List ℕ)) (s : List ℕ) (ws : List Value) → AreNames ws
-    → s ≡ key_of ws → 0 < length s → bytes.now ≡ take (length s - 1) s → TakesRun s (Names bytes)
+    → s ≡ key_of ws → 0 < length s → bytes.now ≡ take (length s - 1) s → ReadsRun s (Names bytes)
 all_names bytes s ws h e l is = by h.names h.is h.hold
   where
     by : (ps : List (List ℕ)) → ws ≡ map Normal ps → AllByRecursion IsName ps
-        → TakesRun s (Names bytes)
+        → ReadsRun s (Names bytes)
     by [] same hold = absurd (omega (arith, ap length (e ∙ ap key_of same ∙ key_of-nil)))
     by (p ∷ ps) same hold =
         let vs = map Normal (p ∷ ps) in
@@ -143,12 +148,23 @@ all_names bytes s ws h e l is = by h.names h.is h.hold
               ∙ append-nil (bytes.now ++ 0 ∷ []));
         }
 
--- if s is the key of components that may follow others, whose text has at most `max_len` bytes, and
--- s itself has `max_len` bytes, which is more than 0, then s begins with the run of the names
+-- if s is the key of inner components, which have at most `max_len` bytes with a slash each, and s
+-- itself has `max_len` bytes, which is more than 0, then s begins with the run of the names
 -- `bytes`, which are all bytes of s except the last end mark
-pub names_remain : (bytes : Bor (List ℕ)) (s : List ℕ) (max_len : ℕ) → LeavesText s max_len
+pub names_remain : (bytes : Bor (List ℕ)) (s : List ℕ) (max_len : ℕ)
+    → (t : List ℕ) × (key_of (inner_values t) ≡ s)
+    × (length (slash_each (inner_values t)) ≤ max_len)
     → length s ≡ max_len → 0 < length s → bytes.now ≡ take (length s - 1) s
     → TakesRun s (Names bytes)
-names_remain bytes s max_len h long l is =
-    all_names bytes s h.ws
-    (are_names h.ws h.fit (omega (arith, h.short, long, ap length h.rest_is))) h.rest_is l is
+names_remain bytes s max_len (t, key_is, short) long l is =
+    let ws = inner_values t in
+    let fit : AllFit false ws = inner-fit t in
+    run_told (all_names bytes s ws
+    (are_names ws fit (omega (
+      arith,
+      short,
+      long,
+      ap length key_is,
+      ap length (text_of-each ws fit),
+      length-append (slash_each ws) (slash ∷ []),
+    ))) (sym key_is) l is)

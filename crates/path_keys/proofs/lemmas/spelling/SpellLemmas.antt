@@ -3,19 +3,21 @@ use Rattle.std.proofs.Common.{◌≡◌, ◌≤◌, ◌+◌, ℕ, true, false, L
 use Rattle.std.proofs.Common.{length, drop, refl, sym, ap, ◌∙◌, arith, subst, append_assoc}
 use Rattle.std.proofs.Common.{append-nil, length-append, length-drop}
 use Rattle.std.proofs.lemmas.List.{drop_all}
-use Rattle.unix_path.specs.Parts.{Value}
+use Rattle.unix_path.specs.Parts.{Value, values}
 use Rattle.path_runs.specs.Overlay.{overlay}
 use Rattle.path_runs.proofs.lemmas.lists.OverlayLemmas.{buffer_after-fits}
 use Rattle.path_runs.proofs.lemmas.lists.WritingLemmas.{WritesOn, writes_first, writes_stretch}
 use Rattle.path_runs.proofs.lemmas.lists.WritingLemmas.{writes_room}
 use Rattle.path_runs.proofs.lemmas.lists.WritingLemmas.{writes_last}
 use Rattle.path_keys.specs.Keys.{key_of}
-use Rattle.path_keys.specs.Codes.{text_of, AllFit, ReadsAs}
-use Rattle.path_keys.specs.Runs.{lead_text, run_code, run_text, BeginsLead, HoldsNone}
-use Rattle.path_keys.specs.Runs.{TakesRun}
+use Rattle.path_keys.proofs.lemmas.values.Fitting.{AllFit}
+use Rattle.path_keys.proofs.lemmas.reading.TextLemmas.{text_of}
+use Rattle.path_keys.specs.Runs.{lead_text, run_code, run_text}
+use Rattle.path_keys.proofs.lemmas.spelling.RunTextLemmas.{BeginsLead, HoldsNone, ReadsRun}
 use Rattle.path_keys.specs.declared.runs.Lead.{Lead}
 use Rattle.path_keys.specs.declared.runs.Run.{Run}
 use Rattle.path_keys.proofs.lemmas.reading.FitLemmas.{AllFit-coded, AllFit-later, key_of-split}
+use Rattle.path_keys.proofs.lemmas.reading.FitLemmas.{values-fit}
 use Rattle.path_keys.proofs.lemmas.values.OrderLemmas.{key_of-same}
 use Rattle.path_keys.proofs.lemmas.reading.TextLemmas.{text_of-append, text_of-nil}
 
@@ -31,23 +33,25 @@ pub record SpellsOn (key rest old : List ℕ) (at : ℕ) (out : List ℕ) : Type
   pub fits : length (text_of (us ++ ws)) ≡ length old
   pub written : WritesOn (text_of (us ++ ws)) old at out (text_of ws)
 
--- if the text of the key's components is as long as `old`, and the key begins with `lead`, writing
+-- if the text of a path with the key is as long as `old`, and the key begins with `lead`, writing
 -- the text of `lead` at the beginning of `old` leaves the text of the rest to be written
-pub spells_lead : {key rest old out : List ℕ} {lead : Lead} {at : ℕ} → ReadsAs key (length old)
+pub spells_lead : {key rest old out : List ℕ} {lead : Lead} {at : ℕ} (s : List ℕ)
+    → key_of (values s) ≡ key → length old ≡ length (text_of (values s))
     → BeginsLead key rest lead → out ≡ overlay 0 (lead_text lead) old
     → at ≡ length (lead_text lead) → SpellsOn key rest old at out
-spells_lead {key} {rest} {old} {out} {lead} {at} h k is_put ends =
+spells_lead {key} {rest} {old} {out} {lead} {at} s key_is long k is_put ends =
+    let all = values-fit s in
     let (ws, e, after) =
-    key_of-split true true k.vs h.vs rest k.fit h.fit (k.key_is ∙ sym h.key_is) in
-    let fit = subst (AllFit true) (sym e) h.fit in
+    key_of-split true true k.vs (values s) rest k.fit all (k.key_is ∙ sym key_is) in
+    let fit = subst (AllFit true) (sym e) all in
     record {
       us = k.vs;
       ws = ws;
       fit = fit;
       inner = k.inner ws fit after;
-      key_is = ap key_of e ∙ h.key_is;
+      key_is = ap key_of e ∙ key_is;
       rest_is = sym after;
-      fits = ap (λ vs. length (text_of vs)) e ∙ sym h.len_is;
+      fits = ap (λ vs. length (text_of vs)) e ∙ sym long;
       written = writes_stretch (lead_text lead) (text_of ws)
           (writes_first (text_of (k.vs ++ ws)) old refl)
           (text_of-append k.vs ws ∙ ap (λ t. t ++ text_of ws) k.text_is) is_put
@@ -63,7 +67,7 @@ record NextIs (rest : List ℕ) (ws vs : List Value) (run : Run) : Type 0 where
 
 -- if `rest` is the key of ws, and begins with `run`, then ws begins with the components of `run`
 next_is : {rest : List ℕ} {run : Run} (ws : List Value) → AllFit false ws
-    → rest ≡ key_of ws → (k : TakesRun rest run) → NextIs rest ws k.vs run
+    → rest ≡ key_of ws → (k : ReadsRun rest run) → NextIs rest ws k.vs run
 next_is {rest} {run} ws h e k =
     let rests = drop (length (run_code run)) rest in
     let (more, is, after) = key_of-split false false k.vs ws rests k.fit h
@@ -79,7 +83,7 @@ text_remains {ws} vs more run e text =
 
 -- if `rest` begins with `run`, the text of `run` fits between index `at` and the end of `old`
 pub spells_fits : {key rest old out : List ℕ} {at : ℕ} {run : Run}
-    → SpellsOn key rest old at out → TakesRun rest run
+    → SpellsOn key rest old at out → ReadsRun rest run
     → at + length (run_text run) ≤ length old
 spells_fits {key} {rest} {old} {out} {at} {run} h k =
     let next = next_is h.ws h.inner h.rest_is k in
@@ -94,7 +98,7 @@ spells_long {key} {rest} {old} {out} {at} h = grind (arith, length-append, lengt
 -- if `rest` begins with `run`, writing the text of `run` at index `at` leaves the text of the rest
 -- after `run` to be written
 pub spells_one : {key rest old out more new : List ℕ} {at end : ℕ} {run : Run}
-    → SpellsOn key rest old at out → TakesRun rest run
+    → SpellsOn key rest old at out → ReadsRun rest run
     → more ≡ drop (length (run_code run)) rest → new ≡ overlay at (run_text run) out
     → end ≡ at + length (run_text run) → SpellsOn key more old end new
 spells_one {key} {rest} {old} {out} {more} {new} {at} {end} {run} h k e is_put ends =

@@ -9,7 +9,7 @@ use Rattle.std.proofs.lemmas.Cmp.{nat_cmp_total, tied_itself}
 use Rattle.std.specs.Cmp.{nat_cmp_is}
 use Rattle.std.specs.Ordering.{is_le, nat_cmp, ordering_then}
 use Rattle.unix_path.specs.Prefixes.{IsPrefixOf}
-use Rattle.path_keys.specs.Ranges.{bytes_cmp, end_of, InRange, IsRangeEnd, LiesUnder}
+use Rattle.path_keys.specs.Ranges.{bytes_cmp, end_of, InRange, IsRangeEnd}
 
 -- the bytes b and bs, with the last one raised by one
 abbrev last_raised : ℕ → List ℕ → List ℕ
@@ -78,7 +78,8 @@ begins-lies_in b (d ∷ bs) more =
     (rw (equal_is b) others.0, rw (equal_is b) others.1)
 
 -- `key` begins with `base` if and only if it is in the range of `base`
-pub begins-lies_under : (base key : List ℕ) → IsPrefixOf base key ↔ LiesUnder base key
+pub begins-lies_under : (base key : List ℕ)
+    → IsPrefixOf base key ↔ InRange base (end_of base) key
 unfolding end_of
 begins-lies_under [] key = (λ begins. (nil-le key, tt), λ h. (key, refl))
 begins-lies_under (b ∷ bs) key = (

@@ -15,10 +15,9 @@ use Rattle.path_runs.proofs.lemmas.spelling.PieceValueLemmas.{NoSlash, names_of}
 use Rattle.path_runs.proofs.lemmas.spelling.PieceValueLemmas.{inner_values-pieces}
 use Rattle.path_runs.proofs.lemmas.spelling.PieceValueLemmas.{slice_split-no_slash}
 use Rattle.path_keys.specs.Keys.{key_of, raised}
-use Rattle.path_keys.specs.Codes.{IsName}
-use Rattle.unix_path.specs.NameRunEnds.{no_name_starts_at}
+use Rattle.path_keys.proofs.lemmas.values.Fitting.{IsName}
+use Rattle.unix_path.specs.NameRunEnds.{ends_name_run_of, no_name_starts_at}
 use Rattle.path_keys.specs.NameBytes.{coded}
-use Rattle.path_keys.specs.PathRuns.{ends_name_run}
 use Rattle.unix_path.proofs.lemmas.name_run_ends.NameRunEndLemmas.{ends_name_run-append}
 
 -- the codes of these pieces, each taken as a name, one after the other
@@ -72,13 +71,14 @@ later (p ∷ ps) = ps
 
 -- no run of names ends at an index within s
 abbrev pub Unstopped : List ℕ → Type 0
-Unstopped s = (i : ℕ) → i < length s → ends_name_run s i ≡ false
+Unstopped s = (i : ℕ) → i < length s → ends_name_run_of 47 46 s i ≡ false
 
 -- if no run of names ends within the byte x followed by s, none ends within s
 no_end_in_both : (x : ℕ) (s : List ℕ) → Unstopped (x ∷ s) → Unstopped s
 no_end_in_both x s h = λ i l.
     sym (ends_name_run-append 47 46 (x ∷ []) s i)
-    ∙ ap (ends_name_run (x ∷ s)) {x = 1 + i} {y = suc i} (omega arith) ∙ h (suc i) (omega arith)
+    ∙ ap (ends_name_run_of 47 46 (x ∷ s)) {x = 1 + i} {y = suc i} (omega arith)
+    ∙ h (suc i) (omega arith)
 
 -- if b is false whenever a is true, a and b are not both true
 both_fail : (a b : Bool) → (a ≡ true → b ≡ false) → (a && b) ≡ false

@@ -21,9 +21,10 @@ use Rattle.unix_path.proofs.lemmas.parts.PartLemmas.{parts-name}
 use Rattle.unix_path.proofs.lemmas.parts.PieceLemmas.{first_piece, slice_split-first}
 use Rattle.path_runs.proofs.lemmas.spelling.PieceValueLemmas.{inner_values-pieces}
 use Rattle.path_keys.specs.Keys.{key_of}
-use Rattle.path_keys.specs.Codes.{AllFit, IsName}
+use Rattle.path_keys.proofs.lemmas.values.Fitting.{AllFit, IsName}
 use Rattle.path_keys.specs.NameBytes.{coded}
-use Rattle.path_keys.specs.PathRuns.{FirstStop, IsRun}
+use Rattle.unix_path.specs.NameRunEnds.{IsNameRunEnd}
+use Rattle.path_keys.specs.PathRuns.{run_key}
 use Rattle.unix_path.proofs.lemmas.name_run_ends.NameRunEndLemmas.{separator_at_end, no_end_before}
 use Rattle.path_keys.proofs.lemmas.reading.FitLemmas.{values-fit}
 use Rattle.path_keys.proofs.lemmas.values.KeyLemmas.{key_of-cons, key_of-append}
@@ -48,6 +49,17 @@ values-first s l not_filler e =
 first_name : (s : List ℕ) → 0 < length s → is_filler s 0 ≡ false → starts_with_parent_dir s ≡ false
     → IsName (first_piece s)
 first_name s l not_filler e = (subst (AllFit true) (values-first s l not_filler e) (values-fit s)).0
+
+-- the first n bytes of s are `..` or names, and the rest of s has all components after them
+pub record IsRun (s : List ℕ) (n : ℕ) : Type 0 where
+  pub some : 0 < n
+  pub in_range : n ≤ length s
+  pub split : key_of (inner_values s) ≡ run_key s n ++ key_of (inner_values (drop n s))
+
+-- n is the index of the first slash of s after which no name begins, or the length of s if it has
+-- none
+abbrev pub FirstStop : List ℕ → ℕ → Type 0
+FirstStop = IsNameRunEnd 47 46
 
 -- if s begins with `..`, its first two bytes are a run
 pub run-up : (s : List ℕ) → is_filler s 0 ≡ false → starts_with_parent_dir s ≡ true → IsRun s 2
@@ -77,7 +89,7 @@ slice_split-append (x ∷ t) r = by_test (eqb x 47)
 
 -- the inner components of t, a slash and r together are those of t and then those of the slash and
 -- r
-inner_values-cut : (t r : List ℕ)
+pub inner_values-cut : (t r : List ℕ)
     → inner_values (t ++ slash ∷ r) ≡ inner_values t ++ inner_values (slash ∷ r)
 inner_values-cut t r =
     grind (arith, inner_values-pieces, slice_split-append, filter-append, map-append)

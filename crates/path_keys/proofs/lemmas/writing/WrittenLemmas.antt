@@ -9,7 +9,7 @@ use Rattle.path_runs.specs.Overlay.{overlay}
 use Rattle.path_runs.proofs.lemmas.lists.WritingLemmas.{WritesOn, writes_stretch}
 use Rattle.path_keys.specs.Keys.{key_of}
 use Rattle.path_keys.specs.NameBytes.{coded}
-use Rattle.path_keys.specs.PathRuns.{run_key, IsRun}
+use Rattle.path_keys.specs.PathRuns.{run_key}
 
 -- if n is at most the length of s, the first n bytes of s, coded, and an end mark are n + 1 bytes
 pub names_len : (s : List ℕ) (n : ℕ) → n ≤ length s
@@ -30,9 +30,10 @@ names_run s n e = ap (λ up. cond up (0 ∷ 3 ∷ []) (map coded (take n s) ++ 0
 -- if the key of the inner components of s remains to be written at index `at`, and the first n
 -- bytes of s are a run, then, after the bytes in a key of this run are written, the key of the
 -- inner components of `later`, which are those of s after its first n bytes, remains to be written
-pub written_run : {whole old out new : List ℕ} {at n end : ℕ} (s later : List ℕ)
-    → WritesOn whole old at out (key_of (inner_values s)) → IsRun s n
+pub written_run : {whole old out new : List ℕ} {at end : ℕ} (n : ℕ) (s later : List ℕ)
+    → WritesOn whole old at out (key_of (inner_values s))
+    → key_of (inner_values s) ≡ run_key s n ++ key_of (inner_values (drop n s))
     → new ≡ overlay at (run_key s n) out → inner_values (drop n s) ≡ inner_values later
     → end ≡ at + length (run_key s n) → WritesOn whole old end new (key_of (inner_values later))
-written_run {whole} {old} {out} {new} {at} {n} {end} s later h run is_put same ends =
+written_run {whole} {old} {out} {new} {at} {end} n s later h run is_put same ends =
     grind (arith, writes_stretch)

@@ -7,7 +7,11 @@ returns-then-bytes-lt2-clause-bytes c =
     let bytes = c.trimmed-bytes in
     let own =
     spelling_of-whole bytes.result.now c.first_gap-gap.result bytes.ensures.ends
-    c.first_gap-gap.ensures c.then-bytes-lt2.either in
+    (record {
+      in_range = c.first_gap-gap.ensures.in_range;
+      gap = c.first_gap-gap.ensures.gap;
+      none_before = c.first_gap-gap.ensures.none_before;
+    }) c.then-bytes-lt2.either in
     grind arith
 
 pub returns-clause-bytes : goal.returns-clause-bytes

@@ -19,7 +19,7 @@ use Rattle.unix_path.proofs.lemmas.parts.PieceLemmas.{first_piece-other, positio
 use Rattle.unix_path.proofs.lemmas.parts.PieceLemmas.{position_or_len-other}
 use Rattle.unix_path.proofs.lemmas.parts.PlaceLemmas.{values-inner_parts}
 use Rattle.unix_path.proofs.lemmas.parts.ValueLemmas.{value_bytes-piece}
-use Rattle.path_runs.specs.Gaps.{is_gap, slashed_parts, FirstGap, IsPartStart}
+use Rattle.path_runs.specs.Gaps.{is_gap, slashed_parts, IsPartStart}
 
 -- if byte i of s is filler, the bytes of s from i on and those from i + 1 on have the same
 -- components, apart from a leading root or `.`
@@ -45,6 +45,12 @@ slashed_parts-not_filler s l e =
 -- a gap of x ∷ s begins at index i + 1 if and only if a gap of s begins at index i
 pub is_gap-after_start : (x : ℕ) (s : List ℕ) (i : ℕ) → is_gap (x ∷ s) (suc i) ≡ is_gap s i
 is_gap-after_start x s i = grind arith
+
+-- `at` is the index of the first gap of s, or the length of s if there is no gap
+pub record FirstGap (s : List ℕ) (at : ℕ) : Type 0 where
+  pub in_range : at ≤ length s
+  pub gap : at < length s → is_gap s at ≡ true
+  pub none_before : (i : ℕ) → i < at → is_gap s i ≡ false
 
 -- if the first gap of x ∷ s is at index n + 1, the first gap of s is at index n; in a string
 -- without a gap, the end counts as one

@@ -14,10 +14,10 @@ use Rattle.unix_path.proofs.lemmas.parts.PieceLemmas.{first_piece}
 use Rattle.unix_path.proofs.lemmas.parts.PlaceLemmas.{values-inner_parts, parts_end}
 use Rattle.unix_path.proofs.lemmas.steps.SpanLemmas.{parts_end-whole, rest-trimmed, trims_end}
 use Rattle.unix_path.proofs.lemmas.parts.ValueLemmas.{first_value, value_bytes-first, no_root_first}
-use Rattle.path_runs.specs.Gaps.{slashed_parts, FirstGap}
+use Rattle.path_runs.specs.Gaps.{slashed_parts}
 use Rattle.path_runs.specs.Spelling.{slash_each, slashed_bytes, spelling_of}
 use Rattle.path_runs.proofs.lemmas.gaps.FirstGapLemmas.{first_slash, before_first_gap}
-use Rattle.path_runs.proofs.lemmas.gaps.FirstGapLemmas.{no_parts_after_end}
+use Rattle.path_runs.proofs.lemmas.gaps.FirstGapLemmas.{no_parts_after_end, FirstGap}
 use Rattle.path_runs.proofs.lemmas.gaps.FirstGapLemmas.{slashed_parts-slash}
 use Rattle.path_runs.proofs.lemmas.spelling.SpellLemmas.{spelling_of-cons, spelling_of-nil}
 use Rattle.path_runs.proofs.lemmas.spelling.SpellLemmas.{spelling_of-root, spelling_of-rooted}

@@ -11,10 +11,11 @@ use Rattle.unix_path.specs.Rest.{rest}
 use Rattle.unix_path.specs.Scan.{EndsInPart}
 use Rattle.unix_bytes.proofs.lemmas.lists.ListLemmas.{by_test}
 use Rattle.unix_path.proofs.lemmas.steps.SpanLemmas.{rest-trimmed, trims_end}
-use Rattle.path_runs.specs.Gaps.{is_gap, slashed_parts, FirstGap}
+use Rattle.path_runs.specs.Gaps.{is_gap, slashed_parts}
 use Rattle.path_runs.specs.Spelling.{spelling_of}
 use Rattle.path_runs.proofs.lemmas.gaps.FirstGapLemmas.{is_gap-after_start, no_parts_after_end}
 use Rattle.path_runs.proofs.lemmas.gaps.FirstGapLemmas.{slashed_parts-filler, slashed_parts-slash}
+use Rattle.path_runs.proofs.lemmas.gaps.FirstGapLemmas.{FirstGap}
 use Rattle.path_runs.proofs.lemmas.spelling.LeanLemmas.{slashed_parts-length, spelling_of-shortest}
 use Rattle.path_runs.proofs.lemmas.gaps.GapSpellingLemmas.{spelling_of-run, spelling_of-whole}
 use Rattle.std.proofs.lemmas.Grind.{common_steps}

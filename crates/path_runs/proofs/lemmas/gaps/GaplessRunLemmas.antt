@@ -2,16 +2,28 @@
 -- runs. A gap is a slash before an empty piece or the piece `.`. A gapless run is a slash and the
 -- components after it, up to the next gap or the end.
 use Rattle.std.proofs.Common.{◌≡◌, ℕ, zero, suc, ◌+◌, ◌-◌, ◌<◌, false, List, ◌++◌}
-use Rattle.std.proofs.Common.{length, drop, sym, ap, ap₂, ◌∙◌, eqb-true, arith}
+use Rattle.std.proofs.Common.{length, drop, ◌≤◌, sym, ap, ap₂, ◌∙◌, eqb-true, arith}
 use Rattle.std.proofs.Common.{drop-drop, length-drop, length-take-le}
-use Rattle.std.specs.Prelude.{slice_range}
+use Rattle.std.specs.Prelude.{slice_index, slice_range}
+use Rattle.unix_path.specs.Parts.{slash}
 use Rattle.std.proofs.lemmas.Bool.{and_parts}
 use Rattle.std.proofs.lemmas.List.{get_or-drop}
 use Rattle.unix_path.specs.Scan.{is_filler}
 use Rattle.unix_path.proofs.lemmas.filler.FillerLemmas.{is_filler-drop}
-use Rattle.path_runs.specs.Gaps.{slashed_parts, FirstGap, IsGaplessRun, IsPartStart}
-use Rattle.path_runs.proofs.lemmas.gaps.FirstGapLemmas.{component_before_gap}
+use Rattle.path_runs.specs.Gaps.{slashed_parts, IsPartStart}
+use Rattle.path_runs.proofs.lemmas.gaps.FirstGapLemmas.{component_before_gap, FirstGap}
 use Rattle.path_runs.proofs.lemmas.gaps.FirstGapLemmas.{slice_from_slash}
+
+-- `run` is the component at index `start` and any number of components after it, with a slash
+-- before each. The run ends at index `start - 1 + length run`, exclusive. The bytes of s from there
+-- on have the remaining components, and are empty or begin with a slash.
+pub record IsGaplessRun (s : List ℕ) (start : ℕ) (run : List ℕ) : Type 0 where
+  pub more : 1 < length run
+  pub in_range : start - 1 + length run ≤ length s
+  pub gap : start - 1 + length run < length s
+      → slice_index s (start - 1 + length run) ≡ slash
+  pub same : slashed_parts (drop start s)
+      ≡ run ++ slashed_parts (drop (start - 1 + length run) s)
 
 -- if s isn't empty, and begins neither with a slash nor with the piece `.`, then n, the index of
 -- the first gap of s (or its length, if it has no gap), is greater than 0

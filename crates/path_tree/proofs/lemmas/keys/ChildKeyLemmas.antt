@@ -12,7 +12,7 @@ use Rattle.std.specs.List.{position_or_len}
 use Rattle.unix_path.specs.Parts.{Value, RootDir, CurDir, ParentDir, Normal, values}
 use Rattle.unix_path.specs.Prefixes.{IsPrefixOf}
 use Rattle.path_runs.specs.Spelling.{spelling_of}
-use Rattle.path_keys.specs.Codes.{AllFit, Fits}
+use Rattle.path_keys.proofs.lemmas.values.Fitting.{AllFit, Fits}
 use Rattle.path_keys.specs.Keys.{code, key_of, raised, IsKey}
 use Rattle.path_keys.proofs.lemmas.values.CodeLemmas.{code-length}
 use Rattle.path_keys.proofs.lemmas.reading.FitLemmas.{AllFit-after, starts, values-fit}

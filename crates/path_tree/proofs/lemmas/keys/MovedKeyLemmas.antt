@@ -4,7 +4,7 @@ use Rattle.std.proofs.Common.{drop, length, refl, subst, sym}
 use Rattle.std.proofs.lemmas.List.{drop_at}
 use Rattle.unix_path.specs.Parts.{Value}
 use Rattle.unix_path.specs.Prefixes.{IsPrefixOf}
-use Rattle.path_keys.specs.Codes.{AllFit}
+use Rattle.path_keys.proofs.lemmas.values.Fitting.{AllFit}
 use Rattle.path_keys.specs.Keys.{key_of}
 use Rattle.path_keys.proofs.lemmas.reading.FitLemmas.{AllFit-any, AllFit-append, AllFit-later}
 use Rattle.path_keys.proofs.lemmas.values.KeyLemmas.{key_of-append, key_of-nil}

@@ -16,7 +16,7 @@ use Rattle.std.specs.Map.{keys_of}
 use Rattle.unix_bytes.proofs.lemmas.lists.ListLemmas.{by_test}
 use Rattle.path_runs.specs.Spelling.{spelling_of}
 use Rattle.path_keys.specs.Keys.{IsKey}
-use Rattle.path_keys.specs.Ranges.{bytes_cmp, end_of, LiesUnder}
+use Rattle.path_keys.specs.Ranges.{bytes_cmp, end_of, InRange}
 use Rattle.path_keys.proofs.lemmas.values.BeginLemmas.{begins_told}
 use Rattle.path_keys.proofs.lemmas.values.RangeLemmas.{begins-lies_under}
 use Rattle.path_keys.specs.KeyValues.{is_own, key_values}
@@ -90,7 +90,7 @@ between-starts base end key ends =
     let less = less_from_not_le (bytes_cmp key end)
     (ap (λ o. not (is_le o)) (sym (nat_list_cmp_total.antisymm end key))
     ∙ (and_parts from before both).1) in
-    let lies : LiesUnder base key = (
+    let lies : InRange base (end_of base) key = (
       (and_parts from before both).0,
       subst (λ o. IfSome o (λ end. bytes_cmp key end ≡ Less)) (sym ends) less,
     ) in

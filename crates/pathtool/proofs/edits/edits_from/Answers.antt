@@ -1,9 +1,9 @@
-use Rattle.std.proofs.Common.{rules, tests}
+use Rattle.std.proofs.Common.{◌∙◌, rules, tests}
 use Rattle.std.proofs.lemmas.Iterator.Splits.{YieldsList-from_slice_split}
 use Rattle.std.proofs.lemmas.Iterator.Consumers.{YieldsList-at}
 use Rattle.pathtool.specs.Fields.{fields_of}
 use Rattle.pathtool.proofs.lemmas.answers.FieldLemmas.{edits_then-more, edits_then-bad}
-use Rattle.pathtool.proofs.lemmas.answers.FieldLemmas.{edits_then-all}
+use Rattle.pathtool.proofs.lemmas.answers.FieldLemmas.{edits_of_fields-known, edits_then-all}
 use Rattle.pathtool.proofs.lemmas.lines.SplitLemmas.{is_tab}
 use Rattle.pathtool.proofs.lemmas.lines.LoopLemmas.{IsStep, step_of}
 use Rattle.pathtool.proofs.edits.edits_from.Goals as goal
@@ -24,6 +24,7 @@ returns-in_default c =
     edits_then-bad (λ x. x.now) _ _ _ c.loop-field.invariant c.in-Some.field c.edit_from.result
     (rw c.in-Some.is at (field_step (goal.at.returns-in_default c).After-next)) (search rules)
     c.edit_from.ensures
+    ∙ edits_of_fields-known (fields_of c.args.fields.now)
 
 pub loop-field-preserved : goal.loop-field-preserved
 loop-field-preserved c =
@@ -35,3 +36,4 @@ pub returns : goal.returns
 returns c =
     edits_then-all (λ x. x.now) _ _ _ c.loop-field.invariant
     (rw c.in-None.is at (field_step (goal.at.returns c).After-next))
+    ∙ edits_of_fields-known (fields_of c.args.fields.now)

@@ -1,7 +1,7 @@
 use Rattle.std.proofs.Common.{map, ◌++◌, ap, ap₂, sym, ◌∙◌}
 use Rattle.path_runs.specs.EditViews.{edit_value}
 use Rattle.path_runs.specs.EditLists.{edits_of}
-use Rattle.pathtool.specs.Steps.{words_of}
+use Rattle.pathtool.proofs.lemmas.answers.WordLemmas.{words_of}
 use Rattle.pathtool.proofs.lemmas.answers.AddLemmas.{adds_after}
 use Rattle.pathtool.proofs.lemmas.answers.WordLemmas.{tabs-words}
 use Rattle.pathtool.proofs.edits.push_edited.Goals as goal

@@ -1,8 +1,7 @@
 use Rattle.std.proofs.Common.{Some, map, option_map, ap, sym, ◌∙◌}
 use Rattle.path_runs.specs.EditViews.{edit_value}
 use Rattle.pathtool.specs.Fields.{fields_of}
-use Rattle.pathtool.specs.Steps.{edited_answer}
-use Rattle.pathtool.proofs.lemmas.answers.FieldLemmas.{edited_answer-fields}
+use Rattle.pathtool.proofs.lemmas.answers.FieldLemmas.{edited_answer, edited_answer-fields}
 use Rattle.pathtool.proofs.lemmas.answers.AddLemmas.{adds}
 use Rattle.pathtool.proofs.edits.push_edits.Goals as goal
 

@@ -1,6 +1,6 @@
 use Rattle.std.proofs.Common.{◌+◌, ◌++◌, drop, ap, ap₂, sym, ◌∙◌, append-nil}
 use Rattle.std.proofs.lemmas.List.{at_drop_all}
-use Rattle.pathtool.specs.Steps.{words_of}
+use Rattle.pathtool.proofs.lemmas.answers.WordLemmas.{words_of}
 use Rattle.pathtool.proofs.lemmas.answers.WordLemmas.{words-push}
 use Rattle.pathtool.proofs.edits.push_words.Goals as goal
 

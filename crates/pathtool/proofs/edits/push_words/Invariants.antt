@@ -1,5 +1,5 @@
 use Rattle.std.proofs.Common.{◌≡◌, ◌++◌, drop}
-use Rattle.pathtool.specs.Steps.{words_of}
+use Rattle.pathtool.proofs.lemmas.answers.WordLemmas.{words_of}
 use Rattle.pathtool.proofs.edits.push_words.Given as goal
 
 -- the words so far, followed by the words for the remaining answers, are the words for all answers

@@ -12,7 +12,25 @@ use Rattle.path_runs.specs.EditViews.{edit_value}
 use Rattle.path_runs.specs.declared.edits.Edit.{Edit}
 use Rattle.pathtool.proofs.lemmas.lines.LoopLemmas.{IsStep}
 use Rattle.pathtool.specs.EditFields.{edit_of_field, edit_answer}
-use Rattle.pathtool.specs.Steps.{prepend_edit, edits_of_fields, edited_answer}
+use Rattle.pathtool.specs.EditFields.{edit_items}
+use Rattle.pathtool.specs.Fields.{bad_command, tabs}
+
+-- an edit followed by a list of edits, or `None` if either is `None`
+abbrev pub prepend_edit : Option EditValue → Option (List EditValue) → Option (List EditValue)
+prepend_edit (Some edit) (Some edits) = Some (edit ∷ edits)
+prepend_edit (Some edit) None = None
+prepend_edit None edits = None
+
+-- the edits that the fields name, or `None` if one of the fields names no edit
+abbrev pub edits_of_fields : List (List ℕ) → Option (List EditValue)
+edits_of_fields [] = Some []
+edits_of_fields (field ∷ fields) = prepend_edit (edit_of_field field) (edits_of_fields fields)
+
+-- the answer to a list of edits, or `bad command` for `None`, which means that a field names no
+-- edit
+abbrev pub edited_answer : List ℕ → Option (List EditValue) → List ℕ
+edited_answer path None = bad_command
+edited_answer path (Some edits) = tabs (edit_items path edits)
 
 -- the edits `done`, followed by the edits that `fields` name, or `None` if a field names no edit
 abbrev pub edits_then : List EditValue → List (List ℕ) → Option (List EditValue)
@@ -78,7 +96,7 @@ module _ {A : Type 0} (shown : A → List ℕ) (fields : List (List ℕ)) (taken
       ∙ ap Some (append-nil done)) ∙ so_far
 
 -- each of the fields names an edit
-abbrev are_edits : List (List ℕ) → Bool
+abbrev pub are_edits : List (List ℕ) → Bool
 are_edits fields = list_all (λ field. is_some (edit_of_field field)) fields
 
 -- if `edit` is `Some` and `known` is true, `prepend_edit` returns this edit and then `edits`;
@@ -90,7 +108,7 @@ prepend_edit-known None known edits = refl
 prepend_edit-known (Some edit) true edits = refl
 prepend_edit-known (Some edit) false edits = refl
 
-edits_of_fields-known : (fields : List (List ℕ)) → edits_of_fields fields
+pub edits_of_fields-known : (fields : List (List ℕ)) → edits_of_fields fields
     ≡ (if are_edits fields then Some (filter_map edit_of_field fields) else None)
 edits_of_fields-known [] = refl
 edits_of_fields-known (field ∷ fields) =
@@ -99,7 +117,7 @@ edits_of_fields-known (field ∷ fields) =
 
 -- the answer to the edits that the fields name is the answer of the command `edit`
 pub edited_answer-fields : (path : List ℕ) (fields : List (List ℕ))
-    → edited_answer path (edits_of_fields fields) ≡ edit_answer path fields
+    → edited_answer path (if are_edits fields then Some (filter_map edit_of_field fields) else None)
+    ≡ edit_answer path fields
 edited_answer-fields path fields =
-    ap (edited_answer path) (edits_of_fields-known fields)
-    ∙ by_test (are_edits fields) (λ e. rw e refl) (λ e. rw e refl)
+    by_test (are_edits fields) (λ e. rw e refl) (λ e. rw e refl)

@@ -1,5 +1,6 @@
 -- Lists of items with tabs between them.
-use Rattle.std.proofs.Common.{◌≡◌, ℕ, Bool, true, false, List, [], ◌∷◌, ◌++◌, length, Option, Some}
+use Rattle.std.proofs.Common.{◌≡◌, ℕ, Bool, true, false, List, [], ◌∷◌, ◌++◌, length, map, Option}
+use Rattle.std.proofs.Common.{Some}
 use Rattle.std.proofs.Common.{Result, Ok, Err, OnOk}
 use Rattle.std.proofs.Common.{refl, sym, ap, ap₂, subst, ◌∙◌, append_assoc, if◌then◌else◌}
 use Rattle.std.specs.Iterator.{Drains}
@@ -11,7 +12,11 @@ use Rattle.std.proofs.lemmas.Iterator.{YieldsList}
 use Rattle.std.proofs.lemmas.Iterator.Consumers.{YieldsList-from_shown}
 use Rattle.unix_bytes.specs.declared.bytes.UnixStr.{UnixStr}
 use Rattle.pathtool.specs.Fields.{tabs}
-use Rattle.pathtool.specs.Steps.{tab, names_bytes}
+use Rattle.pathtool.specs.Steps.{tab}
+
+-- the bytes of each name
+abbrev pub names_bytes : List UnixStr → List (List ℕ)
+names_bytes names = map (λ name. name.bytes.now) names
 
 -- the list has no items
 abbrev pub has_none : List (List ℕ) → Bool

@@ -12,8 +12,11 @@ use Rattle.path_runs.specs.Spelling.{spelling_of}
 use Rattle.path_table.specs.Table.{item_row, entries_under}
 use Rattle.pathtool.specs.Fields.{tabs}
 use Rattle.pathtool.specs.Tables.{entries_with, under_answer}
-use Rattle.pathtool.specs.Steps.{row_spelling}
 use Rattle.pathtool.proofs.lemmas.lines.LoopLemmas.{IsStep}
+
+-- the canonical form of the path in an item that a table's `under` returns
+abbrev pub row_spelling : Path × Bor (Unit {0}) → List ℕ
+row_spelling found = spelling_of (values found.0.bytes.now)
 
 -- `so_far`: if the paths after those in `yielded` are inserted into `entries`, the result is `all`
 module _ {A : Type 0} (shown : A → List ℕ) (paths : List (List ℕ)) (yielded : List A)

@@ -18,8 +18,20 @@ use Rattle.path_runs.proofs.lemmas.walks.WalkLemmas.{is_back}
 use Rattle.path_runs.specs.declared.walk.Turn.{Turn}
 use Rattle.path_runs.specs.declared.walk.Walked.{Walked}
 use Rattle.pathtool.specs.Fields.{tabs, bad_command}
-use Rattle.pathtool.specs.Steps.{tab, components_bytes, walked_items}
+use Rattle.pathtool.specs.Steps.{tab}
 use Rattle.pathtool.specs.Walks.{part_bytes, turn_of, walk_items, walk_answer}
+
+-- the bytes of each component
+abbrev pub components_bytes : List Component → List (List ℕ)
+components_bytes parts = map (λ part. value_bytes (value_of part)) parts
+
+-- the results of a walk, as items: the two numbers of components taken, the components from the
+-- front, the rest, and the components from the back
+abbrev pub walked_items : Walked → List (List ℕ)
+walked_items walked =
+    decimal (length walked.front.items) ∷ decimal (length walked.behind.items)
+    ∷ (components_bytes walked.front.items
+    ++ walked.rest.bytes.now ∷ components_bytes walked.behind.items)
 
 -- a list of two or more items, joined by tabs, is the first item, a tab, and the other items joined
 -- by tabs
@@ -41,6 +53,18 @@ tabs-counted k m front rest behind =
     ∙ append_assoc ((k ++ tab ∷ []) ++ m) (tab ∷ []) more
     ∙ append_assoc (k ++ tab ∷ []) m (tab ∷ more) ∙ append_assoc k (tab ∷ []) (m ++ tab ∷ more)
     ∙ ap (λ more. k ++ tab ∷ more) (sym (tabs-cons m front rest behind))
+
+-- if a count i and a tab were appended to `old`, and then a count j and a tab, all of this was
+-- appended to `old`; i is n, and j is m
+pub counts_after : {mid new : List ℕ} {i j n m : ℕ} (old : List ℕ) → i ≡ n → j ≡ m
+    → mid ≡ (old ++ decimal i) ++ tab ∷ [] → new ≡ (mid ++ decimal j) ++ tab ∷ []
+    → new ≡ old ++ (((decimal n ++ tab ∷ []) ++ decimal m) ++ tab ∷ [])
+counts_after {mid} {new} {i} {j} {n} {m} old same other first second =
+    second ∙ ap (λ bytes. (bytes ++ decimal j) ++ tab ∷ [])
+    (first ∙ append_assoc old (decimal i) (tab ∷ []))
+    ∙ ap (λ bytes. bytes ++ tab ∷ []) (append_assoc old (decimal i ++ tab ∷ []) (decimal j))
+    ∙ append_assoc old ((decimal i ++ tab ∷ []) ++ decimal j) (tab ∷ [])
+    ∙ ap₂ (λ i j. old ++ (((decimal i ++ tab ∷ []) ++ decimal j) ++ tab ∷ [])) same other
 
 -- at most n of the first n turns are at the front
 pub front_turns-le : (n : ℕ) (turns : List Turn) → front_turns n turns ≤ n

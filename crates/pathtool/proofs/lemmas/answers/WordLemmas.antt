@@ -5,7 +5,12 @@ use Rattle.std.proofs.lemmas.List.{at_drop_more}
 use Rattle.path_runs.specs.declared.edits.Answer.{Answer}
 use Rattle.pathtool.specs.Fields.{tabs}
 use Rattle.pathtool.specs.EditFields.{answer_word}
-use Rattle.pathtool.specs.Steps.{tab, words_of}
+use Rattle.std.specs.List.{flat_map}
+use Rattle.pathtool.specs.Steps.{tab}
+
+-- the words for the answers of edits, with a tab before each
+abbrev pub words_of : List Answer → List ℕ
+words_of answers = flat_map (λ answer. tab ∷ answer_word answer) answers
 
 -- `bytes` and then the word for each of `answers`, joined by tabs, are `bytes` and then each word
 -- after a tab

@@ -1,7 +1,6 @@
 use Rattle.std.proofs.Common.{[], ◌∷◌, ◌++◌, ap, sym, ◌∙◌}
 use Rattle.std.proofs.lemmas.List.{map-append}
-use Rattle.pathtool.specs.Steps.{names_bytes}
-use Rattle.pathtool.proofs.lemmas.answers.TabbedLemmas.{adds_item}
+use Rattle.pathtool.proofs.lemmas.answers.TabbedLemmas.{adds_item, names_bytes}
 use Rattle.pathtool.proofs.lists.push_list.Goals as goal
 
 pub loop-item-preserved : goal.loop-item-preserved

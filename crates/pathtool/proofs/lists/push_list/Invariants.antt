@@ -1,7 +1,6 @@
 use Rattle.std.proofs.Common.{◌≡◌, ◌++◌}
 use Rattle.pathtool.specs.Fields.{tabs}
-use Rattle.pathtool.specs.Steps.{names_bytes}
-use Rattle.pathtool.proofs.lemmas.answers.TabbedLemmas.{has_none}
+use Rattle.pathtool.proofs.lemmas.answers.TabbedLemmas.{has_none, names_bytes}
 use Rattle.pathtool.proofs.lists.push_list.Given as goal
 
 abbrev pub invariant-loop-item : goal.invariant-loop-item

@@ -1,7 +1,7 @@
 use Rattle.std.proofs.Common.{◌++◌, ap, ◌∙◌, map}
 use Rattle.std.proofs.lemmas.List.{map_more, take_all}
 use Rattle.pathtool.specs.Fields.{tabs}
-use Rattle.pathtool.specs.Steps.{row_spelling}
+use Rattle.pathtool.proofs.lemmas.answers.TableLemmas.{row_spelling}
 use Rattle.pathtool.proofs.lemmas.answers.TabbedLemmas.{adds_item}
 use Rattle.pathtool.proofs.tables.push_all.Goals as goal
 

@@ -1,6 +1,6 @@
 use Rattle.std.proofs.Common.{◌≡◌, ◌++◌, map, take}
 use Rattle.pathtool.specs.Fields.{tabs}
-use Rattle.pathtool.specs.Steps.{row_spelling}
+use Rattle.pathtool.proofs.lemmas.answers.TableLemmas.{row_spelling}
 use Rattle.pathtool.proofs.lemmas.answers.TabbedLemmas.{has_none}
 use Rattle.pathtool.proofs.tables.push_all.Given as goal
 

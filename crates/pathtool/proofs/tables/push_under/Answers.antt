@@ -1,9 +1,8 @@
 use Rattle.std.proofs.Common.{ap, ◌∙◌, map}
 use Rattle.pathtool.specs.Fields.{tabs}
 use Rattle.pathtool.specs.ExtraFields.{extra_fields}
-use Rattle.pathtool.specs.Steps.{row_spelling}
 use Rattle.pathtool.proofs.lemmas.answers.AddLemmas.{adds}
-use Rattle.pathtool.proofs.lemmas.answers.TableLemmas.{under_answer-found}
+use Rattle.pathtool.proofs.lemmas.answers.TableLemmas.{row_spelling, under_answer-found}
 use Rattle.pathtool.proofs.tables.push_under.Goals as goal
 
 pub returns : goal.returns

@@ -24,13 +24,27 @@ ends_ordinary c = record {
 pub returns-then-start-lt2 : goal.returns-then-start-lt2
 returns-then-start-lt2 c =
     let d = (goal.at.returns-then-start-lt2 c).After-after_last-start in
-    name_first c.args.bytes.now c.after_last-start.result c.requires (ends_ordinary d)
-    (is_last_start d) c.if-start-lt2.true
+    let t = name_first c.args.bytes.now c.after_last-start.result c.requires (ends_ordinary d)
+    (is_last_start d) c.if-start-lt2.true in
+    record {
+      ends = t.ends;
+      in_order = t.in_order;
+      in_range = t.in_range;
+      values = t.values_are;
+      rest = t.rest_is;
+    }
 
 pub returns-then-is_ordinary : goal.returns-then-is_ordinary
 returns-then-is_ordinary c =
     let d = (goal.at.returns-then-is_ordinary c).After-after_last-start in
     let before = c.if-is_ordinary.ensures in
-    name_after c.args.bytes.now c.after_last-start.result c.requires (ends_ordinary d)
+    let t = name_after c.args.bytes.now c.after_last-start.result c.requires (ends_ordinary d)
     (is_last_start d) c.if-start-lt2.false
-    (record { no_slash = before.no_slash refl; no_dot = before.no_dot refl })
+    (record { no_slash = before.no_slash refl; no_dot = before.no_dot refl }) in
+    record {
+      ends = t.ends;
+      in_order = t.in_order;
+      in_range = t.in_range;
+      values = t.values_are;
+      rest = t.rest_is;
+    }

@@ -1,5 +1,6 @@
 -- Steps over the last component if it is a name, where neither the last byte nor the byte before
 -- the last slash is a slash or a dot.
+use Rattle.std.proofs.Common.{[], ◌∷◌, ◌++◌, drop}
 use Rattle.std.proofs.Common.{◌≡◌, ℕ, ◌-◌, ◌≤◌, ◌<◌, true, false, ltb, eqb, List, length, get_or}
 use Rattle.std.proofs.Common.{take, refl, sym, ap, ◌∙◌, arith, lt-ltb, ltb-true, ltb-false}
 use Rattle.std.specs.Str.{bytes_eq}
@@ -10,7 +11,17 @@ use Rattle.unix_path.specs.Scan.{ends_with_parent_dir, is_trailing, EndsInPart}
 use Rattle.unix_bytes.proofs.lemmas.lists.ListLemmas.{by_test}
 use Rattle.unix_path.proofs.lemmas.filler.TrimLemmas.{parts_shorter}
 use Rattle.unix_path.proofs.lemmas.steps.LastPieceLemmas.{takes_last_name, IsLastStart}
-use Rattle.unix_path_c.specs.Steps.{EndsInName}
+use Rattle.unix_path.specs.Parts.{values, Normal}
+use Rattle.unix_path.specs.Rest.{rest}
+
+-- s ends where its last component ends, which is the name from index `start` to the end of s; the
+-- rest of s before this name is its first `before` bytes
+pub record EndsInName (s : List ℕ) (before start : ℕ) : Type 0 where
+  pub ends : EndsInPart s
+  pub in_range : start ≤ length s
+  pub in_order : before ≤ start
+  pub values_are : values s ≡ values (take before s) ++ Normal (drop start s) ∷ []
+  pub rest_is : rest s 0 1 ≡ take before s
 
 -- the byte at i is ordinary: neither a slash nor a dot
 pub record IsOrdinary (s : List ℕ) (i : ℕ) : Type 0 where

@@ -1,5 +1,6 @@
 -- The rest of a walk, by the walk's indices.
-use Rattle.std.proofs.Common.{◌≡◌, ℕ, ◌+◌, ◌-◌, ◌≤◌, ◌<◌, ◌&&◌, cond, leb, ltb, List, [], length}
+use Rattle.std.proofs.Common.{◌≡◌, ℕ, ◌+◌, ◌-◌, ◌≤◌, ◌<◌, ◌&&◌, cond, eqb, leb, ltb, List, []}
+use Rattle.std.proofs.Common.{length}
 use Rattle.std.proofs.Common.{◌⊎◌, ⊎_elim, min, take, drop, map, refl, sym, ap, ap₂, ◌∙◌, arith}
 use Rattle.std.proofs.Common.{drop-drop, take-take, take_all, ltb-true, ltb-false}
 use Rattle.std.specs.Prelude.{slice_range}
@@ -17,7 +18,7 @@ use Rattle.unix_path.proofs.lemmas.parts.PlaceLemmas.{part_at, part_at-zero}
 use Rattle.unix_path.proofs.lemmas.rests.RestLemmas.{middle_of-at, take-rest}
 use Rattle.unix_path.proofs.lemmas.names.StemLemmas.{length-rest_whole-le}
 use Rattle.unix_path_c.specs.Spans.{span_bytes, span_end}
-use Rattle.unix_path_c.specs.Walks.{kind_of, remaining, part_bytes, part_value, remaining_parts}
+use Rattle.unix_path_c.specs.Walks.{remaining, part_bytes, part_value, remaining_parts}
 use Rattle.unix_path_c.specs.Walks.{value_of_kind}
 use Rattle.unix_path_c.specs.declared.spans.Span.{Span}
 use Rattle.unix_path_c.specs.declared.walks.Part.{Part}
@@ -103,24 +104,18 @@ range-remaining path walk s from to i k h l start end =
     let size : to - from ≡ k = omega (arith, end) in
     ap (λ n. take n (drop from path)) size ∙ take-remaining path walk s from i k h l start
 
--- a component is the component of its kind that has its bytes
-value_of_kind-kind_of : (v : Value) → value_of_kind (kind_of v) (value_bytes v) ≡ v
-value_of_kind-kind_of RootDir = refl
-value_of_kind-kind_of CurDir = refl
-value_of_kind-kind_of ParentDir = refl
-value_of_kind-kind_of (Normal name) = refl
+-- a record that has v's bytes, and a kind with which these bytes are v, is the component v
+pub part_value-is : (path : List ℕ) (part : Part) (v : Value)
+    → v ≡ value_of_kind part.kind (value_bytes v) → part_bytes path part ≡ value_bytes v
+    → part_value path part ≡ v
+part_value-is path part v kind bytes = ap (value_of_kind part.kind) bytes ∙ sym kind
 
--- each kind is less than 4
-pub kind_of-lt : (v : Value) → kind_of v < 4
-kind_of-lt RootDir = omega arith
-kind_of-lt CurDir = omega arith
-kind_of-lt ParentDir = omega arith
-kind_of-lt (Normal name) = omega arith
-
--- a record that has v's kind and v's bytes is the component v
-pub part_value-is : (path : List ℕ) (part : Part) (v : Value) → part.kind ≡ kind_of v
-    → part_bytes path part ≡ value_bytes v → part_value path part ≡ v
-part_value-is path part v kind bytes = ap₂ value_of_kind kind bytes ∙ value_of_kind-kind_of v
+-- a component with a kind has this kind with its own bytes
+pub value_of_kind-again : (kind : ℕ) (bytes : List ℕ)
+    → value_of_kind kind bytes ≡ value_of_kind kind (value_bytes (value_of_kind kind bytes))
+value_of_kind-again kind bytes = by_test (eqb kind 0) (λ e. rw e refl)
+    (λ e. by_test (eqb kind 1) (λ f. rw (e, f) refl)
+    (λ f. by_test (eqb kind 2) (λ g. rw (e, f, g) refl) (λ g. rw (e, f, g) refl)))
 
 -- the components of a path without its trailing filler are those of the path
 pub parts-whole : (s : List ℕ) → parts (rest s 0 0) ≡ parts s

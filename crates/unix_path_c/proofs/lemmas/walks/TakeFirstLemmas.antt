@@ -1,5 +1,6 @@
 -- The first component in the rest of a walk, and the rest after it.
-use Rattle.std.proofs.Common.{◌≡◌, ℕ, ◌+◌, ◌-◌, ◌≤◌, List, [], ◌∷◌, length, map, take, drop, Option}
+use Rattle.std.proofs.Common.{◌≡◌, ℕ, ◌+◌, ◌-◌, ◌≤◌, ◌<◌, List, [], ◌∷◌, length, map, take, drop}
+use Rattle.std.proofs.Common.{Option}
 use Rattle.std.proofs.Common.{Some, None, refl, sym, ap, ap₂, ◌∙◌, arith}
 use Rattle.unix_path.specs.Parts as paths
 use Rattle.unix_path.specs.Parts.{Value, parts, value_bytes, values}
@@ -13,14 +14,27 @@ use Rattle.unix_path.proofs.lemmas.names.ParentLemmas.{values-whole}
 use Rattle.unix_path.proofs.lemmas.parts.PlaceLemmas.{part_at, part_at-part_at}
 use Rattle.unix_path.proofs.lemmas.rests.RestLemmas.{rest-rest}
 use Rattle.unix_path.proofs.lemmas.parts.PartLemmas.{values-none}
-use Rattle.unix_path_c.specs.Walks.{kind_of, remaining, part_bytes}
-use Rattle.unix_path_c.specs.Steps.{TakenFromFront}
+use Rattle.unix_path_c.specs.Walks.{InOrder, remaining, part_bytes, part_end, part_in, part_value}
+use Rattle.unix_path_c.specs.Walks.{remaining_parts, value_of_kind}
 use Rattle.unix_path_c.specs.declared.walks.Part.{Part}
 use Rattle.unix_path_c.specs.declared.walks.Walk.{Walk}
-use Rattle.unix_path_c.proofs.lemmas.walks.RemainingLemmas.{is_between, kind_of-lt}
+use Rattle.unix_path_c.proofs.lemmas.walks.RemainingLemmas.{is_between}
 use Rattle.unix_path_c.proofs.lemmas.walks.RemainingLemmas.{part_value-is, remaining-in_range}
 use Rattle.unix_path_c.proofs.lemmas.walks.RemainingLemmas.{range-remaining, take-remaining}
 use Rattle.unix_path_c.proofs.lemmas.spans.FirstLemmas.{some_bytes, takes_from_front}
+
+-- `part` is the first component in the rest of the walk `old`, and the components after it are
+-- those in the rest of the walk `new`; the indices of `old`, `part` and `new` are in order
+pub record TakenFromFront (path : List ℕ) (old new : Walk) (part : Part) : Type 0 where
+  pub parts_are : remaining_parts path old ≡ part_in path part ∷ remaining_parts path new
+  pub values_are : values (remaining path old)
+      ≡ part_value path part ∷ values (remaining path new)
+  pub bytes : part_bytes path part ≡ value_bytes (part_value path part)
+  pub kind : part.kind < 4
+  pub remaining_is : remaining path new ≡ rest (remaining path old) 1 0
+  pub non_empty : remaining path old ≡ [] → ⊥
+  pub in_order : InOrder
+      (old.front ∷ part.start ∷ part_end part ∷ new.front ∷ new.back ∷ old.back ∷ length path ∷ [])
 
 -- two components are equal if their indices and their values are equal
 pub same_part : {a b c d : ℕ} {v w : Value} → a ≡ c → b ≡ d → v ≡ w
@@ -34,11 +48,12 @@ same_part {c = c} {d = d} {v = v} start end value =
 -- the step from `old` to `new` removes that component
 pub taken_from_front : (path : List ℕ) (old new : Walk) (part : Part) (v : Value)
     → values (remaining path old) ≡ v ∷ values (rest (remaining path old) 1 0)
-    → part.start ≡ old.front → part.length ≡ length (value_bytes v) → part.kind ≡ kind_of v
+    → part.start ≡ old.front → part.length ≡ length (value_bytes v)
+    → v ≡ value_of_kind part.kind (value_bytes v) → part.kind < 4
     → new.back ≡ old.front + length (rest (remaining path old) 0 0)
     → new.front ≡ new.back - length (rest (remaining path old) 1 0)
     → TakenFromFront path old new part
-taken_from_front path old new part v e start size kind back front =
+taken_from_front path old new part v e start size kind few back front =
     let s = remaining path old in
     let n = length (rest s 0 0) in
     let m = length (rest s 1 0) in
@@ -69,7 +84,7 @@ taken_from_front path old new part v e start size kind back front =
           ∙ ap₂ (λ i u. map (part_at i) (parts u)) moved (sym remaining_is));
       values_are = e ∙ ap₂ (λ v u. v ∷ values u) (sym value) (sym remaining_is);
       bytes = first ∙ ap value_bytes (sym value);
-      kind = omega (arith, kind, kind_of-lt v);
+      kind = few;
       remaining_is = remaining_is;
       non_empty = λ nothing. absurd (omega (arith, non_empty, ap length nothing));
       in_order = (
@@ -133,14 +148,15 @@ front_step_fits path walk old new x whole behind w h all but =
 pub next_gives : (path : List ℕ) (walk : Walk) (old new : Components) (x : Component)
     (whole behind text : List ℕ) (kind : ℕ) → cursor_rest old ≡ rest (remaining path walk) 0 0
     → GivesFirstPart old (Some x) new → whole ≡ cursor_rest old → behind ≡ cursor_rest new
-    → text ≡ value_bytes (value_of x) → kind ≡ kind_of (value_of x)
+    → text ≡ value_bytes (value_of x)
+    → value_of x ≡ value_of_kind kind (value_bytes (value_of x)) → kind < 4
     → TakenFromFront path walk (record {
       front = walk.front + length whole - length behind;
       back = walk.front + length whole;
     }) (record { start = walk.front; length = length text; kind = kind })
-next_gives path walk old new x whole behind text kind w h all but bytes is =
+next_gives path walk old new x whole behind text kind w h all but bytes is few =
     let s = remaining path walk in
     taken_from_front path walk _ _ (value_of x) (values-first s old new x w h) refl
-    (ap length bytes) is (ap (λ u. walk.front + length u) (all ∙ w))
+    (ap length bytes) is few (ap (λ u. walk.front + length u) (all ∙ w))
     (ap (λ u. walk.front + length whole - length u)
     (but ∙ cursor_rest-first s old new (Some x) w h))

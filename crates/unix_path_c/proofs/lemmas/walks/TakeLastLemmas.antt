@@ -1,5 +1,5 @@
 -- The last component in the rest of a walk, and the rest before it.
-use Rattle.std.proofs.Common.{◌≡◌, ℕ, ◌+◌, ◌-◌, ◌≤◌, List, [], ◌∷◌, ◌++◌, length, take, drop}
+use Rattle.std.proofs.Common.{◌≡◌, ℕ, ◌+◌, ◌-◌, ◌≤◌, ◌<◌, List, [], ◌∷◌, ◌++◌, length, take, drop}
 use Rattle.std.proofs.Common.{Option, Some, None, map, refl, sym, ap, ap₂, ◌∙◌, arith}
 use Rattle.std.proofs.Common.{length-append}
 use Rattle.std.proofs.lemmas.List.{map-append}
@@ -13,16 +13,29 @@ use Rattle.unix_path.specs.Cursor.{GivesLastPart}
 use Rattle.unix_path.proofs.lemmas.names.ParentLemmas.{rest-whole_last, values-whole}
 use Rattle.unix_path.proofs.lemmas.parts.PlaceLemmas.{part_at}
 use Rattle.unix_path.proofs.lemmas.parts.PartLemmas.{values-none}
-use Rattle.unix_path_c.specs.Walks.{kind_of, remaining, part_bytes}
-use Rattle.unix_path_c.specs.Steps.{TakenFromBack}
+use Rattle.unix_path_c.specs.Walks.{InOrder, remaining, part_bytes, part_end, part_in, part_value}
+use Rattle.unix_path_c.specs.Walks.{remaining_parts, value_of_kind}
 use Rattle.unix_path_c.specs.declared.walks.Part.{Part}
 use Rattle.unix_path_c.specs.declared.walks.Walk.{Walk}
 use Rattle.unix_path_c.proofs.lemmas.walks.TakeFirstLemmas.{same_part}
-use Rattle.unix_path_c.proofs.lemmas.walks.RemainingLemmas.{is_between, kind_of-lt}
+use Rattle.unix_path_c.proofs.lemmas.walks.RemainingLemmas.{is_between}
 use Rattle.unix_path_c.proofs.lemmas.walks.RemainingLemmas.{part_value-is, remaining-in_range}
 use Rattle.unix_path_c.proofs.lemmas.walks.RemainingLemmas.{range-remaining, take-remaining}
 use Rattle.unix_path_c.proofs.lemmas.spans.FirstLemmas.{some_bytes}
 use Rattle.unix_path_c.proofs.lemmas.spans.LastLemmas.{takes_from_back}
+
+-- `part` is the last component in the rest of the walk `old`, and the components before it are
+-- those in the rest of the walk `new`; the indices of `old`, `new` and `part` are in order
+pub record TakenFromBack (path : List ℕ) (old new : Walk) (part : Part) : Type 0 where
+  pub parts_are : remaining_parts path old ≡ remaining_parts path new ++ part_in path part ∷ []
+  pub values_are : values (remaining path old)
+      ≡ values (remaining path new) ++ part_value path part ∷ []
+  pub bytes : part_bytes path part ≡ value_bytes (part_value path part)
+  pub kind : part.kind < 4
+  pub remaining_is : remaining path new ≡ rest (remaining path old) 0 1
+  pub non_empty : remaining path old ≡ [] → ⊥
+  pub in_order : InOrder
+      (old.front ∷ new.front ∷ new.back ∷ part.start ∷ part_end part ∷ old.back ∷ length path ∷ [])
 
 -- a list with a last component is not empty
 not_none : {us : List Value} (vs : List Value) (v : Value) → us ≡ vs ++ v ∷ []
@@ -35,10 +48,11 @@ not_none vs v e none =
 pub taken_from_back : (path : List ℕ) (old new : Walk) (part : Part) (v : Value)
     → values (remaining path old) ≡ values (rest (remaining path old) 0 1) ++ v ∷ []
     → part.start ≡ old.front + length (rest (remaining path old) 0 0) - part.length
-    → part.length ≡ length (value_bytes v) → part.kind ≡ kind_of v → new.front ≡ old.front
+    → part.length ≡ length (value_bytes v) → v ≡ value_of_kind part.kind (value_bytes v)
+    → part.kind < 4 → new.front ≡ old.front
     → new.back ≡ old.front + length (rest (remaining path old) 0 1)
     → TakenFromBack path old new part
-taken_from_back path old new part v e start size kind front back =
+taken_from_back path old new part v e start size kind few front back =
     let s = remaining path old in
     let n = length (rest s 0 0) in
     let m = length (rest s 0 1) in
@@ -69,7 +83,7 @@ taken_from_back path old new part v e start size kind front back =
           (same_part (omega arith) (omega arith) (sym value));
       values_are = e ∙ ap₂ (λ u v. values u ++ v ∷ []) (sym remaining_is) (sym value);
       bytes = last ∙ ap value_bytes (sym value);
-      kind = omega (arith, kind, kind_of-lt v);
+      kind = few;
       remaining_is = remaining_is;
       non_empty = λ nothing. absurd (omega (arith, non_empty, ap length nothing));
       in_order = (
@@ -131,7 +145,8 @@ back_step_fits path walk old new x whole text w h all bytes =
 pub next_back_gives : (path : List ℕ) (walk : Walk) (old new : Components) (x : Component)
     (whole before text : List ℕ) (kind : ℕ) → cursor_rest old ≡ rest (remaining path walk) 0 0
     → GivesLastPart old (Some x) new → whole ≡ cursor_rest old → before ≡ cursor_rest new
-    → text ≡ value_bytes (value_of x) → kind ≡ kind_of (value_of x)
+    → text ≡ value_bytes (value_of x)
+    → value_of x ≡ value_of_kind kind (value_bytes (value_of x)) → kind < 4
     → TakenFromBack path walk
     (record { front = walk.front; back = walk.front + length before })
     (record {
@@ -139,8 +154,8 @@ pub next_back_gives : (path : List ℕ) (walk : Walk) (old new : Components) (x 
       length = length text;
       kind = kind;
     })
-next_back_gives path walk old new x whole before text kind w h all but bytes is =
+next_back_gives path walk old new x whole before text kind w h all but bytes is few =
     let s = remaining path walk in
     taken_from_back path walk _ _ (value_of x) (values-last s old new x w h)
-    (ap (λ u. walk.front + length u - length text) (all ∙ w)) (ap length bytes) is refl
+    (ap (λ u. walk.front + length u - length text) (all ∙ w)) (ap length bytes) is few refl
     (ap (λ u. walk.front + length u) (but ∙ cursor_rest-last s old new (Some x) w h))

@@ -1,4 +1,4 @@
-use Rattle.std.proofs.Common.{true≢false, ap, length, arith}
+use Rattle.std.proofs.Common.{true≢false, refl, ap, length, arith}
 use Rattle.unix_path.specs.Cursor.{cursor_rest}
 use Rattle.unix_path_c.proofs.lemmas.walks.TakeFirstLemmas.{rest-same}
 use Rattle.unix_path_c.proofs.lemmas.walks.TakeLastLemmas.{BackStepFits, back_step_fits}
@@ -16,10 +16,12 @@ fits c =
     c.in-Some.ensures.steps c.as_path.ensures.bytes c.as_unix_str.ensures
 
 pub returns-in_default-clause-ended : goal.returns-in_default-clause-ended
-returns-in_default-clause-ended c =
-    λ _. nothing_last _ _ _
-    (rest-same c.components-parts.ensures.rest c.rest_of.ensures)
-    c.in_default.ensures.steps
+returns-in_default-clause-ended c = (
+  λ _. nothing_last _ _ _
+      (rest-same c.components-parts.ensures.rest c.rest_of.ensures)
+      c.in_default.ensures.steps,
+  λ _. refl,
+)
 
 pub overflow_add-part : goal.overflow_add-part
 overflow_add-part c =
@@ -39,10 +41,15 @@ returns c =
     let t = next_back_gives c.args.path.now c.args.walk.now _ _ _ _ _ _ _
     (rest-same c.components-parts.ensures.rest c.rest_of.ensures)
     c.in-Some.ensures.steps c.as_path.ensures.bytes c.as_path-2.ensures.bytes
-    c.as_unix_str.ensures c.kind_of.ensures in
+    c.as_unix_str.ensures c.kind_of.ensures.value c.kind_of.ensures.in_range in
     record {
-      ended = λ no. absurd (true≢false no);
+      ended = (λ no. absurd (true≢false no), λ nothing. absurd (t.non_empty nothing));
       walk_unchanged = λ no. absurd (true≢false no);
       part_unchanged = λ no. absurd (true≢false no);
-      taken = λ _. t;
+      parts = λ _. t.parts_are;
+      values = λ _. t.values_are;
+      bytes = λ _. t.bytes;
+      kind = λ _. t.kind;
+      remaining_bytes = λ _. t.remaining_is;
+      in_order = λ _. t.in_order;
     }

@@ -1,7 +1,7 @@
 use Rattle.std.proofs.Common.{◌<◌, true≢false, length, sym, ◌∙◌, arith, subst}
-use Rattle.unix_path_c.specs.Steps.{StartsWithPart}
 use Rattle.unix_path_c.specs.Walks.{remaining}
 use Rattle.unix_path_c.proofs.lemmas.walks.StepLemmas.{takes_first_part, first_fits, has_remaining}
+use Rattle.unix_path_c.proofs.lemmas.walks.StepLemmas.{StartsWithPart}
 use Rattle.unix_path_c.proofs.walks.unix_path_next.Goals as goal
 use Rattle.unix_path_c.proofs.walks.unix_path_next.Goals.{In-Some}
 
@@ -15,7 +15,14 @@ starts_with_part : (c : In-Some)
     c.in-Some.length c.in-Some.step c.in-Some.kind
 starts_with_part c =
     subst (λ s. StartsWithPart s c.in-Some.length c.in-Some.step c.in-Some.kind)
-    c.rest_of.ensures c.in-Some.ensures
+    c.rest_of.ensures (record {
+      ends = c.in-Some.ensures.ends;
+      in_range = c.in-Some.ensures.in_range;
+      parts_are = c.in-Some.ensures.parts;
+      size_is = c.in-Some.ensures.size;
+      kind_is = c.in-Some.ensures.kind;
+      not_filler = c.in-Some.ensures.not_filler;
+    })
 
 pub overflow_add-walk : goal.overflow_add-walk
 overflow_add-walk c =

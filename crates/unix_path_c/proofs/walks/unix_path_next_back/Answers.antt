@@ -1,5 +1,5 @@
 use Rattle.std.proofs.Common.{◌<◌, true≢false, length, sym, ap, ◌∙◌, arith, subst}
-use Rattle.unix_path_c.specs.Steps.{EndsInName}
+use Rattle.unix_path_c.proofs.lemmas.walks.NameLemmas.{EndsInName}
 use Rattle.unix_path_c.specs.Walks.{remaining}
 use Rattle.unix_path_c.proofs.lemmas.walks.StepLemmas.{takes_last_name, last_fits, has_remaining}
 use Rattle.unix_path_c.proofs.walks.unix_path_next_back.Goals as goal
@@ -13,7 +13,13 @@ non_empty c = has_remaining c.rest_of.ensures (sym c.is_empty.ensures ∙ c.if-i
 ends_in_name : (c : In-Some)
     → EndsInName (remaining c.args.path.now c.args.walk.now) c.in-Some.before c.in-Some.start
 ends_in_name c =
-    subst (λ s. EndsInName s c.in-Some.before c.in-Some.start) c.rest_of.ensures c.in-Some.ensures
+    subst (λ s. EndsInName s c.in-Some.before c.in-Some.start) c.rest_of.ensures (record {
+      ends = c.in-Some.ensures.ends;
+      in_range = c.in-Some.ensures.in_range;
+      in_order = c.in-Some.ensures.in_order;
+      values_are = c.in-Some.ensures.values;
+      rest_is = c.in-Some.ensures.rest;
+    })
 
 pub overflow_add-part : goal.overflow_add-part
 overflow_add-part c =

@@ -12,7 +12,11 @@ returns-then-bytes-lt2-clause-spelling c =
 pub returns-clause-spelling : goal.returns-clause-spelling
 returns-clause-spelling c =
     spelling_of-run c.args.bytes.now c.first_gap.result c.if-bytes-lt2.false c.requires
-    c.first_gap.ensures
+    (record {
+      in_range = c.first_gap.ensures.in_range;
+      gap = c.first_gap.ensures.gap;
+      none_before = c.first_gap.ensures.none_before;
+    })
 
 pub returns-then-bytes-lt2-clause-fits : goal.returns-then-bytes-lt2-clause-fits
 returns-then-bytes-lt2-clause-fits c =

@@ -1,6 +1,6 @@
 use Rattle.std.proofs.Common.{length}
 use Rattle.path_keys.proofs.lemmas.spelling.RunReadLemmas.{ReadsRuns}
-use Rattle.path_keys.proofs.decode.text_len.Given as goal
+use Rattle.path_keys.proofs.decode.path_len.Given as goal
 
 abbrev pub invariant-loop-rest : goal.invariant-loop-rest
 invariant-loop-rest l = ReadsRuns l.key l.rest l.len
