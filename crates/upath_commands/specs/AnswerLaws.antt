@@ -7,9 +7,11 @@ use Rattle.path_within.specs.Below.{has_nul}
 use Rattle.path_within.specs.Escapes.{Escapes}
 use Rattle.upath_commands.specs.Answers.{end_of, is_refused}
 use Rattle.upath_commands.specs.Commands.{answer_of, printed_of}
-use Rattle.upath_commands.specs.Invocations.{CommandValue, Relative, Strip, Under}
+use Rattle.upath_commands.specs.Invocations.{TaskValue}
 use Rattle.upath_commands.specs.Records.{records_of}
-use Rattle.upath_commands.specs.Tasks.{TaskValue, messages_of, output_of}
+use Rattle.upath_commands.specs.Tasks.{messages_of, output_of}
+use Rattle.upath_commands.specs.declared.command.Command.{Command}
+use Rattle.upath_commands.specs.declared.command.Command.TheVariants.{Under}
 
 -- `escapes` prints the paths that escape, as the library defines it, and those with a NUL
 abbrev pub EscapesTested : Type 0
@@ -17,23 +19,17 @@ EscapesTested = (p : List ℕ)
     → IsTrue (is_refused p) ↔ (Escapes (values p) ⊎ IsTrue (has_nul p))
 
 -- the command prints no empty answer
-abbrev pub NeverEmpty : CommandValue → Type 0
-NeverEmpty command = (null : Bool) (p : List ℕ) → answer_of command null p ≢ Some []
+abbrev pub NeverEmpty : Command → Type 0
+NeverEmpty command = (task : TaskValue) (p : List ℕ) → answer_of command task p ≢ Some []
 
--- nor do these
-abbrev pub StripsNeverEmpty : Type 0
-StripsNeverEmpty = (base : List ℕ) → NeverEmpty (Strip base)
-
-abbrev pub RelativesNeverEmpty : Type 0
-RelativesNeverEmpty = (dir : List ℕ) → NeverEmpty (Relative dir)
-
+-- nor does `under --strip`
 abbrev pub UnderStripsNeverEmpty : Type 0
-UnderStripsNeverEmpty = (base : List ℕ) (by_components : Bool) → NeverEmpty (Under
-    record { inverted = false; stripped = true; by_components = by_components } base)
+UnderStripsNeverEmpty = (task : TaskValue) (p : List ℕ) → task.options.inverted ≡ false
+    → task.options.stripped ≡ true → answer_of Under task p ≢ Some []
 
 -- what is printed for these paths, one after the other
 abbrev pub printed_for : TaskValue → List (List ℕ) → List (List ℕ)
-printed_for task paths = flat_map (printed_of task.command task.settings) paths
+printed_for task paths = flat_map (printed_of task) paths
 
 -- the bytes don't have this byte
 abbrev pub Lacks : ℕ → List ℕ → Type 0
@@ -43,11 +39,11 @@ Lacks b bytes = list_any (λ c. c == b) bytes ≡ false
 -- byte that ends records, or `-q` or `-p` is given
 abbrev pub OutputReadsBack : Type 0
 OutputReadsBack = (task : TaskValue) (paths : List (List ℕ))
-    → task.settings.quiet ≡ false → task.settings.pair ≡ false
-    → AllByRecursion (Lacks (end_of task.settings)) (printed_for task paths)
-    → records_of (end_of task.settings) (output_of task paths) ≡ printed_for task paths
+    → task.options.quiet ≡ false → task.options.pair ≡ false
+    → AllByRecursion (Lacks (end_of task.options)) (printed_for task paths)
+    → records_of (end_of task.options) (output_of task paths) ≡ printed_for task paths
 
 -- with `-q` nothing is printed, neither answers nor messages
 abbrev pub QuietPrintsNothing : Type 0
-QuietPrintsNothing = (task : TaskValue) (paths : List (List ℕ)) → task.settings.quiet ≡ true
+QuietPrintsNothing = (task : TaskValue) (paths : List (List ℕ)) → task.options.quiet ≡ true
     → (output_of task paths ≡ []) × (messages_of task paths ≡ [])

@@ -17,32 +17,30 @@ use Rattle.path_within.specs.Escapes.{has_root_or_parent_dir}
 use Rattle.path_within.specs.RelativePaths.{relative_path_of}
 use Rattle.path_within.specs.Resolved.{resolved_bytes_of, resolved_of}
 use Rattle.upath_commands.specs.Escaping.{escapes}
-use Rattle.upath_commands.specs.Invocations.{SettingsValue}
 use Rattle.upath_commands.specs.Sorting.{same_path}
-use Rattle.upath_commands.specs.declared.command.EscapesOptions.{EscapesOptions}
 use Rattle.upath_commands.specs.declared.command.JoinRule.{JoinRule}
 use Rattle.upath_commands.specs.declared.command.JoinRule.TheVariants.{Trusted, Beneath, InRoot}
 use Rattle.upath_commands.specs.declared.command.JoinRule.TheVariants.{Verbatim}
-use Rattle.upath_commands.specs.declared.command.UnderOptions.{UnderOptions}
+use Rattle.upath_commands.specs.declared.command.Options.{Options}
 
 -- the byte that ends a record
-abbrev pub end_of : SettingsValue → ℕ
-end_of settings = if settings.null then 0 else byte "\n"
+abbrev pub end_of : Options → ℕ
+end_of options = if options.null then 0 else byte "\n"
 
 -- the byte between a path and its answer
-abbrev pub separator_of : SettingsValue → ℕ
-separator_of settings = if settings.null then 0 else byte "\t"
+abbrev pub separator_of : Options → ℕ
+separator_of options = if options.null then 0 else byte "\t"
 
 -- an answer to p as a record
-abbrev pub record_of : SettingsValue → List ℕ → List ℕ → List ℕ
-record_of settings p answer =
-    if settings.pair then p ++ separator_of settings ∷ (answer ++ end_of settings ∷ [])
-    else answer ++ end_of settings ∷ []
+abbrev pub record_of : Options → List ℕ → List ℕ → List ℕ
+record_of options p answer =
+    if options.pair then p ++ separator_of options ∷ (answer ++ end_of options ∷ [])
+    else answer ++ end_of options ∷ []
 
 -- what is written for p, if these are the answers to it
-abbrev pub record_output : SettingsValue → List ℕ → List (List ℕ) → List ℕ
-record_output settings p answers =
-    if settings.quiet then [] else flat_map (record_of settings p) answers
+abbrev pub record_output : Options → List ℕ → List (List ℕ) → List ℕ
+record_output options p answers =
+    if options.quiet then [] else flat_map (record_of options p) answers
 
 -- the result is this answer, if there is one
 abbrev pub Finds : {E : Type 0} → Result (Option CowPath) E → Option (List ℕ) → Type 0
@@ -94,13 +92,13 @@ rest_below base p =
     else None
 
 -- what follows the base in p, by components or with both resolved; none if p isn't below the base
-abbrev pub rest_under : UnderOptions → List ℕ → List ℕ → Option (List ℕ)
+abbrev pub rest_under : Options → List ℕ → List ℕ → Option (List ℕ)
 rest_under options base p =
     if options.by_components then rest_after base p
     else rest_below (resolved_bytes_of base) (resolved_bytes_of p)
 
 -- what `under` prints for p, if this is what follows the base in it
-abbrev pub under_answer : UnderOptions → List ℕ → Option (List ℕ) → Option (List ℕ)
+abbrev pub under_answer : Options → List ℕ → Option (List ℕ) → Option (List ℕ)
 under_answer options p None = if options.inverted then Some p else None
 under_answer options p (Some rest) =
     if options.inverted then None else Some (if options.stripped then dot_if_empty rest else p)
@@ -120,12 +118,12 @@ escape_reason p =
     else (if escapes p then codes "escapes" else codes "nul")
 
 -- what `escapes` prints for p, if it prints p: the reason comes first if it is asked for
-abbrev pub escaping_text : EscapesOptions → List ℕ → List ℕ
+abbrev pub escaping_text : Options → List ℕ → List ℕ
 escaping_text options p =
     if options.with_reason && is_refused p then escape_reason p ++ byte "\t" ∷ p else p
 
 -- what `escapes` prints for p, if anything
-abbrev pub escaping_of : EscapesOptions → List ℕ → Option (List ℕ)
+abbrev pub escaping_of : Options → List ℕ → Option (List ℕ)
 escaping_of options p =
     if (if options.inverted then is_refused p else not (is_refused p)) then None
     else Some (escaping_text options p)

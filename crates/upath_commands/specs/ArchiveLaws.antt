@@ -4,9 +4,9 @@ use Rattle.path_archive.specs.Entries.{EntryValue}
 use Rattle.path_archive.specs.Extractions.{Extracts}
 use Rattle.path_archive.specs.FileSystems.{Place, FileSystem, IsEmpty, SameOutside}
 use Rattle.upath_commands.specs.Archives.{IsInput}
-use Rattle.upath_commands.specs.Invocations.{Archive, SettingsValue}
+use Rattle.upath_commands.specs.Invocations.{Archive}
 use Rattle.upath_commands.specs.Runs.{IsStatus}
-use Rattle.upath_commands.specs.declared.command.ArchiveOptions.{ArchiveOptions}
+use Rattle.upath_commands.specs.declared.command.Options.{Options}
 
 -- whatever an extractor does for these entries below an empty directory, nothing outside changes; a
 -- careless one needs `closed`
@@ -18,7 +18,6 @@ StaysInside closed entries =
 -- if the status of `archive` is 0, this is so of the entries that the input is of
 abbrev pub SafeStaysInside : Type 0
 SafeStaysInside =
-    (options : ArchiveOptions) (settings : SettingsValue) (input : List ℕ)
-    → IsStatus (Ok (Archive options settings)) input 0
+    (options : Options) (input : List ℕ) → IsStatus (Ok (Archive options)) input 0
     → (entries : List EntryValue) × IsInput options.tar_list input entries
     × StaysInside options.closed entries

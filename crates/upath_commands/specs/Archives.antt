@@ -20,14 +20,13 @@ use Rattle.path_archive.specs.declared.refusal.Refusal.{Refusal}
 use Rattle.tar_listing.specs.Form.{IsListing, IsRefusedAt}
 use Rattle.upath_commands.specs.Answers.{end_of}
 use Rattle.upath_commands.specs.Arguments.{has_newline}
-use Rattle.upath_commands.specs.Invocations.{SettingsValue}
 use Rattle.upath_commands.specs.Refusals.{reason_line}
 use Rattle.upath_commands.specs.Shown.{shown}
 use Rattle.upath_commands.specs.declared.archive.Decision.{Decision}
-use Rattle.upath_commands.specs.declared.command.ArchiveOptions.{ArchiveOptions}
+use Rattle.upath_commands.specs.declared.command.Options.{Options}
 
 -- the level that the options ask for
-abbrev pub level_of : ArchiveOptions → Level
+abbrev pub level_of : Options → Level
 level_of options = if options.closed then Closed else Inside
 
 -- the entry with the number n
@@ -48,14 +47,14 @@ reason_name TargetIsLink = codes "target"
 reason_name LeadsOut = codes "out"
 
 -- a path as it is printed: one with a newline as messages show it, if newlines end the records
-abbrev pub printed_path : SettingsValue → List ℕ → List ℕ
-printed_path settings p = if has_newline p && not settings.null then shown p else p
+abbrev pub printed_path : Options → List ℕ → List ℕ
+printed_path options p = if has_newline p && not options.null then shown p else p
 
 -- the record for a refusal
-abbrev pub refusal_record : ArchiveOptions → SettingsValue → List EntryValue → Refusal → List ℕ
-refusal_record options settings entries r =
+abbrev pub refusal_record : Options → List EntryValue → Refusal → List ℕ
+refusal_record options entries r =
     let reason = if options.with_reason then reason_name r.reason ++ byte "\t" ∷ [] else [] in
-    reason ++ (printed_path settings (path_of (entry_in entries r.entry)) ++ end_of settings ∷ [])
+    reason ++ (printed_path options (path_of (entry_in entries r.entry)) ++ end_of options ∷ [])
 
 -- the target of a hard link, which may be what is refused; nothing for other entries
 abbrev pub or_target : EntryValue → List ℕ
@@ -119,22 +118,22 @@ IsNoInput true input line = (n : ℕ) × IsRefusedAt input n × (line ≡ refuse
 IsNoInput false input line = (entries_in input ≡ None) × (line ≡ cut_line input)
 
 -- there are entries, and all are accepted
-abbrev pub AreSafe : ArchiveOptions → List EntryValue → Type 0
+abbrev pub AreSafe : Options → List EntryValue → Type 0
 AreSafe options entries = (entries ≢ []) × AcceptedAt (level_of options) entries
 
 -- so are the entries of the input
-abbrev pub IsSafeIn : Bool → ArchiveOptions → List ℕ → Type 0
+abbrev pub IsSafeIn : Bool → Options → List ℕ → Type 0
 IsSafeIn listing options input =
     (entries : List EntryValue) × IsInput listing input entries × AreSafe options entries
 
-abbrev pub IsSafe : ArchiveOptions → List ℕ → Type 0
+abbrev pub IsSafe : Options → List ℕ → Type 0
 IsSafe options input = IsSafeIn options.tar_list options input
 
 -- what is written for these refusals of entries
-abbrev pub entries_output : ArchiveOptions → SettingsValue → List EntryValue → List Refusal
+abbrev pub entries_output : Options → List EntryValue → List Refusal
     → List ℕ
-entries_output options settings entries refusals =
-    if settings.quiet then [] else flat_map (refusal_record options settings entries) refusals
+entries_output options entries refusals =
+    if options.quiet then [] else flat_map (refusal_record options entries) refusals
 
 -- the messages for these refusals of entries, unless `quiet`
 abbrev pub refusal_lines : List EntryValue → List Refusal → List ℕ
@@ -142,30 +141,30 @@ refusal_lines [] refusals = codes "upath: no entries\n"
 refusal_lines (e ∷ entries) refusals = flat_map (refusal_message (e ∷ entries)) refusals
 
 -- the messages for these refusals of entries
-abbrev pub entries_messages : SettingsValue → List EntryValue → List Refusal → List ℕ
-entries_messages settings entries refusals =
-    if settings.quiet then [] else refusal_lines entries refusals
+abbrev pub entries_messages : Options → List EntryValue → List Refusal → List ℕ
+entries_messages options entries refusals =
+    if options.quiet then [] else refusal_lines entries refusals
 
 -- P holds of what is written for these entries and of the messages, by refusals that decide them
-abbrev pub OnEntries : ArchiveOptions → SettingsValue → List EntryValue
+abbrev pub OnEntries : Options → List EntryValue
     → (List ℕ → List ℕ → Type 0) → Type 0
-OnEntries options settings entries P =
+OnEntries options entries P =
     (refusals : List Refusal) × Decides (level_of options) (numbered_from 0 entries) refusals
-    × P (entries_output options settings entries refusals)
-    (entries_messages settings entries refusals)
+    × P (entries_output options entries refusals)
+    (entries_messages options entries refusals)
 
 -- P holds of what is written for an input, which is a listing or records, and of the messages
-abbrev pub OnInput : Bool → ArchiveOptions → SettingsValue → List ℕ
+abbrev pub OnInput : Bool → Options → List ℕ
     → (List ℕ → List ℕ → Type 0) → Type 0
-OnInput listing options settings input P =
-    ((line : List ℕ) × IsNoInput listing input line × P [] (if settings.quiet then [] else line))
+OnInput listing options input P =
+    ((line : List ℕ) × IsNoInput listing input line × P [] (if options.quiet then [] else line))
     ⊎ ((entries : List EntryValue) × IsInput listing input entries
-    × OnEntries options settings entries P)
+    × OnEntries options entries P)
 
 -- the same of what `archive` writes
-unfoldable pub OnArchive : ArchiveOptions → SettingsValue → List ℕ → (List ℕ → List ℕ → Type 0)
+unfoldable pub OnArchive : Options → List ℕ → (List ℕ → List ℕ → Type 0)
     → Type 0
-OnArchive options settings input P = OnInput options.tar_list options settings input P
+OnArchive options input P = OnInput options.tar_list options input P
 
 -- this is the output and these are the messages
 abbrev pub IsText : Decision → List ℕ → List ℕ → Type 0

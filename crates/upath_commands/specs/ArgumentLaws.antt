@@ -6,18 +6,20 @@ use Rattle.std.specs.Prelude.{◌++◌, codes, length, Result, Ok, Err, None, So
 use Rattle.std.specs.List.{All, list_all, starts_with}
 use Rattle.std.specs.Option.{is_none, is_some}
 use Rattle.std.specs.Str.{byte, bytes_eq}
-use Rattle.upath_commands.specs.declared.command.JoinRule.TheVariants.{Beneath}
+use Rattle.upath_commands.specs.declared.command.Command.{Command}
+use Rattle.upath_commands.specs.declared.command.Command.TheVariants.{Canon, Join}
+use Rattle.upath_commands.specs.declared.command.JoinRule.{JoinRule}
+use Rattle.upath_commands.specs.declared.command.JoinRule.TheVariants.{Trusted, Beneath}
+use Rattle.upath_commands.specs.declared.command.Options.{Options}
 use Rattle.upath_commands.specs.declared.usage.UsageErrorKind.{UsageErrorKind}
 use Rattle.upath_commands.specs.declared.usage.UsageErrorKind.TheVariants.{UnknownCommand}
 use Rattle.upath_commands.specs.declared.usage.UsageErrorKind.TheVariants.{UnknownLetter}
 use Rattle.upath_commands.specs.declared.options.Flag.{Flag}
-use Rattle.upath_commands.specs.declared.options.Verb.{Verb}
 use Rattle.upath_commands.specs.Arguments.{first_word, meaning_of}
-use Rattle.upath_commands.specs.Invocations.{Canon, Each, Help, InvocationValue, Join, Meaning}
-use Rattle.upath_commands.specs.Invocations.{SettingsValue}
+use Rattle.upath_commands.specs.Invocations.{Each, Help, InvocationValue, Meaning, TaskValue}
 use Rattle.upath_commands.specs.Items.{value_awaited}
-use Rattle.upath_commands.specs.Options.{has_option, option_by_letter, request_by_word}
-use Rattle.upath_commands.specs.Options.{verb_by_name}
+use Rattle.upath_commands.specs.Options.{command_by_name, has_option, option_by_letter}
+use Rattle.upath_commands.specs.Options.{request_by_word}
 
 -- the argument doesn't begin with a dash
 abbrev pub is_plain : List ℕ → Bool
@@ -34,32 +36,51 @@ is_option argument =
     && not (bytes_eq argument (codes "--")) && is_none (value_awaited argument)
     && is_none (request_by_word argument)
 
--- settings with `null` only
-abbrev pub null_only : SettingsValue
-null_only = record { null = true; pair = false; quiet = false; or = None }
+-- the options that `-z` and a rule of `join` give
+abbrev pub null_options : JoinRule → Options
+null_options rule = record {
+  null = true;
+  pair = false;
+  quiet = false;
+  from_back = false;
+  rule = rule;
+  inverted = false;
+  with_reason = false;
+  tar_list = false;
+  closed = false;
+  stripped = false;
+  by_components = false;
+  unique = false;
+  reversed = false;
+}
+
+-- a command with these options, for ROOT or BASE
+abbrev pub null_task : Command → JoinRule → List ℕ → TaskValue
+null_task command rule base =
+    record { command = command; options = null_options rule; or = None; base = base }
 
 -- after `-z` and `--`, exactly the arguments are paths, whatever their bytes are
 abbrev pub PathsAfterDashes : Type 0
 PathsAfterDashes = (paths : List (List ℕ))
     → meaning_of (codes "canon" ∷ codes "-z" ∷ codes "--" ∷ paths)
-    ≡ Ok (Each Canon null_only (Some paths))
+    ≡ Ok (Each (null_task Canon Trusted []) (Some paths))
 
 -- so are those after ROOT and `--`
 abbrev pub PathsAfterRoot : Type 0
 PathsAfterRoot = (root : List ℕ) (paths : List (List ℕ)) → IsTrue (is_plain root)
     → meaning_of (codes "join" ∷ codes "-z" ∷ codes "--beneath" ∷ root ∷ codes "--" ∷ paths)
-    ≡ Ok (Each (Join Beneath root) null_only (Some paths))
+    ≡ Ok (Each (null_task Join Beneath root) (Some paths))
 
 -- `--help` as the first argument asks for help on the command that the next argument names,
 -- whatever follows
 abbrev pub HelpFirst : Type 0
-HelpFirst = (name : List ℕ) (after : List (List ℕ)) → IsTrue (is_some (verb_by_name name))
+HelpFirst = (name : List ℕ) (after : List (List ℕ)) → IsTrue (is_some (command_by_name name))
     → meaning_of (codes "--help" ∷ name ∷ after) ≡ Ok (Help name)
 
 -- before another word it is wrong usage
 abbrev pub HelpUnknown : Type 0
 HelpUnknown = (word : List ℕ) (after : List (List ℕ)) → IsTrue (is_plain word)
-    → verb_by_name word ≡ None
+    → command_by_name word ≡ None
     → meaning_of (codes "--help" ∷ word ∷ after) ≡ Err (UnknownCommand, word)
 
 -- alone it asks for help in general
@@ -70,7 +91,7 @@ HelpAlone = meaning_of (codes "--help" ∷ []) ≡ Ok (Help [])
 -- whatever follows
 abbrev pub HelpAfterCommand : Type 0
 HelpAfterCommand = (before : List (List ℕ)) (name : List ℕ) (after : List (List ℕ))
-    → IsTrue (list_all is_option before) → IsTrue (is_some (verb_by_name name))
+    → IsTrue (list_all is_option before) → IsTrue (is_some (command_by_name name))
     → meaning_of (before ++ name ∷ codes "--help" ∷ after) ≡ Ok (Help name)
 
 -- a short option but `-h` means the same before and after arguments without dashes, the first of
@@ -120,16 +141,16 @@ UnknownOptionFirst = (letter : ℕ) (word : List ℕ) (before after : List (List
 abbrev pub UnknownCommandSecond : Type 0
 UnknownCommandSecond = (letter : ℕ) (flag : Flag) (word : List ℕ) (before after : List (List ℕ))
     → IsTrue (list_all is_plain (word ∷ before)) → IsTrue (list_all is_plain after)
-    → word ≢ codes "help" → verb_by_name word ≡ None → option_by_letter letter ≡ Some flag
+    → word ≢ codes "help" → command_by_name word ≡ None → option_by_letter letter ≡ Some flag
     → meaning_of (word ∷ before ++ short (letter ∷ []) ∷ after) ≡ Err (UnknownCommand, word)
 
 -- if the first word is a command, it is the letter, if that is no option of this command
 abbrev pub ForeignOptionThird : Type 0
-ForeignOptionThird = (letter : ℕ) (flag : Flag) (name : List ℕ) (verb : Verb)
+ForeignOptionThird = (letter : ℕ) (flag : Flag) (name : List ℕ) (command : Command)
     (before after : List (List ℕ))
     → IsTrue (list_all is_plain before) → IsTrue (list_all is_plain after)
-    → verb_by_name name ≡ Some verb → option_by_letter letter ≡ Some flag
-    → has_option verb flag ≡ false
+    → command_by_name name ≡ Some command → option_by_letter letter ≡ Some flag
+    → has_option command flag ≡ false
     → meaning_of (name ∷ before ++ short (letter ∷ []) ∷ after) ≡ Err (UnknownLetter, letter ∷ [])
 
 -- a value means the same as the next argument and after a `=`

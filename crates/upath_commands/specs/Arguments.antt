@@ -6,26 +6,23 @@ use Rattle.std.specs.Option.{is_some, option_or, option_to_list}
 use Rattle.std.specs.List.{before_first, filter_map, filter, find, last_or, list_any, position}
 use Rattle.std.specs.List.{starts_with}
 use Rattle.std.specs.Str.{byte, bytes_eq}
-use Rattle.upath_commands.specs.declared.command.ArchiveOptions.{ArchiveOptions}
+use Rattle.upath_commands.specs.declared.command.Command.{Command}
+use Rattle.upath_commands.specs.declared.command.Command.TheVariants as command
 use Rattle.upath_commands.specs.declared.command.JoinRule.{JoinRule}
 use Rattle.upath_commands.specs.declared.command.JoinRule.TheVariants as rule
-use Rattle.upath_commands.specs.declared.command.EscapesOptions.{EscapesOptions}
-use Rattle.upath_commands.specs.declared.command.SortOptions.{SortOptions}
-use Rattle.upath_commands.specs.declared.command.UnderOptions.{UnderOptions}
+use Rattle.upath_commands.specs.declared.command.Options.{Options}
 use Rattle.upath_commands.specs.declared.items.ItemKind.TheVariants.{Operand, Value, Wrong, Dashes}
 use Rattle.upath_commands.specs.declared.items.ItemKind.TheVariants as kind
 use Rattle.upath_commands.specs.declared.options.Flag.{Flag}
 use Rattle.upath_commands.specs.declared.options.Flag.TheVariants as option
 use Rattle.upath_commands.specs.declared.options.Request.{Request}
 use Rattle.upath_commands.specs.declared.options.Request.TheVariants as request
-use Rattle.upath_commands.specs.declared.options.Verb.{Verb}
-use Rattle.upath_commands.specs.declared.options.Verb.TheVariants as verb
+use Rattle.upath_commands.specs.declared.usage.UsageErrorKind.{UsageErrorKind}
 use Rattle.upath_commands.specs.declared.usage.UsageErrorKind.TheVariants as wrong
-use Rattle.upath_commands.specs.Invocations.{CommandValue, InvocationValue, Meaning}
-use Rattle.upath_commands.specs.Invocations.{SettingsValue, UsageValue}
+use Rattle.upath_commands.specs.Invocations.{InvocationValue, Meaning, TaskValue, UsageValue}
 use Rattle.upath_commands.specs.Invocations as value
 use Rattle.upath_commands.specs.Items.{ItemValue, items_after}
-use Rattle.upath_commands.specs.Options.{has_option, request_by_word, same_option, verb_by_name}
+use Rattle.upath_commands.specs.Options.{command_by_name, has_option, request_by_word, same_option}
 
 -- the first result of `f` for these items
 abbrev pub first_of : {A : Type 0} → (ItemValue → Option A) → List ItemValue → Option A
@@ -53,10 +50,10 @@ unknown_option bytes =
     (if length bytes == 1 then wrong.UnknownLetter else wrong.UnknownOption, bytes)
 
 -- the wrong usage that an item is if the command doesn't have this option
-abbrev pub foreign_option : Verb → ItemValue → Option UsageValue
-foreign_option verb (kind.Option flag, bytes) =
-    if has_option verb flag then None else Some (unknown_option bytes)
-foreign_option verb _ = None
+abbrev pub foreign_option : Command → ItemValue → Option UsageValue
+foreign_option command (kind.Option flag, bytes) =
+    if has_option command flag then None else Some (unknown_option bytes)
+foreign_option command _ = None
 
 -- the bytes of an operand
 abbrev pub operand_of : ItemValue → Option (List ℕ)
@@ -86,47 +83,6 @@ value_of flag _ = None
 abbrev pub last_value : List ItemValue → Flag → Option (List ℕ)
 last_value items flag = last_or None (filter_map (value_of flag) items)
 
--- the options that every command has
-abbrev pub settings_of : List ItemValue → SettingsValue
-settings_of items = record {
-  null = has items option.Null;
-  pair = has items option.Pair;
-  quiet = has items option.Quiet;
-  or = last_value items option.Or;
-}
-
--- the options of `escapes`
-abbrev pub escapes_options : List ItemValue → EscapesOptions
-escapes_options items =
-    record { inverted = has items option.Inverted; with_reason = has items option.Reason }
-
--- the options of `archive`
-abbrev pub archive_options : List ItemValue → ArchiveOptions
-archive_options items = record {
-  tar_list = has items option.TarList;
-  closed = has items option.Closed;
-  with_reason = has items option.Reason;
-}
-
--- the options of `under`
-abbrev pub under_options : List ItemValue → UnderOptions
-under_options items = record {
-  inverted = has items option.Inverted;
-  stripped = has items option.Strip;
-  by_components = has items option.ByComponents;
-}
-
--- the options of `sort`
-abbrev pub sort_options : List ItemValue → SortOptions
-sort_options items =
-    record { unique = has items option.Unique; reversed = has items option.Reversed }
-
--- the command that `sort` is with these options
-abbrev pub sort_command : List ItemValue → CommandValue
-sort_command items =
-    if has items option.Check then value.Check (sort_options items)
-    else value.Sort (sort_options items)
-
 -- the options of `join`, each with its rule
 abbrev pub join_rules : List (Flag × JoinRule)
 join_rules =
@@ -143,6 +99,33 @@ only_rule _ = None
 -- the rule of a join; two of its options exclude one another
 abbrev pub join_rule : List ItemValue → Option JoinRule
 join_rule items = only_rule (filter (λ row. has items row.0) join_rules)
+
+-- the options
+abbrev pub options_of : List ItemValue → Options
+options_of items = record {
+  null = has items option.Null;
+  pair = has items option.Pair;
+  quiet = has items option.Quiet;
+  from_back = has items option.FromBack;
+  rule = unwrap_or (join_rule items) rule.Trusted;
+  inverted = has items option.Inverted;
+  with_reason = has items option.Reason;
+  tar_list = has items option.TarList;
+  closed = has items option.Closed;
+  stripped = has items option.Strip;
+  by_components = has items option.ByComponents;
+  unique = has items option.Unique;
+  reversed = has items option.Reversed;
+}
+
+-- a command with its options and with its ROOT, BASE or DIR
+abbrev pub task_of : Command → List ℕ → List ItemValue → TaskValue
+task_of command base items = record {
+  command = command;
+  options = options_of items;
+  or = last_value items option.Or;
+  base = base;
+}
 
 -- the bytes have a newline
 abbrev pub has_newline : List ℕ → Bool
@@ -168,83 +151,70 @@ pub record Words : Type 0 where
 
 -- the meaning of a command for these paths, before which come `own` operands: its name, and ROOT or
 -- BASE. A `--` after those begins the paths, so that none of them is before it, and none is read.
-abbrev pub each : CommandValue → Words → ℕ → List (List ℕ) → Meaning
-each command words own [] =
-    Ok (value.Each command (settings_of words.items)
+abbrev pub each : Command → List ℕ → Words → ℕ → List (List ℕ) → Meaning
+each command base words own [] =
+    Ok (value.Each (task_of command base words.items)
     (if nat_le own words.dashes then Some [] else None))
-each command words own (path ∷ paths) =
+each command base words own (path ∷ paths) =
     if nat_lt own words.dashes then Err (wrong.BeforeDashes, path)
-    else Ok (value.Each command (settings_of words.items) (Some (path ∷ paths)))
+    else Ok (value.Each (task_of command base words.items) (Some (path ∷ paths)))
 
--- the meaning of a command whose first operand is its own
-abbrev pub each_after : (List ℕ → CommandValue) → UsageValue → Words → List (List ℕ) → Meaning
-each_after command fault words [] = Err fault
-each_after command fault words (operand ∷ paths) = each (command operand) words 2 paths
+-- the meaning of a command whose first operand is its ROOT or BASE
+abbrev pub each_after : Command → UsageErrorKind → Words → List (List ℕ) → Meaning
+each_after command missing words [] = Err (missing, words.name)
+each_after command missing words (base ∷ paths) = each command base words 2 paths
 
 -- the meaning of `equal` with these operands
 abbrev pub equal_meaning : Words → List (List ℕ) → Meaning
-equal_meaning words (a ∷ b ∷ []) = Ok (value.Equal (settings_of words.items) a b)
+equal_meaning words (a ∷ b ∷ []) = Ok (value.Equal (options_of words.items) a b)
 equal_meaning words (a ∷ b ∷ c ∷ operands) = Err (wrong.UnexpectedOperand, c)
 equal_meaning words _ = Err (wrong.MissingPair, words.name)
 
 -- the meaning of `archive`, which takes no operand, and reads the input also after `--`
 abbrev pub archive_meaning : Words → List (List ℕ) → Meaning
-archive_meaning words [] =
-    Ok (value.Archive (archive_options words.items) (settings_of words.items))
+archive_meaning words [] = Ok (value.Archive (options_of words.items))
 archive_meaning words (operand ∷ operands) = Err (wrong.UnexpectedOperand, operand)
 
 -- the meaning of `join` with this rule
 abbrev pub join_meaning : Option JoinRule → Words → List (List ℕ) → Meaning
 join_meaning (Some rule) words operands =
-    each_after (value.Join rule) (wrong.MissingRoot, words.name) words operands
+    each_after command.Join wrong.MissingRoot words operands
 join_meaning None words operands = Err (wrong.ContradictoryOptions, words.name)
 
 -- the meaning of `relative` with this directory
 abbrev pub relative_meaning : Option (List ℕ) → Words → List (List ℕ) → Meaning
-relative_meaning (Some dir) words operands = each (value.Relative dir) words 1 operands
+relative_meaning (Some dir) words operands = each command.Relative dir words 1 operands
 relative_meaning None words operands = Err (wrong.MissingFrom, words.name)
 
 -- the meaning of a command with these operands after its name
-abbrev pub meaning_of_verb : Verb → Words → List (List ℕ) → Meaning
-meaning_of_verb verb.Canon words operands = each value.Canon words 1 operands
-meaning_of_verb verb.Resolve words operands = each value.Resolve words 1 operands
-meaning_of_verb verb.Parent words operands = each value.Parent words 1 operands
-meaning_of_verb verb.Ancestors words operands = each value.Ancestors words 1 operands
-meaning_of_verb verb.Name words operands = each value.Name words 1 operands
-meaning_of_verb verb.Stem words operands = each value.Stem words 1 operands
-meaning_of_verb verb.Extension words operands = each value.Extension words 1 operands
-meaning_of_verb verb.Parts words operands =
-    let from_back = has words.items option.FromBack in
-    each (if from_back then value.PartsFromBack else value.Parts) words 1 operands
-meaning_of_verb verb.Join words operands = join_meaning (join_rule words.items) words operands
-meaning_of_verb verb.Strip words operands =
-    each_after value.Strip (wrong.MissingBase, words.name) words operands
-meaning_of_verb verb.Relative words operands =
+abbrev pub meaning_of_command : Command → Words → List (List ℕ) → Meaning
+meaning_of_command command.Join words operands =
+    join_meaning (join_rule words.items) words operands
+meaning_of_command command.Strip words operands =
+    each_after command.Strip wrong.MissingBase words operands
+meaning_of_command command.Under words operands =
+    each_after command.Under wrong.MissingBase words operands
+meaning_of_command command.Relative words operands =
     relative_meaning (last_value words.items option.From) words operands
-meaning_of_verb verb.Key words operands = each value.Key words 1 operands
-meaning_of_verb verb.Unkey words operands = each value.Unkey words 1 operands
-meaning_of_verb verb.Escapes words operands =
-    each (value.Escapes (escapes_options words.items)) words 1 operands
-meaning_of_verb verb.Archive words operands = archive_meaning words operands
-meaning_of_verb verb.Under words operands =
-    each_after (value.Under (under_options words.items)) (wrong.MissingBase, words.name) words
+meaning_of_command command.Archive words operands = archive_meaning words operands
+meaning_of_command command.Equal words operands = equal_meaning words operands
+meaning_of_command command.Sort words operands =
+    each (if has words.items option.Check then command.Check else command.Sort) [] words 1
     operands
-meaning_of_verb verb.Sort words operands = each (sort_command words.items) words 1 operands
-meaning_of_verb verb.Uniq words operands = each value.Uniq words 1 operands
-meaning_of_verb verb.Equal words operands = equal_meaning words operands
+meaning_of_command command words operands = each command [] words 1 operands
 
 -- the meaning of the command that was found under its name
-abbrev pub found_meaning : Option Verb → Words → List (List ℕ) → Meaning
+abbrev pub found_meaning : Option Command → Words → List (List ℕ) → Meaning
 found_meaning None words operands = Err (wrong.UnknownCommand, words.name)
-found_meaning (Some verb) words operands =
-    refuse (first_of (foreign_option verb) words.items)
-    (refuse (newline_fault words.items operands) (meaning_of_verb verb words operands))
+found_meaning (Some command) words operands =
+    refuse (first_of (foreign_option command) words.items)
+    (refuse (newline_fault words.items operands) (meaning_of_command command words operands))
 
 -- the meaning of operands, the first of which is the command
 abbrev pub command_meaning : List ItemValue → List (List ℕ) → Meaning
 command_meaning items [] = Err (wrong.MissingCommand, [])
 command_meaning items (name ∷ operands) =
-    found_meaning (verb_by_name name)
+    found_meaning (command_by_name name)
     record { name = name; items = items; dashes = dashes_at items } operands
 
 -- what is asked for with this name of a command
@@ -253,14 +223,14 @@ requested request.Help name = value.Help name
 requested request.Version name = value.Version
 
 -- what is asked for just after this name, which is wrong usage if no command has it
-abbrev pub asked_of : Request → List ℕ → Option Verb → Meaning
-asked_of asked name (Some verb) = Ok (requested asked name)
+abbrev pub asked_of : Request → List ℕ → Option Command → Meaning
+asked_of asked name (Some command) = Ok (requested asked name)
 asked_of asked name None = Err (wrong.UnknownCommand, name)
 
 -- what is asked for just after the operand with these bytes
 abbrev pub request_after : List ℕ → List ItemValue → Option Meaning
 request_after name ((kind.Request asked, bytes) ∷ items) =
-    Some (asked_of asked name (verb_by_name name))
+    Some (asked_of asked name (command_by_name name))
 request_after name items = None
 
 -- what is asked for just after the first operand
@@ -282,7 +252,7 @@ first_word (word ∷ words) = word
 -- that begins with a dash
 abbrev pub asked_with : Request → List (List ℕ) → Meaning
 asked_with request.Help (word ∷ words) =
-    if not (starts_with ◌==◌ word (codes "-")) then asked_of request.Help word (verb_by_name word)
+    if not (starts_with ◌==◌ word (codes "-")) then asked_of request.Help word (command_by_name word)
     else Ok (value.Help word)
 asked_with asked words = Ok (requested asked (first_word words))
 

@@ -5,9 +5,12 @@ use Rattle.std.specs.Str.{byte}
 use Rattle.unix_path.specs.Parts.{is_rooted, values}
 use Rattle.path_within.specs.Escapes.{has_root_or_parent_dir}
 use Rattle.upath_commands.specs.Escaping.{escapes}
-use Rattle.upath_commands.specs.Invocations.{CommandValue, SettingsValue, Parent, Name, Stem}
-use Rattle.upath_commands.specs.Invocations.{Extension, Join, Strip, Relative, Unkey, Check}
+use Rattle.upath_commands.specs.Invocations.{TaskValue}
 use Rattle.upath_commands.specs.KeyTexts.{unkeyed_path}
+use Rattle.upath_commands.specs.declared.command.Command.{Command}
+use Rattle.upath_commands.specs.declared.command.Command.TheVariants.{Parent, Name, Stem}
+use Rattle.upath_commands.specs.declared.command.Command.TheVariants.{Extension, Join, Strip}
+use Rattle.upath_commands.specs.declared.command.Command.TheVariants.{Relative, Unkey, Check}
 use Rattle.upath_commands.specs.declared.command.JoinRule.{JoinRule}
 use Rattle.upath_commands.specs.declared.command.JoinRule.TheVariants.{Beneath, Verbatim}
 use Rattle.upath_commands.specs.declared.reasons.Reason.{Reason}
@@ -50,17 +53,17 @@ reason_text (NoRelative dir text) =
 
 -- why the command has no answer to p; `None` for commands that answer every path, and for `escapes`
 -- and `under`, which leave out paths without a reason
-abbrev pub reason_of : CommandValue → Bool → List ℕ → Option (List ℕ)
-reason_of Parent null p = Some (codes "no parent")
-reason_of Name null p = Some (codes "no file name")
-reason_of Stem null p = Some (codes "no file name")
-reason_of Extension null p = Some (codes "no extension")
-reason_of (Join rule root) null p = Some (join_reason rule p)
-reason_of (Strip base) null p = Some (codes "doesn't start with the base")
-reason_of (Relative dir) null p = Some (relative_reason dir p)
-reason_of Unkey null p = Some (unkey_reason null p)
-reason_of (Check options) null p = Some (codes "is out of order")
-reason_of command null p = None
+abbrev pub reason_of : Command → TaskValue → List ℕ → Option (List ℕ)
+reason_of Parent task p = Some (codes "no parent")
+reason_of Name task p = Some (codes "no file name")
+reason_of Stem task p = Some (codes "no file name")
+reason_of Extension task p = Some (codes "no extension")
+reason_of Join task p = Some (join_reason task.options.rule p)
+reason_of Strip task p = Some (codes "doesn't start with the base")
+reason_of Relative task p = Some (relative_reason task.base p)
+reason_of Unkey task p = Some (unkey_reason task.options.null p)
+reason_of Check task p = Some (codes "is out of order")
+reason_of command task p = None
 
 -- the line for this path and this reason
 abbrev pub reason_line : List ℕ → Option (List ℕ) → List ℕ
@@ -69,6 +72,6 @@ reason_line p (Some reason) =
     codes "upath: " ++ (shown p ++ (codes ": " ++ (reason ++ byte "\n" ∷ [])))
 
 -- the message for p if it is not answered
-abbrev pub message_for : CommandValue → SettingsValue → List ℕ → List ℕ
-message_for command settings p =
-    if settings.quiet then [] else reason_line p (reason_of command settings.null p)
+abbrev pub message_for : TaskValue → List ℕ → List ℕ
+message_for task p =
+    if task.options.quiet then [] else reason_line p (reason_of task.command task p)

@@ -7,10 +7,11 @@ use Rattle.byte_streams.specs.Watched.{has_failed, watched_inner}
 use Rattle.byte_streams.specs.declared.io_traits.Sink.{Ghosts as Sink}
 use Rattle.byte_streams.specs.declared.io_traits.Source.{Ghosts as Source}
 use Rattle.byte_streams.specs.declared.watched.Watched.{Watched}
+use Rattle.upath_commands.specs.Invocations.{TaskValue}
 use Rattle.upath_commands.specs.Outputs.{Emits, EmitsPrefix, Speaks, Tells, TellsPrefix, Wrote}
 use Rattle.upath_commands.specs.Outputs.{has_flushed, is_read_error, unwritten, write_failed}
 use Rattle.upath_commands.specs.Outputs.{written_to}
-use Rattle.upath_commands.specs.Tasks.{TaskValue, answers, messages_of, output_of}
+use Rattle.upath_commands.specs.Tasks.{answers, messages_of, output_of}
 use Rattle.upath_commands.specs.declared.output.RunError.{RunError}
 use Rattle.upath_commands.specs.declared.output.RunError.TheVariants.{Read}
 use Rattle.upath_commands.specs.declared.replies.Replies.{Replies}

@@ -1,6 +1,6 @@
 -- What an invocation prints, and its exit status.
 use Rattle.std.specs.Prelude.{◌≡◌, ◌⊎◌, ◌↔◌, ℕ, Bool, true, false, List, [], ◌++◌, take}
-use Rattle.std.specs.Prelude.{Option, Some, None, Result, Ok, Err, find, if◌then◌else◌}
+use Rattle.std.specs.Prelude.{Option, Some, None, Result, Ok, Err, find, if◌then◌else◌, unwrap_or}
 use Rattle.std.specs.Prelude.{IfErr, IfOk, IfSome, OnErr, OnOk}
 use Rattle.std.specs.Io.KnownBytes.{Appends}
 use Rattle.std.specs.List.{list_all, list_any}
@@ -13,31 +13,30 @@ use Rattle.unix_path.specs.Order.{values_cmp}
 use Rattle.unix_path.specs.Parts.{values}
 use Rattle.upath_commands.specs.Answers.{end_of}
 use Rattle.upath_commands.specs.Archives.{IsSafe, OnArchive}
-use Rattle.upath_commands.specs.Invocations.{CommandValue, SettingsValue, InvocationValue, Meaning}
-use Rattle.upath_commands.specs.Invocations.{Help, Version, Equal, Archive, Each, Under}
+use Rattle.upath_commands.specs.Invocations.{InvocationValue, Meaning, TaskValue}
+use Rattle.upath_commands.specs.Invocations.{Help, Version, Equal, Archive, Each}
 use Rattle.upath_commands.specs.Outputs.{Ended, Speaks, Tells}
 use Rattle.upath_commands.specs.Records.{records_of}
 use Rattle.upath_commands.specs.Replies.{Broken, GaveThis, OfPrinted, State, state_of}
 use Rattle.upath_commands.specs.Sorting.{chosen}
-use Rattle.upath_commands.specs.Tasks.{TaskValue, answers, messages_of, output_of}
+use Rattle.upath_commands.specs.Tasks.{answers, messages_of, output_of}
 use Rattle.upath_commands.specs.Usage.{usage_line}
+use Rattle.upath_commands.specs.declared.command.Command.{Command}
+use Rattle.upath_commands.specs.declared.command.Command.TheVariants.{Under}
 use Rattle.upath_commands.specs.declared.output.RunError.{RunError}
 use Rattle.upath_commands.specs.declared.replies.Replies.{Replies}
 use Rattle.upath_commands.specs.declared.runs.Texts.{Texts}
 
--- the paths to be answered: those of the arguments, or if there are none the records of the input
-abbrev pub paths_asked : SettingsValue → Option (List (List ℕ)) → List ℕ → List (List ℕ)
-paths_asked settings None input = records_of (end_of settings) input
-paths_asked settings (Some paths) input = paths
-
--- those of these paths that a command answers, in their order
-abbrev pub asked : CommandValue → SettingsValue → Option (List (List ℕ)) → List ℕ
-    → List (List ℕ)
-asked command settings paths input = chosen command (paths_asked settings paths input)
+-- the paths that a command answers, in their order: of those of the arguments, or if there are none
+-- of the records of the input
+abbrev pub asked : TaskValue → Option (List (List ℕ)) → List ℕ → List (List ℕ)
+asked task paths input =
+    chosen task.command task.options
+    (unwrap_or paths (records_of (end_of task.options) input))
 
 -- the answer of a command, if it is known whether all paths are answered, and whether any is
-abbrev pub yes_of : CommandValue → Bool → Bool → Bool
-yes_of (Under options base) all any = any
+abbrev pub yes_of : Command → Bool → Bool → Bool
+yes_of Under all any = any
 yes_of command all any = all
 
 -- the answer of a command for these paths: for `under` that it prints any, else that all are
@@ -54,36 +53,31 @@ help_text texts name =
 
 -- an invocation reads the input
 abbrev pub reads_input : InvocationValue → Bool
-reads_input (Each command settings None) = true
-reads_input (Archive options settings) = true
+reads_input (Each task None) = true
+reads_input (Archive options) = true
 reads_input _ = false
 
 -- P holds of what an invocation writes and of its messages
 abbrev pub OnPrinted : Texts → InvocationValue → List ℕ → OfPrinted → Type 0
 OnPrinted texts (Help name) input P = P (help_text texts name) []
 OnPrinted texts Version input P = P texts.version.now []
-OnPrinted texts (Equal settings a b) input P = P [] []
-OnPrinted texts (Archive options settings) input P = OnArchive options settings input P
-OnPrinted texts (Each command settings paths) input P =
-    let task : TaskValue = record { command = command; settings = settings } in
-    let those = asked command settings paths input in
-    P (output_of task those) (messages_of task those)
+OnPrinted texts (Equal options a b) input P = P [] []
+OnPrinted texts (Archive options) input P = OnArchive options input P
+OnPrinted texts (Each task paths) input P =
+    let those = asked task paths input in P (output_of task those) (messages_of task those)
 
 -- the same after an error: if it came before `archive` decided, nothing was printed
 abbrev pub OnBegun : Texts → InvocationValue → List ℕ → OfPrinted → Type 0
-OnBegun texts (Archive options settings) input P =
-    P [] [] ⊎ OnArchive options settings input P
+OnBegun texts (Archive options) input P = P [] [] ⊎ OnArchive options input P
 OnBegun texts invocation input P = OnPrinted texts invocation input P
 
 -- the answer of an invocation is this; of `archive` yes, if and only if the archive is safe
 abbrev pub IsAnswer : InvocationValue → List ℕ → Bool → Type 0
 IsAnswer (Help name) input answer = answer ≡ true
 IsAnswer Version input answer = answer ≡ true
-IsAnswer (Equal settings a b) input answer = answer ≡ is_eq (values_cmp (values a) (values b))
-IsAnswer (Archive options settings) input answer = (answer ≡ true) ↔ IsSafe options input
-IsAnswer (Each command settings paths) input answer =
-    answer ≡ command_yes record { command = command; settings = settings }
-    (asked command settings paths input)
+IsAnswer (Equal options a b) input answer = answer ≡ is_eq (values_cmp (values a) (values b))
+IsAnswer (Archive options) input answer = (answer ≡ true) ↔ IsSafe options input
+IsAnswer (Each task paths) input answer = answer ≡ command_yes task (asked task paths input)
 
 -- the exit status of an invocation: 0 if the answer is yes, 1 if not
 abbrev pub IsStatusOf : InvocationValue → List ℕ → ℕ → Type 0
@@ -117,9 +111,9 @@ IsStatus (Err usage) input status = status ≡ 2
 
 -- nothing is printed, neither answers nor messages
 abbrev pub is_quiet : InvocationValue → Bool
-is_quiet (Equal settings a b) = settings.quiet
-is_quiet (Each command settings paths) = settings.quiet
-is_quiet (Archive options settings) = settings.quiet
+is_quiet (Equal options a b) = options.quiet
+is_quiet (Each task paths) = task.options.quiet
+is_quiet (Archive options) = options.quiet
 is_quiet _ = false
 
 -- nothing is printed for an error of the run

@@ -3,10 +3,9 @@ ghost use Rattle.std.specs.Prelude.{◌≡◌, ◌++◌, ◌∷◌, OnOk, map, o
 ghost use Rattle.unix_path.specs.Ancestors.{remaining_ancestors};
 ghost use Rattle.upath_commands.specs.Answers.{dot_if_empty, is_current, parent_answer};
 ghost use Rattle.upath_commands.specs.Answers.{parents_answer, record_output, up_to_current};
-ghost use Rattle.upath_commands.specs.Invocations.{settings_value};
 
 use crate::answer::dot_if_empty;
-use crate::command::Settings;
+use crate::command::Options;
 use crate::push::push_answer;
 use std::alloc::AllocError;
 use unix_path::Path;
@@ -37,16 +36,16 @@ pub(crate) fn parent_answer(path: Path<'_>) -> Option<Path<'_>>
 fn push_walk(
     walk: Ancestors<'_>,
     path: Path<'_>,
-    settings: Settings<'_>,
+    options: Options,
     out: &mut Vec<u8>,
 ) -> Result<(), AllocError>
     ensures { OnOk result (out.new.items ≡ out.old.items
-        ++ record_output (settings_value settings.entry) path.entry.bytes.now
+        ++ record_output options path.entry.bytes.now
         (map dot_if_empty (up_to_current (remaining_ancestors walk.entry)))) }
 {
     let mut walk = walk;
     while let Some(parent) = walk.next() {
-        push_answer(path, dot_if_empty(parent).bytes, settings, out)?;
+        push_answer(path, dot_if_empty(parent).bytes, options, out)?;
         if is_current(parent) {
             return Ok(());
         }
@@ -57,18 +56,18 @@ fn push_walk(
 // Appends the path and each of its parents.
 pub(crate) fn push_ancestors(
     path: Path<'_>,
-    settings: Settings<'_>,
+    options: Options,
     out: &mut Vec<u8>,
 ) -> Result<(), AllocError>
     ensures { OnOk result (out.new.items ≡ out.old.items
-        ++ record_output (settings_value settings.entry) path.entry.bytes.now
+        ++ record_output options path.entry.bytes.now
         (path.entry.bytes.now ∷ parents_answer path.entry.bytes.now)) }
 {
-    push_answer(path, path.bytes, settings, out)?;
+    push_answer(path, path.bytes, options, out)?;
     if is_current(path) {
         return Ok(());
     }
     let mut walk = path.ancestors();
     let _itself = walk.next();
-    push_walk(walk, path, settings, out)
+    push_walk(walk, path, options, out)
 }

@@ -1,8 +1,8 @@
 //! Laws of what is printed: facts that a proof can use if it calls them.
 ghost use Rattle.upath_commands.specs.AnswerLaws.{EscapesTested, NeverEmpty, OutputReadsBack};
-ghost use Rattle.upath_commands.specs.AnswerLaws.{QuietPrintsNothing, RelativesNeverEmpty};
-ghost use Rattle.upath_commands.specs.AnswerLaws.{StripsNeverEmpty, UnderStripsNeverEmpty};
-ghost use Rattle.upath_commands.specs.Invocations.{Parent, Resolve};
+ghost use Rattle.upath_commands.specs.AnswerLaws.{QuietPrintsNothing, UnderStripsNeverEmpty};
+
+use crate::command::Command;
 
 /// `escapes` prints a path if and only if it escapes, as `path_within` defines it, or has a NUL.
 ///
@@ -16,10 +16,10 @@ pub fn escapes_tested()
 ///
 /// `upath relative --from=/a /a` prints `.`.
 pub fn answers_are_never_empty()
-    ensures resolve { NeverEmpty Resolve }
-    ensures parent { NeverEmpty Parent }
-    ensures strip { StripsNeverEmpty }
-    ensures relative { RelativesNeverEmpty }
+    ensures resolve { NeverEmpty Command.Resolve }
+    ensures parent { NeverEmpty Command.Parent }
+    ensures strip { NeverEmpty Command.Strip }
+    ensures relative { NeverEmpty Command.Relative }
     ensures under { UnderStripsNeverEmpty }
 {}
 

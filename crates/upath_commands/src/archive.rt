@@ -4,16 +4,15 @@ ghost use Rattle.std.specs.Prelude.{if◌then◌else◌, map, true};
 ghost use Rattle.byte_streams.specs.Watched.{has_failed, watched_inner};
 ghost use Rattle.path_archive.specs.EntryViews.{entry_value};
 ghost use Rattle.upath_commands.specs.Archives.{IsSafe, IsSafeIn, IsText, OnArchive, OnInput};
-ghost use Rattle.upath_commands.specs.Archives.{cut_line, entries_messages, entries_output};
-ghost use Rattle.upath_commands.specs.Archives.{level_of, none_refused, refused_line};
-ghost use Rattle.upath_commands.specs.Invocations.{settings_value};
+ghost use Rattle.upath_commands.specs.Archives.{entries_messages, entries_output};
+ghost use Rattle.upath_commands.specs.Archives.{level_of, none_refused};
 ghost use Rattle.upath_commands.specs.Replies.{answers_failed, Gave, GaveThis, IsNew, ReadCalls};
 
-use crate::command::{ArchiveOptions, Settings};
+use crate::command::Options;
 use crate::input::read_all;
 use crate::messages::send;
 use crate::output::RunError;
-use crate::refused::{push_cut, push_messages, push_records, push_refused_line};
+use crate::refused::{cut_line, push_messages, push_records, refused_line};
 use crate::replies::Replies;
 use byte_streams::{Sink, Source, Watched};
 use path_archive::{Entry, Level, Refusal, entries, refusals};
@@ -30,7 +29,7 @@ pub(crate) struct Decision {
 }
 
 // Returns the level that the options ask for.
-fn level_of(options: ArchiveOptions) -> Level
+fn level_of(options: Options) -> Level
     ensures { result ≡ level_of options }
 {
     if options.closed {
@@ -49,32 +48,31 @@ fn none_refused(entries: &[Entry<'_>], refusals: &[Refusal]) -> bool
 
 // Appends what is written for these refusals of entries.
 fn push_output(
-    options: ArchiveOptions,
-    settings: Settings<'_>,
+    options: Options,
     entries: &[Entry<'_>],
     refusals: &[Refusal],
     out: &mut Vec<u8>,
 ) -> Result<(), AllocError>
-    ensures { OnOk result (out.new.items ≡ out.old.items ++ entries_output options
-        (settings_value settings.entry) (map entry_value entries.now) refusals.now) }
+    ensures { OnOk result (out.new.items ≡ out.old.items
+        ++ entries_output options (map entry_value entries.now) refusals.now) }
 {
-    if settings.quiet {
+    if options.quiet {
         return Ok(());
     }
-    push_records(options, settings, entries, refusals, out)
+    push_records(options, entries, refusals, out)
 }
 
 // Appends the messages for these refusals of entries.
 fn push_lines(
-    settings: Settings<'_>,
+    options: Options,
     entries: &[Entry<'_>],
     refusals: &[Refusal],
     out: &mut Vec<u8>,
 ) -> Result<(), AllocError>
-    ensures { OnOk result (out.new.items ≡ out.old.items ++ entries_messages
-        (settings_value settings.entry) (map entry_value entries.now) refusals.now) }
+    ensures { OnOk result (out.new.items ≡ out.old.items
+        ++ entries_messages options (map entry_value entries.now) refusals.now) }
 {
-    if settings.quiet {
+    if options.quiet {
         return Ok(());
     }
     if entries.is_empty() {
@@ -87,22 +85,20 @@ fn push_lines(
 // Returns what is written for these refusals of entries, the messages and the answer.
 fn decide_entries(
     alloc: Global,
-    options: ArchiveOptions,
-    settings: Settings<'_>,
+    options: Options,
     entries: &[Entry<'_>],
     refusals: &[Refusal],
 ) -> Result<Decision, AllocError>
-    ensures texts { let value = settings_value settings.entry in
-        let those = map entry_value entries.now in IfOk result (λ decision.
-        IsText decision (entries_output options value those refusals.now)
-        (entries_messages value those refusals.now)) }
+    ensures texts { let those = map entry_value entries.now in IfOk result (λ decision.
+        IsText decision (entries_output options those refusals.now)
+        (entries_messages options those refusals.now)) }
     ensures safe { IfOk result (λ decision.
         decision.is_safe ≡ none_refused (map entry_value entries.now) refusals.now) }
 {
     let mut output = Vec::new(alloc);
-    push_output(options, settings, entries, refusals, &mut output)?;
+    push_output(options, entries, refusals, &mut output)?;
     let mut messages = Vec::new(alloc);
-    push_lines(settings, entries, refusals, &mut messages)?;
+    push_lines(options, entries, refusals, &mut messages)?;
     Ok(Decision {
         output,
         messages,
@@ -110,120 +106,58 @@ fn decide_entries(
     })
 }
 
-// Appends a message, unless `quiet`.
-fn push_line(settings: Settings<'_>, line: &[u8], out: &mut Vec<u8>) -> Result<(), AllocError>
-    ensures { OnOk result (out.new.items ≡ out.old.items
-        ++ (if (settings_value settings.entry).quiet then [] else line.now)) }
-{
-    if !settings.quiet {
-        out.extend_from_slice(line)?;
-    }
-    Ok(())
-}
-
 // Returns the decision on an input that is refused as a whole, with this message.
-fn refuse(alloc: Global, settings: Settings<'_>, line: &[u8]) -> Result<Decision, AllocError>
-    ensures texts { IfOk result (λ decision. IsText decision []
-        (if (settings_value settings.entry).quiet then [] else line.now)) }
-    ensures safe { IfOk result (λ decision. decision.is_safe ≡ false) }
+fn refuse(alloc: Global, options: Options, line: Vec<u8>) -> Decision
+    ensures texts { IsText result [] (if options.quiet then [] else line.items) }
+    ensures safe { result.is_safe ≡ false }
 {
-    let mut messages = Vec::new(alloc);
-    push_line(settings, line, &mut messages)?;
-    Ok(Decision {
+    Decision {
         output: Vec::new(alloc),
-        messages,
+        messages: if options.quiet { Vec::new(alloc) } else { line },
         is_safe: false,
-    })
-}
-
-// Returns the decision on records of which one is cut off.
-fn refuse_records(
-    alloc: Global,
-    settings: Settings<'_>,
-    records: &[u8],
-) -> Result<Decision, AllocError>
-    ensures texts { IfOk result (λ decision. IsText decision []
-        (if (settings_value settings.entry).quiet then [] else cut_line records.now)) }
-    ensures safe { IfOk result (λ decision. decision.is_safe ≡ false) }
-{
-    let mut line = Vec::new(alloc);
-    push_cut(records, &mut line)?;
-    refuse(alloc, settings, line.as_slice())
-}
-
-// Returns the decision on a listing whose line with this number isn't of the form.
-fn refuse_line(alloc: Global, settings: Settings<'_>, n: usize) -> Result<Decision, AllocError>
-    ensures texts { IfOk result (λ decision. IsText decision []
-        (if (settings_value settings.entry).quiet then [] else refused_line n)) }
-    ensures safe { IfOk result (λ decision. decision.is_safe ≡ false) }
-{
-    let mut line = Vec::new(alloc);
-    push_refused_line(n, &mut line)?;
-    refuse(alloc, settings, line.as_slice())
+    }
 }
 
 // Returns what is written for records, the messages and the answer.
-fn decide_records(
-    alloc: Global,
-    options: ArchiveOptions,
-    settings: Settings<'_>,
-    records: &[u8],
-) -> Result<Decision, AllocError>
+fn decide_records(alloc: Global, options: Options, records: &[u8]) -> Result<Decision, AllocError>
     ensures texts { IfOk result (λ decision.
-        OnInput false options (settings_value settings.entry) records.now (IsText decision)) }
+        OnInput false options records.now (IsText decision)) }
     ensures safe { IfOk result (λ decision.
         (decision.is_safe ≡ true) ↔ IsSafeIn false options records.now) }
 {
     let Some(entries) = entries(alloc, records)? else {
-        return refuse_records(alloc, settings, records);
+        return Ok(refuse(alloc, options, cut_line(alloc, records)?));
     };
     let Some(refusals) = refusals(alloc, records, level_of(options))? else {
-        return refuse_records(alloc, settings, records);
+        return Ok(refuse(alloc, options, cut_line(alloc, records)?));
     };
-    decide_entries(
-        alloc,
-        options,
-        settings,
-        entries.as_slice(),
-        refusals.as_slice(),
-    )
+    decide_entries(alloc, options, entries.as_slice(), refusals.as_slice())
 }
 
 // Returns what is written for a listing, the messages and the answer.
-fn decide_listing(
-    alloc: Global,
-    options: ArchiveOptions,
-    settings: Settings<'_>,
-    listing: &[u8],
-) -> Result<Decision, AllocError>
+fn decide_listing(alloc: Global, options: Options, listing: &[u8]) -> Result<Decision, AllocError>
     ensures texts { IfOk result (λ decision.
-        OnInput true options (settings_value settings.entry) listing.now (IsText decision)) }
+        OnInput true options listing.now (IsText decision)) }
     ensures safe { IfOk result (λ decision.
         (decision.is_safe ≡ true) ↔ IsSafeIn true options listing.now) }
 {
     listing_reads_back();
     match records_of(alloc, listing)? {
-        Ok(records) => decide_records(alloc, options, settings, records.as_slice()),
-        Err(line) => refuse_line(alloc, settings, line),
+        Ok(records) => decide_records(alloc, options, records.as_slice()),
+        Err(line) => Ok(refuse(alloc, options, refused_line(alloc, line)?)),
     }
 }
 
 // Returns what is written for an input, the messages and the answer.
-fn decide(
-    alloc: Global,
-    options: ArchiveOptions,
-    settings: Settings<'_>,
-    input: &[u8],
-) -> Result<Decision, AllocError>
-    ensures texts { IfOk result (λ decision.
-        OnArchive options (settings_value settings.entry) input.now (IsText decision)) }
+fn decide(alloc: Global, options: Options, input: &[u8]) -> Result<Decision, AllocError>
+    ensures texts { IfOk result (λ decision. OnArchive options input.now (IsText decision)) }
     ensures safe { IfOk result (λ decision.
         (decision.is_safe ≡ true) ↔ IsSafe options input.now) }
 {
     if options.tar_list {
-        decide_listing(alloc, options, settings, input)
+        decide_listing(alloc, options, input)
     } else {
-        decide_records(alloc, options, settings, input)
+        decide_records(alloc, options, input)
     }
 }
 
@@ -246,20 +180,18 @@ fn give_decision<W: Sink, E: Sink>(
 // Decides whether the entries of the input are accepted. Returns the answer.
 pub(crate) fn give_archive<R: Source, W: Sink, E: Sink>(
     alloc: Global,
-    options: ArchiveOptions,
-    settings: Settings<'_>,
+    options: Options,
     reader: &mut Watched<R>,
     replies: &mut Replies<W, E>,
 ) -> Result<bool, RunError>
     requires read { has_failed reader.old ≡ false }
     requires new { IsNew replies.old }
-    ensures gave { let value = settings_value settings.entry in
-        Gave W.Sink E.Sink result replies.old replies.new (R.remaining (watched_inner reader.old))
-        (OnArchive options value) (λ input P. P [] [] ⊎ OnArchive options value input P)
+    ensures gave { Gave W.Sink E.Sink result replies.old replies.new (R.remaining (watched_inner reader.old))
+        (OnArchive options) (λ input P. P [] [] ⊎ OnArchive options input P)
         (λ input is. (is ≡ true) ↔ IsSafe options input) }
     ensures reads { ReadCalls R.Source result reader.old reader.new }
 {
     let input = read_all(alloc, reader)?;
-    let decision = decide(alloc, options, settings, input.as_slice())?;
+    let decision = decide(alloc, options, input.as_slice())?;
     give_decision(&decision, replies)
 }

@@ -1,25 +1,18 @@
 //! The meaning of a list of arguments.
-ghost use Rattle.std.specs.Prelude.{◌≡◌, ◌∷◌, [], IfErr, IfOk, map};
-ghost use Rattle.upath_commands.specs.Arguments.{archive_meaning, archive_options, asked_first};
-ghost use Rattle.upath_commands.specs.Arguments.{asked_with};
-ghost use Rattle.upath_commands.specs.Arguments.{command_meaning, each, each_after};
-ghost use Rattle.upath_commands.specs.Arguments.{equal_meaning, escapes_options, first_word};
-ghost use Rattle.upath_commands.specs.Arguments.{join_meaning, join_rule, meaning_of};
-ghost use Rattle.upath_commands.specs.Arguments.{meaning_of_items, meaning_of_verb, operands_of};
-ghost use Rattle.upath_commands.specs.Arguments.{request_of, settings_of, sort_command};
-ghost use Rattle.upath_commands.specs.Arguments.{sort_options, under_options};
-ghost use Rattle.upath_commands.specs.Invocations.{command_value, invocation_value, meaning_value};
-ghost use Rattle.upath_commands.specs.Invocations.{view_bytes, settings_value, usage_value};
+ghost use Rattle.std.specs.Prelude.{◌≡◌, ◌∷◌, [], IfErr, IfOk, map, option_map};
+ghost use Rattle.upath_commands.specs.Arguments.{archive_meaning, asked_first, asked_with};
+ghost use Rattle.upath_commands.specs.Arguments.{command_meaning, each, each_after, equal_meaning};
+ghost use Rattle.upath_commands.specs.Arguments.{first_word, join_rule, last_value, meaning_of};
+ghost use Rattle.upath_commands.specs.Arguments.{meaning_of_command, meaning_of_items, operands_of};
+ghost use Rattle.upath_commands.specs.Arguments.{options_of, relative_meaning, request_of, task_of};
+ghost use Rattle.upath_commands.specs.Invocations.{meaning_value, task_value, usage_value};
+ghost use Rattle.upath_commands.specs.Invocations.{view_bytes};
 ghost use Rattle.upath_commands.specs.Items.{item_value};
 ghost use Rattle.upath_commands.specs.Words.{words_value};
-ghost use Rattle.std.specs.Prelude.{option_map};
 
-use crate::command::{
-    ArchiveOptions, Command, EscapesOptions, Invocation, JoinRule, Settings, SortOptions,
-    UnderOptions,
-};
+use crate::command::{Command, Invocation, JoinRule, Options, Task};
 use crate::items::{Item, items_of};
-use crate::options::{Flag, Request, Verb, is, request_by_word, verb_by_name};
+use crate::options::{Flag, Request, command_by_name, is, request_by_word};
 use crate::searches::{
     asked_of, dashes_at, fault_in, foreign_option, has, last_value, newline_fault, operands_in,
     request_in, requested,
@@ -29,71 +22,8 @@ use crate::words::Words;
 use std::alloc::{AllocError, Global};
 use unix_path::Path;
 
-// Returns the options that every command has.
-fn settings_of<'a>(items: &[Item<'a>]) -> Settings<'a>
-    ensures { settings_value result ≡ settings_of (map item_value items.now) }
-{
-    Settings {
-        null: has(items, Flag::Null),
-        pair: has(items, Flag::Pair),
-        quiet: has(items, Flag::Quiet),
-        or: last_value(items, Flag::Or),
-    }
-}
-
-// Returns the options of `escapes`.
-fn escapes_options(items: &[Item<'_>]) -> EscapesOptions
-    ensures { result ≡ escapes_options (map item_value items.now) }
-{
-    EscapesOptions {
-        inverted: has(items, Flag::Inverted),
-        with_reason: has(items, Flag::Reason),
-    }
-}
-
-// Returns the options of `archive`.
-fn archive_options(items: &[Item<'_>]) -> ArchiveOptions
-    ensures { result ≡ archive_options (map item_value items.now) }
-{
-    ArchiveOptions {
-        tar_list: has(items, Flag::TarList),
-        closed: has(items, Flag::Closed),
-        with_reason: has(items, Flag::Reason),
-    }
-}
-
-// Returns the options of `under`.
-fn under_options(items: &[Item<'_>]) -> UnderOptions
-    ensures { result ≡ under_options (map item_value items.now) }
-{
-    UnderOptions {
-        inverted: has(items, Flag::Inverted),
-        stripped: has(items, Flag::Strip),
-        by_components: has(items, Flag::ByComponents),
-    }
-}
-
-// Returns the options of `sort`.
-fn sort_options(items: &[Item<'_>]) -> SortOptions
-    ensures { result ≡ sort_options (map item_value items.now) }
-{
-    SortOptions {
-        unique: has(items, Flag::Unique),
-        reversed: has(items, Flag::Reversed),
-    }
-}
-
-// Returns the command that `sort` is with these options.
-fn sort_command<'a>(items: &[Item<'_>]) -> Command<'a>
-    ensures { command_value result ≡ sort_command (map item_value items.now) }
-{
-    let options = sort_options(items);
-    if has(items, Flag::Check) {
-        Command::Check(options)
-    } else {
-        Command::Sort(options)
-    }
-}
+// The path that a command takes as ROOT, BASE or DIR if it takes none.
+const NO_BASE: Path<'static> = Path { bytes: b"" };
 
 // Returns the rule of a join, or `None` if its options contradict each other.
 fn join_rule(items: &[Item<'_>]) -> Option<JoinRule>
@@ -108,6 +38,40 @@ fn join_rule(items: &[Item<'_>]) -> Option<JoinRule>
         (false, true, false) => Some(JoinRule::InRoot),
         (false, false, true) => Some(JoinRule::Verbatim),
         _ => None,
+    }
+}
+
+// Returns the options.
+fn options_of(items: &[Item<'_>]) -> Options
+    ensures { result ≡ options_of (map item_value items.now) }
+{
+    Options {
+        null: has(items, Flag::Null),
+        pair: has(items, Flag::Pair),
+        quiet: has(items, Flag::Quiet),
+        from_back: has(items, Flag::FromBack),
+        rule: join_rule(items).unwrap_or(JoinRule::Trusted),
+        inverted: has(items, Flag::Inverted),
+        with_reason: has(items, Flag::Reason),
+        tar_list: has(items, Flag::TarList),
+        closed: has(items, Flag::Closed),
+        stripped: has(items, Flag::Strip),
+        by_components: has(items, Flag::ByComponents),
+        unique: has(items, Flag::Unique),
+        reversed: has(items, Flag::Reversed),
+    }
+}
+
+// Returns a command with its options and with its ROOT, BASE or DIR.
+fn task_of<'a>(command: Command, base: Path<'a>, items: &[Item<'a>]) -> Task<'a>
+    ensures { task_value result
+        ≡ task_of command (view_bytes base.entry) (map item_value items.now) }
+{
+    Task {
+        command,
+        options: options_of(items),
+        or: last_value(items, Flag::Or),
+        base,
     }
 }
 
@@ -134,23 +98,38 @@ fn take_operand<'a>(
 // Returns the meaning of a command for these paths, before which come `own` operands: its name, and
 // ROOT or BASE.
 fn each<'a>(
-    command: Command<'a>,
+    command: Command,
+    base: Path<'a>,
     words: Words<'a, '_>,
     own: usize,
     operands: Vec<Path<'a>>,
 ) -> Result<Invocation<'a>, UsageError<'a>>
-    ensures { meaning_value result ≡ each (command_value command.entry) (words_value words.entry)
-        own (map view_bytes operands.entry.items) }
+    ensures { meaning_value result ≡ each command (view_bytes base.entry)
+        (words_value words.entry) own (map view_bytes operands.entry.items) }
 {
-    let settings = settings_of(words.items);
+    let task = task_of(command, base, words.items);
     match operands.first() {
         Some(path) if own < words.dashes => Err(UsageError {
             kind: UsageErrorKind::BeforeDashes,
             argument: *path,
         }),
-        None if own > words.dashes => Ok(Invocation::Each(command, settings, None)),
-        _ => Ok(Invocation::Each(command, settings, Some(operands))),
+        None if own > words.dashes => Ok(Invocation::Each(task, None)),
+        _ => Ok(Invocation::Each(task, Some(operands))),
     }
+}
+
+// Returns the meaning of a command whose first operand is its ROOT or BASE.
+fn each_after<'a>(
+    command: Command,
+    missing: UsageErrorKind,
+    words: Words<'a, '_>,
+    mut operands: Vec<Path<'a>>,
+) -> Result<Invocation<'a>, UsageError<'a>>
+    ensures { meaning_value result ≡ each_after command missing (words_value words.entry)
+        (map view_bytes operands.entry.items) }
+{
+    let base = take_operand(&mut operands, missing, words.name)?;
+    each(command, base, words, 2, operands)
 }
 
 // Returns the meaning of `equal` with these operands.
@@ -162,7 +141,7 @@ fn equal_of<'a>(
         (map view_bytes operands.now) }
 {
     match operands {
-        [a, b] => Ok(Invocation::Equal(settings_of(words.items), *a, *b)),
+        [a, b] => Ok(Invocation::Equal(options_of(words.items), *a, *b)),
         [_, _, c, ..] => Err(UsageError {
             kind: UsageErrorKind::UnexpectedOperand,
             argument: *c,
@@ -183,7 +162,7 @@ fn archive_of<'a>(
         (map view_bytes operands.now) }
 {
     match operands {
-        [] => Ok(Invocation::Archive(archive_options(words.items), settings_of(words.items))),
+        [] => Ok(Invocation::Archive(options_of(words.items))),
         [operand, ..] => Err(UsageError {
             kind: UsageErrorKind::UnexpectedOperand,
             argument: *operand,
@@ -194,48 +173,18 @@ fn archive_of<'a>(
 // Returns the meaning of `join` with these operands.
 fn join_of<'a>(
     words: Words<'a, '_>,
-    mut operands: Vec<Path<'a>>,
+    operands: Vec<Path<'a>>,
 ) -> Result<Invocation<'a>, UsageError<'a>>
-    ensures { let value = words_value words.entry in meaning_value result
-        ≡ join_meaning (join_rule value.items) value (map view_bytes operands.entry.items) }
+    ensures { meaning_value result ≡ meaning_of_command Command.Join (words_value words.entry)
+        (map view_bytes operands.entry.items) }
 {
-    let Some(rule) = join_rule(words.items) else {
+    if join_rule(words.items).is_none() {
         return Err(UsageError {
             kind: UsageErrorKind::ContradictoryOptions,
             argument: words.name,
         });
-    };
-    let root = take_operand(&mut operands, UsageErrorKind::MissingRoot, words.name)?;
-    each(Command::Join(rule, root), words, 2, operands)
-}
-
-// Returns the meaning of `strip` with these operands.
-fn strip_of<'a>(
-    words: Words<'a, '_>,
-    mut operands: Vec<Path<'a>>,
-) -> Result<Invocation<'a>, UsageError<'a>>
-    ensures { meaning_value result ≡ meaning_of_verb Verb.Strip (words_value words.entry)
-        (map view_bytes operands.entry.items) }
-{
-    let base = take_operand(&mut operands, UsageErrorKind::MissingBase, words.name)?;
-    each(Command::Strip(base), words, 2, operands)
-}
-
-// Returns the meaning of `under` with these operands.
-fn under_of<'a>(
-    words: Words<'a, '_>,
-    mut operands: Vec<Path<'a>>,
-) -> Result<Invocation<'a>, UsageError<'a>>
-    ensures { meaning_value result ≡ meaning_of_verb Verb.Under (words_value words.entry)
-        (map view_bytes operands.entry.items) }
-{
-    let base = take_operand(&mut operands, UsageErrorKind::MissingBase, words.name)?;
-    each(
-        Command::Under(under_options(words.items), base),
-        words,
-        2,
-        operands,
-    )
+    }
+    each_after(Command::Join, UsageErrorKind::MissingRoot, words, operands)
 }
 
 // Returns the meaning of `relative` with these operands.
@@ -243,11 +192,12 @@ fn relative_of<'a>(
     words: Words<'a, '_>,
     operands: Vec<Path<'a>>,
 ) -> Result<Invocation<'a>, UsageError<'a>>
-    ensures { meaning_value result ≡ meaning_of_verb Verb.Relative (words_value words.entry)
+    ensures { let value = words_value words.entry in meaning_value result
+        ≡ relative_meaning (last_value value.items Flag.From) value
         (map view_bytes operands.entry.items) }
 {
     match last_value(words.items, Flag::From) {
-        Some(dir) => each(Command::Relative(dir), words, 1, operands),
+        Some(dir) => each(Command::Relative, dir, words, 1, operands),
         None => Err(UsageError {
             kind: UsageErrorKind::MissingFrom,
             argument: words.name,
@@ -256,37 +206,27 @@ fn relative_of<'a>(
 }
 
 // Returns the meaning of a command with these operands after its name.
-fn meaning_of_verb<'a>(
-    verb: Verb,
+fn meaning_of_command<'a>(
+    command: Command,
     words: Words<'a, '_>,
     operands: Vec<Path<'a>>,
 ) -> Result<Invocation<'a>, UsageError<'a>>
-    ensures { meaning_value result ≡ meaning_of_verb verb (words_value words.entry)
+    ensures { meaning_value result ≡ meaning_of_command command (words_value words.entry)
         (map view_bytes operands.entry.items) }
 {
-    let command = match verb {
-        Verb::Canon => Command::Canon,
-        Verb::Resolve => Command::Resolve,
-        Verb::Parent => Command::Parent,
-        Verb::Ancestors => Command::Ancestors,
-        Verb::Name => Command::Name,
-        Verb::Stem => Command::Stem,
-        Verb::Extension => Command::Extension,
-        Verb::Parts if has(words.items, Flag::FromBack) => Command::PartsFromBack,
-        Verb::Parts => Command::Parts,
-        Verb::Join => return join_of(words, operands),
-        Verb::Strip => return strip_of(words, operands),
-        Verb::Relative => return relative_of(words, operands),
-        Verb::Key => Command::Key,
-        Verb::Unkey => Command::Unkey,
-        Verb::Escapes => Command::Escapes(escapes_options(words.items)),
-        Verb::Archive => return archive_of(words, operands.as_slice()),
-        Verb::Under => return under_of(words, operands),
-        Verb::Sort => sort_command(words.items),
-        Verb::Uniq => Command::Uniq,
-        Verb::Equal => return equal_of(words, operands.as_slice()),
-    };
-    each(command, words, 1, operands)
+    match command {
+        Command::Join => join_of(words, operands),
+        Command::Strip | Command::Under => {
+            each_after(command, UsageErrorKind::MissingBase, words, operands)
+        }
+        Command::Relative => relative_of(words, operands),
+        Command::Archive => archive_of(words, operands.as_slice()),
+        Command::Equal => equal_of(words, operands.as_slice()),
+        Command::Sort if has(words.items, Flag::Check) => {
+            each(Command::Check, NO_BASE, words, 1, operands)
+        }
+        _ => each(command, NO_BASE, words, 1, operands),
+    }
 }
 
 // Returns the meaning of operands, the first of which is the command.
@@ -297,23 +237,22 @@ fn command_of<'a>(
     ensures { meaning_value result ≡ command_meaning (map item_value items.now)
         (map view_bytes operands.entry.items) }
 {
-    let nothing = Path { bytes: b"" };
-    let name = take_operand(&mut operands, UsageErrorKind::MissingCommand, nothing)?;
-    let Some(verb) = verb_by_name(name.bytes) else {
+    let name = take_operand(&mut operands, UsageErrorKind::MissingCommand, NO_BASE)?;
+    let Some(command) = command_by_name(name.bytes) else {
         return Err(UsageError {
             kind: UsageErrorKind::UnknownCommand,
             argument: name,
         });
     };
-    if let Some(error) = foreign_option(verb, items) {
+    if let Some(error) = foreign_option(command, items) {
         return Err(error);
     }
     if let Some(error) = newline_fault(items, operands.as_slice()) {
         return Err(error);
     }
     let dashes = dashes_at(items);
-    meaning_of_verb(
-        verb,
+    meaning_of_command(
+        command,
         Words {
             name,
             items,
@@ -418,7 +357,7 @@ fn asked_first<'a>(arguments: &[Path<'a>]) -> Option<Result<Invocation<'a>, Usag
 ///
 /// Allocates for what the arguments say, and for the operands. Fails only if an allocation fails.
 ///
-/// For `canon`, `-z` and `a` it is `Invocation::Each` of `Command::Canon`, of settings with `null`,
+/// For `canon`, `-z` and `a` it is `Invocation::Each` of `Command::Canon`, with the option `null`,
 /// and of the path `a`.
 #[tactic(auto, unfolding(crate::specs::Arguments::meaning_of))]
 pub fn invocation_of<'a>(

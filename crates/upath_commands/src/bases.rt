@@ -5,7 +5,7 @@ ghost use Rattle.upath_commands.specs.Answers.{dot_if_empty, Finds, relative_of,
 ghost use Rattle.upath_commands.specs.Answers.{rest_below, rest_under, under_answer};
 
 use crate::answer::{dot_if_empty, dotted};
-use crate::command::UnderOptions;
+use crate::command::Options;
 use path_within::relative::relative_path;
 use path_within::resolved::resolved;
 use path_within::within::has_root_or_parent_dir;
@@ -62,7 +62,7 @@ pub(crate) fn relative_answer<'a>(
 // Returns what `under` prints for a path, if this is what follows the base in it.
 fn selected_answer<'a>(
     alloc: Global,
-    options: UnderOptions,
+    options: Options,
     path: Path<'a>,
     rest: Option<Path<'_>>,
 ) -> Result<Option<CowPath<'a>>, AllocError>
@@ -82,7 +82,7 @@ fn selected_answer<'a>(
 // Returns what `under` prints for a path, if anything.
 pub(crate) fn under_answer<'a>(
     alloc: Global,
-    options: UnderOptions,
+    options: Options,
     base: Path<'_>,
     path: Path<'a>,
 ) -> Result<Option<CowPath<'a>>, AllocError>

@@ -5,8 +5,9 @@ ghost use Rattle.upath_commands.specs.Answers.{end_of};
 ghost use Rattle.upath_commands.specs.Records.{paths_of, records_of};
 ghost use Rattle.upath_commands.specs.Replies.{answers_failed, Replied, RepliedTo};
 ghost use Rattle.upath_commands.specs.Selections.{selected, taken};
-ghost use Rattle.upath_commands.specs.Tasks.{task_value};
+ghost use Rattle.upath_commands.specs.Invocations.{task_value};
 
+use crate::command::Task;
 use crate::input::{BLOCK, read_some};
 use crate::messages::report;
 use crate::output::RunError;
@@ -14,7 +15,6 @@ use crate::push::end_of;
 use crate::records::records_in;
 use crate::replies::{Replies, Tally};
 use crate::selection::Selection;
-use crate::task::Task;
 use byte_streams::{Sink, Source, Watched};
 use std::alloc::Global;
 use unix_bytes::internal::after_last;
@@ -96,12 +96,12 @@ fn answer_records<W: Sink, E: Sink>(
 ) -> Result<(), RunError>
     requires { answers_failed replies.old ≡ false }
     ensures replied { Replied W.Sink E.Sink (task_value task.now) result replies.old replies.new
-        (selected selection.old (records_of (end_of (task_value task.now).settings) bytes.now)) }
-    ensures rest { let records = records_of (end_of (task_value task.now).settings) bytes.now in
+        (selected selection.old (records_of (end_of (task_value task.now).options) bytes.now)) }
+    ensures rest { let records = records_of (end_of (task_value task.now).options) bytes.now in
         OnOk result ((more : List (List ℕ)) → selected selection.old (records ++ more)
         ≡ selected selection.old records ++ selected selection.new more) }
 {
-    let paths = records_in(alloc, bytes, end_of(task.settings))?;
+    let paths = records_in(alloc, bytes, end_of(task.options))?;
     answer_paths(alloc, task, selection, paths.as_slice(), replies)
 }
 
@@ -118,9 +118,9 @@ pub(crate) fn answer_input<R: Source, W: Sink, E: Sink>(
     requires read { has_failed reader.old ≡ false }
     ensures { let value = task_value task.now in
         RepliedTo R.Source W.Sink E.Sink value result reader.old reader.new replies.old replies.new
-        (λ input. selected selection.old (records_of (end_of value.settings) input)) }
+        (λ input. selected selection.old (records_of (end_of value.options) input)) }
 {
-    let end = end_of(task.settings);
+    let end = end_of(task.options);
     let mut chunk = [0u8; BLOCK];
     let mut records = Vec::new(alloc);
     for _ in 0..u64::MAX {

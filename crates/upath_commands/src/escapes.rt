@@ -6,7 +6,7 @@ ghost use Rattle.upath_commands.specs.Answers.{escape_reason, escaping_of, Finds
 ghost use Rattle.upath_commands.specs.Escaping.{escapes};
 
 use crate::answer::path_of_bytes;
-use crate::command::EscapesOptions;
+use crate::command::Options;
 use path_within::{has_nul, within};
 use std::alloc::{AllocError, Global};
 use unix_path::{CowPath, Path};
@@ -53,7 +53,7 @@ fn with_reason<'a>(alloc: Global, path: Path<'_>) -> Result<CowPath<'a>, AllocEr
 // Returns what `escapes` prints for a path, if anything.
 pub(crate) fn escapes_answer<'a>(
     alloc: Global,
-    options: EscapesOptions,
+    options: Options,
     path: Path<'a>,
 ) -> Result<Option<CowPath<'a>>, AllocError>
     ensures { Finds result (escaping_of options path.entry.bytes.now) }

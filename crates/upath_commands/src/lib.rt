@@ -56,10 +56,7 @@ mod usage;
 mod words;
 
 pub use arguments::{argument_paths, invocation_of};
-pub use command::{
-    ArchiveOptions, Command, EscapesOptions, Invocation, JoinRule, Settings, SortOptions,
-    UnderOptions,
-};
+pub use command::{Command, Invocation, JoinRule, Options, Task};
 pub use output::RunError;
 pub use records::records_in;
 pub use replies::Replies;

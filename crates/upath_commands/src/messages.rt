@@ -2,14 +2,14 @@
 //!
 //! After a failed write nothing more is written.
 ghost use Rattle.std.specs.Prelude.{◌≡◌, [], false, IfErr, OnErr, OnOk};
-ghost use Rattle.upath_commands.specs.Invocations.{usage_value};
+ghost use Rattle.upath_commands.specs.Invocations.{task_value, usage_value};
 ghost use Rattle.upath_commands.specs.Outputs.{error_line, Told};
 ghost use Rattle.upath_commands.specs.Refusals.{message_for};
-ghost use Rattle.upath_commands.specs.Tasks.{task_value};
 ghost use Rattle.upath_commands.specs.Usage.{usage_line};
 
+use crate::command::Task;
 use crate::output::RunError;
-use crate::task::{Task, push_message};
+use crate::task::push_message;
 use crate::usage::{UsageError, push_usage};
 use byte_streams::{Sink, Watched, write_all};
 use std::alloc::{AllocError, Global};
@@ -31,8 +31,8 @@ pub(crate) fn report<E: Sink>(
     task: &Task<'_>,
     path: Path<'_>,
 ) -> Result<(), RunError>
-    ensures told { let value = task_value task.now in OnOk result (Told E.Sink sink.old sink.new
-        (message_for value.command value.settings path.entry.bytes.now)) }
+    ensures told { OnOk result (Told E.Sink sink.old sink.new
+        (message_for (task_value task.now) path.entry.bytes.now)) }
     ensures err { OnErr result (Told E.Sink sink.old sink.new []) }
     ensures only_memory { IfErr result (λ error. error ≡ RunError.Memory) }
 {

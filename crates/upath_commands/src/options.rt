@@ -1,10 +1,11 @@
 //! The options and the commands: their names, and which command has which option.
 ghost use Rattle.std.specs.Prelude.{◌≡◌};
 ghost use Rattle.std.specs.Str.{bytes_eq};
-ghost use Rattle.upath_commands.specs.Options.{has_option, option_by_letter, option_by_name};
-ghost use Rattle.upath_commands.specs.Options.{request_by_word, same_option, takes_value};
-ghost use Rattle.upath_commands.specs.Options.{verb_by_name};
 ghost use Rattle.upath_commands.specs.Items.{value_awaited};
+ghost use Rattle.upath_commands.specs.Options.{command_by_name, has_option, option_by_letter};
+ghost use Rattle.upath_commands.specs.Options.{option_by_name, request_by_word, takes_value};
+
+use crate::command::Command;
 
 /// An option.
 ///
@@ -47,51 +48,6 @@ pub enum Flag {
     Closed,
     /// `--tar-list`.
     TarList,
-}
-
-/// A command, without its options and operands.
-///
-/// `ext` is `Verb::Extension`.
-#[derive(Clone, Copy, PartialEq, Eq)]
-pub enum Verb {
-    /// `canon`.
-    Canon,
-    /// `resolve`.
-    Resolve,
-    /// `parent`.
-    Parent,
-    /// `ancestors`.
-    Ancestors,
-    /// `name`.
-    Name,
-    /// `stem`.
-    Stem,
-    /// `ext`.
-    Extension,
-    /// `parts`.
-    Parts,
-    /// `join`.
-    Join,
-    /// `strip`.
-    Strip,
-    /// `relative`.
-    Relative,
-    /// `key`.
-    Key,
-    /// `unkey`.
-    Unkey,
-    /// `escapes`.
-    Escapes,
-    /// `archive`.
-    Archive,
-    /// `under`.
-    Under,
-    /// `sort`.
-    Sort,
-    /// `uniq`.
-    Uniq,
-    /// `equal`.
-    Equal,
 }
 
 /// Returns the option with this letter, or `None` if no option has it.
@@ -149,50 +105,50 @@ pub fn option_by_name(name: &[u8]) -> Option<Flag>
 
 /// Returns the command with this name, or `None` if no command has it.
 ///
-/// For `ext` it is `Verb::Extension`.
-pub fn verb_by_name(name: &[u8]) -> Option<Verb>
-    ensures { result ≡ verb_by_name name.now }
+/// For `ext` it is `Command::Extension`.
+pub fn command_by_name(name: &[u8]) -> Option<Command>
+    ensures { result ≡ command_by_name name.now }
 {
     match () {
-        _ if is(name, b"canon") => Some(Verb::Canon),
-        _ if is(name, b"resolve") => Some(Verb::Resolve),
-        _ if is(name, b"parent") => Some(Verb::Parent),
-        _ if is(name, b"ancestors") => Some(Verb::Ancestors),
-        _ if is(name, b"name") => Some(Verb::Name),
-        _ if is(name, b"stem") => Some(Verb::Stem),
-        _ if is(name, b"ext") => Some(Verb::Extension),
-        _ if is(name, b"parts") => Some(Verb::Parts),
-        _ if is(name, b"join") => Some(Verb::Join),
-        _ if is(name, b"strip") => Some(Verb::Strip),
-        _ if is(name, b"relative") => Some(Verb::Relative),
-        _ if is(name, b"key") => Some(Verb::Key),
-        _ if is(name, b"unkey") => Some(Verb::Unkey),
-        _ if is(name, b"escapes") => Some(Verb::Escapes),
-        _ if is(name, b"archive") => Some(Verb::Archive),
-        _ if is(name, b"under") => Some(Verb::Under),
-        _ if is(name, b"sort") => Some(Verb::Sort),
-        _ if is(name, b"uniq") => Some(Verb::Uniq),
-        _ if is(name, b"equal") => Some(Verb::Equal),
+        _ if is(name, b"canon") => Some(Command::Canon),
+        _ if is(name, b"resolve") => Some(Command::Resolve),
+        _ if is(name, b"parent") => Some(Command::Parent),
+        _ if is(name, b"ancestors") => Some(Command::Ancestors),
+        _ if is(name, b"name") => Some(Command::Name),
+        _ if is(name, b"stem") => Some(Command::Stem),
+        _ if is(name, b"ext") => Some(Command::Extension),
+        _ if is(name, b"parts") => Some(Command::Parts),
+        _ if is(name, b"join") => Some(Command::Join),
+        _ if is(name, b"strip") => Some(Command::Strip),
+        _ if is(name, b"relative") => Some(Command::Relative),
+        _ if is(name, b"key") => Some(Command::Key),
+        _ if is(name, b"unkey") => Some(Command::Unkey),
+        _ if is(name, b"escapes") => Some(Command::Escapes),
+        _ if is(name, b"archive") => Some(Command::Archive),
+        _ if is(name, b"under") => Some(Command::Under),
+        _ if is(name, b"sort") => Some(Command::Sort),
+        _ if is(name, b"uniq") => Some(Command::Uniq),
+        _ if is(name, b"equal") => Some(Command::Equal),
         _ => None,
     }
 }
 
 /// Returns true if and only if the command has the option.
 ///
-/// `Verb::Parts` has `Flag::FromBack`, and no other command has.
-pub fn has_option(verb: Verb, option: Flag) -> bool
-    ensures { result ≡ has_option verb option }
+/// `Command::Parts` has `Flag::FromBack`, and no other command has.
+pub fn has_option(command: Command, option: Flag) -> bool
+    ensures { result ≡ has_option command option }
 {
     match option {
-        Flag::FromBack => matches!(verb, Verb::Parts),
-        Flag::Beneath | Flag::InRoot | Flag::Verbatim => matches!(verb, Verb::Join),
-        Flag::From => matches!(verb, Verb::Relative),
-        Flag::Inverted => matches!(verb, Verb::Escapes | Verb::Under),
-        Flag::Reason => matches!(verb, Verb::Escapes | Verb::Archive),
-        Flag::Closed | Flag::TarList => matches!(verb, Verb::Archive),
-        Flag::Strip | Flag::ByComponents => matches!(verb, Verb::Under),
-        Flag::Check | Flag::Unique | Flag::Reversed => matches!(verb, Verb::Sort),
-        Flag::Pair | Flag::Or => !matches!(verb, Verb::Archive),
+        Flag::FromBack => matches!(command, Command::Parts),
+        Flag::Beneath | Flag::InRoot | Flag::Verbatim => matches!(command, Command::Join),
+        Flag::From => matches!(command, Command::Relative),
+        Flag::Inverted => matches!(command, Command::Escapes | Command::Under),
+        Flag::Reason => matches!(command, Command::Escapes | Command::Archive),
+        Flag::Closed | Flag::TarList => matches!(command, Command::Archive),
+        Flag::Strip | Flag::ByComponents => matches!(command, Command::Under),
+        Flag::Check | Flag::Unique | Flag::Reversed => matches!(command, Command::Sort),
+        Flag::Pair | Flag::Or => !matches!(command, Command::Archive),
         Flag::Null | Flag::Quiet => true,
     }
 }

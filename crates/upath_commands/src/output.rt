@@ -2,12 +2,14 @@
 ghost use Rattle.std.specs.Prelude.{◌≡◌, ◌↔◌, ◌<◌, [], length, false, IfOk, IfErr, OnOk};
 ghost use Rattle.std.specs.IoError.{error_kind};
 ghost use Rattle.upath_commands.specs.Commands.{text_for};
+ghost use Rattle.upath_commands.specs.Invocations.{task_value};
 ghost use Rattle.upath_commands.specs.Outputs.{Emitted, Finished, IsOfWrite, unwritten};
 ghost use Rattle.upath_commands.specs.Outputs.{write_failed, written_to};
-ghost use Rattle.upath_commands.specs.Tasks.{answers, task_value};
+ghost use Rattle.upath_commands.specs.Tasks.{answers};
 ghost use Rattle.upath_commands.specs.declared.output.RunError.TheVariants.{Memory};
 
-use crate::task::{Task, push_answers};
+use crate::command::Task;
+use crate::task::push_answers;
 use byte_streams::{Sink, Watched, write_all};
 use std::alloc::{AllocError, Global};
 use std::io;
@@ -107,9 +109,8 @@ impl<W: Sink> Output<W> {
     // Adds what the task prints for a path. Returns true if the path is answered.
     pub(crate) fn answer(&mut self, task: &Task<'_>, path: Path<'_>) -> Result<bool, RunError>
         requires { write_failed self.old ≡ false }
-        ensures emitted { let value = task_value task.now in
-            Emitted W.Sink result self.old self.new
-            (text_for value.command value.settings path.entry.bytes.now) }
+        ensures emitted { Emitted W.Sink result self.old self.new
+            (text_for (task_value task.now) path.entry.bytes.now) }
         ensures answered { IfOk result (λ is_answered.
             is_answered ≡ answers (task_value task.now) path.entry.bytes.now) }
         ensures bounded { OnOk result (length (unwritten self.new) < 65536) }

@@ -3,9 +3,8 @@ ghost use Rattle.std.specs.Prelude.{◌≡◌, ◌++◌, OnOk, List, map, revers
 ghost use Rattle.std.specs.Iterator.{IsFinite, Drains};
 ghost use Rattle.unix_bytes.specs.declared.bytes.UnixStr.{UnixStr};
 ghost use Rattle.upath_commands.specs.Answers.{part_bytes, record_output};
-ghost use Rattle.upath_commands.specs.Invocations.{settings_value};
 
-use crate::command::Settings;
+use crate::command::Options;
 use crate::push::push_answer;
 use std::alloc::AllocError;
 use unix_bytes::bytes::UnixStr;
@@ -15,18 +14,18 @@ use unix_path::{Component, Path};
 fn push_each<'a, I: Iterator<Item = UnixStr<'a>>>(
     items: I,
     path: Path<'_>,
-    settings: Settings<'_>,
+    options: Options,
     out: &mut Vec<u8>,
 ) -> Result<(), AllocError>
     requires can { I.can_next items }
     requires ends { IsFinite (I.remaining items) }
     ensures { OnOk result ((xs : List UnixStr) × Drains I.next_gives items xs
         × (out.new.items ≡ out.old.items
-        ++ record_output (settings_value settings.entry) path.entry.bytes.now
+        ++ record_output options path.entry.bytes.now
         (map (λ x. x.bytes.now) xs))) }
 {
     for item in items {
-        push_answer(path, item.as_bytes(), settings, out)?;
+        push_answer(path, item.as_bytes(), options, out)?;
     }
     Ok(())
 }
@@ -34,17 +33,17 @@ fn push_each<'a, I: Iterator<Item = UnixStr<'a>>>(
 // Appends the components.
 pub(crate) fn push_parts(
     path: Path<'_>,
-    settings: Settings<'_>,
+    options: Options,
     out: &mut Vec<u8>,
 ) -> Result<(), AllocError>
     ensures { OnOk result (out.new.items ≡ out.old.items
-        ++ record_output (settings_value settings.entry) path.entry.bytes.now
+        ++ record_output options path.entry.bytes.now
         (part_bytes path.entry.bytes.now)) }
 {
     push_each(
         path.components().map(Component::as_unix_str),
         path,
-        settings,
+        options,
         out,
     )
 }
@@ -52,12 +51,12 @@ pub(crate) fn push_parts(
 // Appends the components, from the last one.
 pub(crate) fn push_parts_from_back(
     path: Path<'_>,
-    settings: Settings<'_>,
+    options: Options,
     out: &mut Vec<u8>,
 ) -> Result<(), AllocError>
     ensures { OnOk result (out.new.items ≡ out.old.items
-        ++ record_output (settings_value settings.entry) path.entry.bytes.now
+        ++ record_output options path.entry.bytes.now
         (reverse (part_bytes path.entry.bytes.now))) }
 {
-    push_each(path.iter().rev(), path, settings, out)
+    push_each(path.iter().rev(), path, options, out)
 }

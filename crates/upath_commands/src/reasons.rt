@@ -1,11 +1,11 @@
 //! Why a path has no answer.
 ghost use Rattle.std.specs.Prelude.{◌≡◌, ◌++◌, IfOk, OnOk, option_map};
-ghost use Rattle.upath_commands.specs.Invocations.{command_value};
+ghost use Rattle.upath_commands.specs.Invocations.{task_value};
 ghost use Rattle.unix_path.specs.Parts.{is_rooted};
 ghost use Rattle.upath_commands.specs.Refusals.{join_reason, no_relative, reason_line, reason_of};
 ghost use Rattle.upath_commands.specs.Refusals.{reason_text, unkey_reason};
 
-use crate::command::{Command, JoinRule};
+use crate::command::{Command, JoinRule, Task};
 use crate::escapes::escapes;
 use crate::keys::unkeyed_path;
 use crate::shown::push_shown;
@@ -62,22 +62,22 @@ fn unkey_reason(alloc: Global, null: bool, text: &[u8]) -> Result<&'static [u8],
 // Returns why a path has no answer that has none. Allocates for `unkey`.
 pub(crate) fn reason_of<'a>(
     alloc: Global,
-    command: Command<'a>,
-    null: bool,
+    task: &Task<'a>,
     path: Path<'_>,
 ) -> Result<Option<Reason<'a>>, AllocError>
-    ensures { IfOk result (λ found. option_map reason_text found
-        ≡ reason_of (command_value command.entry) null path.entry.bytes.now) }
+    ensures { let value = task_value task.now in IfOk result (λ found.
+        option_map reason_text found ≡ reason_of value.command value path.entry.bytes.now) }
 {
-    Ok(Some(match command {
+    let null = task.options.null;
+    Ok(Some(match task.command {
         Command::Parent => Reason::Plain(b"no parent"),
         Command::Name | Command::Stem => Reason::Plain(b"no file name"),
         Command::Extension => Reason::Plain(b"no extension"),
-        Command::Join(rule, _) => Reason::Plain(join_reason(rule, path)),
-        Command::Strip(_) => Reason::Plain(b"doesn't start with the base"),
-        Command::Relative(dir) => Reason::NoRelative(dir, no_relative(dir, path)),
+        Command::Join => Reason::Plain(join_reason(task.options.rule, path)),
+        Command::Strip => Reason::Plain(b"doesn't start with the base"),
+        Command::Relative => Reason::NoRelative(task.base, no_relative(task.base, path)),
         Command::Unkey => Reason::Plain(unkey_reason(alloc, null, path.bytes)?),
-        Command::Check(_) => Reason::Plain(b"is out of order"),
+        Command::Check => Reason::Plain(b"is out of order"),
         _ => return Ok(None),
     }))
 }

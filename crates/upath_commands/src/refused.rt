@@ -1,5 +1,5 @@
 //! What `archive` prints for the entries that are refused.
-ghost use Rattle.std.specs.Prelude.{◌≡◌, ◌++◌, ◌∷◌, [], OnOk, map};
+ghost use Rattle.std.specs.Prelude.{◌≡◌, ◌++◌, ◌∷◌, [], IfOk, OnOk, map};
 ghost use Rattle.std.specs.List.{flat_map};
 ghost use Rattle.std.specs.Str.{byte};
 ghost use Rattle.path_archive.specs.EntryViews.{entry_value};
@@ -8,15 +8,14 @@ ghost use Rattle.upath_commands.specs.Archives.{leaf_text, or_its_target, or_tar
 ghost use Rattle.upath_commands.specs.Archives.{reason_name};
 ghost use Rattle.upath_commands.specs.Archives.{refusal_message, refusal_record, refusal_text};
 ghost use Rattle.upath_commands.specs.Archives.{refused_line};
-ghost use Rattle.upath_commands.specs.Invocations.{settings_value};
 ghost use Rattle.upath_commands.specs.Shown.{shown};
 
-use crate::command::{ArchiveOptions, Settings};
+use crate::command::Options;
 use crate::push::end_of;
 use crate::searches::has_newline;
 use crate::shown::push_shown;
 use path_archive::{Entry, Reason, Refusal};
-use std::alloc::AllocError;
+use std::alloc::{AllocError, Global};
 use unix_path::Path;
 
 // Returns the entry with this number, or one without a path.
@@ -44,11 +43,11 @@ fn reason_name(reason: Reason) -> &'static [u8]
 }
 
 // Appends a path as it is printed.
-fn push_path(path: &[u8], settings: Settings<'_>, out: &mut Vec<u8>) -> Result<(), AllocError>
+fn push_path(path: &[u8], options: Options, out: &mut Vec<u8>) -> Result<(), AllocError>
     ensures { OnOk result (out.new.items ≡ out.old.items
-        ++ printed_path (settings_value settings.entry) path.now) }
+        ++ printed_path options path.now) }
 {
-    if has_newline(path) && !settings.null {
+    if has_newline(path) && !options.null {
         return push_shown(path, out);
     }
     out.extend_from_slice(path)?;
@@ -57,37 +56,35 @@ fn push_path(path: &[u8], settings: Settings<'_>, out: &mut Vec<u8>) -> Result<(
 
 // Appends the record for a refusal.
 fn push_record(
-    options: ArchiveOptions,
-    settings: Settings<'_>,
+    options: Options,
     entries: &[Entry<'_>],
     refusal: Refusal,
     out: &mut Vec<u8>,
 ) -> Result<(), AllocError>
-    ensures { OnOk result (out.new.items ≡ out.old.items ++ refusal_record options
-        (settings_value settings.entry) (map entry_value entries.now) refusal) }
+    ensures { OnOk result (out.new.items ≡ out.old.items
+        ++ refusal_record options (map entry_value entries.now) refusal) }
 {
     if options.with_reason {
         out.extend_from_slice(reason_name(refusal.reason))?;
         out.push(b'\t')?;
     }
-    push_path(entry_at(entries, refusal.entry).path().bytes, settings, out)?;
-    out.push(end_of(settings))?;
+    push_path(entry_at(entries, refusal.entry).path().bytes, options, out)?;
+    out.push(end_of(options))?;
     Ok(())
 }
 
 // Appends the record for each refusal.
 pub(crate) fn push_records(
-    options: ArchiveOptions,
-    settings: Settings<'_>,
+    options: Options,
     entries: &[Entry<'_>],
     refusals: &[Refusal],
     out: &mut Vec<u8>,
 ) -> Result<(), AllocError>
-    ensures { OnOk result (out.new.items ≡ out.old.items ++ flat_map (refusal_record options
-        (settings_value settings.entry) (map entry_value entries.now)) refusals.now) }
+    ensures { OnOk result (out.new.items ≡ out.old.items
+        ++ flat_map (refusal_record options (map entry_value entries.now)) refusals.now) }
 {
     for refusal in refusals {
-        push_record(options, settings, entries, *refusal, out)?;
+        push_record(options, entries, *refusal, out)?;
     }
     Ok(())
 }
@@ -227,21 +224,19 @@ fn cut_record(input: &[u8]) -> usize
     count / 3 + 1
 }
 
-// Appends the message for an input in which a record is cut off.
-pub(crate) fn push_cut(input: &[u8], out: &mut Vec<u8>) -> Result<(), AllocError>
-    ensures { OnOk result (out.new.items ≡ out.old.items ++ cut_line input.now) }
+// Returns the message for an input in which a record is cut off.
+pub(crate) fn cut_line(alloc: Global, input: &[u8]) -> Result<Vec<u8>, AllocError>
+    ensures { IfOk result (λ line. line.items ≡ cut_line input.now) }
 {
     let n = cut_record(input);
-    let line = format!(in *out.allocator(); "upath: record {n} is cut off\n")?;
-    out.extend_from_slice(line.as_bytes())?;
-    Ok(())
+    let line = format!(in alloc; "upath: record {n} is cut off\n")?;
+    Ok(line.into_bytes())
 }
 
-// Appends the message for a line, with this number, that isn't of the form of a listing.
-pub(crate) fn push_refused_line(n: usize, out: &mut Vec<u8>) -> Result<(), AllocError>
-    ensures { OnOk result (out.new.items ≡ out.old.items ++ refused_line n) }
+// Returns the message for a line, with this number, that isn't of the form of a listing.
+pub(crate) fn refused_line(alloc: Global, n: usize) -> Result<Vec<u8>, AllocError>
+    ensures { IfOk result (λ line. line.items ≡ refused_line n) }
 {
-    let line = format!(in *out.allocator(); "upath: line {n}: not a line of tar's listing\n")?;
-    out.extend_from_slice(line.as_bytes())?;
-    Ok(())
+    let line = format!(in alloc; "upath: line {n}: not a line of tar's listing\n")?;
+    Ok(line.into_bytes())
 }

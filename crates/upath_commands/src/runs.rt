@@ -6,7 +6,7 @@ ghost use Rattle.byte_streams.specs.Calls.{Many, ReadsUntilNone, WritesAndFlushe
 ghost use Rattle.byte_streams.specs.Calls.{WritesThenNone, WritesUntilNone};
 ghost use Rattle.byte_streams.specs.Watched.{has_failed, watched_inner};
 ghost use Rattle.upath_commands.specs.Arguments.{meaning_of};
-ghost use Rattle.upath_commands.specs.Invocations.{command_value, invocation_value, usage_value};
+ghost use Rattle.upath_commands.specs.Invocations.{invocation_value, task_value, usage_value};
 ghost use Rattle.upath_commands.specs.Outputs.{Ended, error_line, IsOfWrite};
 ghost use Rattle.upath_commands.specs.Records.{paths_of};
 ghost use Rattle.upath_commands.specs.Replies.{answers_failed, answers_flushed, answers_to};
@@ -17,12 +17,11 @@ ghost use Rattle.upath_commands.specs.Runs.{input_if, is_quiet, IsAnswer, IsStat
 ghost use Rattle.upath_commands.specs.Runs.{OnBegun, OnBegunReplies, OnPrinted, OnReplies, Ran};
 ghost use Rattle.upath_commands.specs.Runs.{reads, reads_input, Reported, yes_of};
 ghost use Rattle.upath_commands.specs.Sorting.{chosen, is_gathered};
-ghost use Rattle.upath_commands.specs.Tasks.{task_value};
 ghost use Rattle.upath_commands.specs.Usage.{usage_line};
 
 use crate::archive::give_archive;
 use crate::arguments::invocation_of;
-use crate::command::{Command, Invocation};
+use crate::command::{Command, Invocation, Task};
 use crate::engine::{answer_input, answer_paths};
 use crate::input::read_all;
 use crate::messages::{report_error, report_usage};
@@ -32,7 +31,6 @@ use crate::records::records_in;
 use crate::replies::{Replies, Tally};
 use crate::selection::Selection;
 use crate::sorting::{choose, is_gathered, is_uniq};
-use crate::task::Task;
 use crate::usage::UsageError;
 use byte_streams::{Sink, Source, Watched};
 use std::alloc::Global;
@@ -82,11 +80,11 @@ fn answer_gathered<W: Sink, E: Sink>(
     replies: &mut Replies<W, E>,
 ) -> Result<(), RunError>
     requires write { answers_failed replies.old ≡ false }
-    requires gathered { is_gathered (command_value task.now.command) ≡ true }
+    requires gathered { is_gathered task.now.command ≡ true }
     ensures { let value = task_value task.now in Replied W.Sink E.Sink value result replies.old
-        replies.new (chosen value.command (paths_of paths.entry.items)) }
+        replies.new (chosen value.command value.options (paths_of paths.entry.items)) }
 {
-    choose(task.command, &mut paths)?;
+    choose(task, &mut paths)?;
     let all = &mut Selection::All;
     answer_paths(alloc, task, all, paths.as_slice(), replies)
 }
@@ -100,7 +98,7 @@ fn answer_operands<W: Sink, E: Sink>(
 ) -> Result<(), RunError>
     requires { answers_failed replies.old ≡ false }
     ensures { let value = task_value task.now in Replied W.Sink E.Sink value result replies.old
-        replies.new (chosen value.command (paths_of paths.now)) }
+        replies.new (chosen value.command value.options (paths_of paths.now)) }
 {
     if is_gathered(task.command) {
         let paths = Vec::from_slice(alloc, paths)?;
@@ -119,13 +117,13 @@ fn gather_input<R: Source, W: Sink, E: Sink>(
 ) -> Result<(), RunError>
     requires write { answers_failed replies.old ≡ false }
     requires read { has_failed reader.old ≡ false }
-    requires gathered { is_gathered (command_value task.now.command) ≡ true }
+    requires gathered { is_gathered task.now.command ≡ true }
     ensures { let value = task_value task.now in
         RepliedTo R.Source W.Sink E.Sink value result reader.old reader.new replies.old replies.new
-        (asked value.command value.settings None) }
+        (asked value None) }
 {
     let input = read_all(alloc, reader)?;
-    let paths = records_in(alloc, input.as_slice(), end_of(task.settings))?;
+    let paths = records_in(alloc, input.as_slice(), end_of(task.options))?;
     answer_gathered(alloc, task, paths, replies)
 }
 
@@ -140,7 +138,7 @@ fn answer_records_read<R: Source, W: Sink, E: Sink>(
     requires read { has_failed reader.old ≡ false }
     ensures { let value = task_value task.now in
         RepliedTo R.Source W.Sink E.Sink value result reader.old reader.new replies.old replies.new
-        (asked value.command value.settings None) }
+        (asked value None) }
 {
     if is_gathered(task.command) {
         return gather_input(alloc, task, reader, replies);
@@ -150,11 +148,11 @@ fn answer_records_read<R: Source, W: Sink, E: Sink>(
 }
 
 // Returns the answer of a command, when it has answered its paths.
-fn yes_of(command: Command<'_>, tally: Tally) -> bool
-    ensures { result ≡ yes_of (command_value command.entry) tally.all tally.any }
+fn yes_of(command: Command, tally: Tally) -> bool
+    ensures { result ≡ yes_of command tally.all tally.any }
 {
     match command {
-        Command::Under(_, _) => tally.any,
+        Command::Under => tally.any,
         _ => tally.all,
     }
 }
@@ -168,7 +166,7 @@ fn give_operands<W: Sink, E: Sink>(
 ) -> Result<bool, RunError>
     requires { IsNew replies.old }
     ensures gave { let value = task_value task.now in GaveFor W.Sink E.Sink value result replies.old
-        replies.new (Some []) (λ _. chosen value.command (paths_of paths.now)) }
+        replies.new (Some []) (λ _. chosen value.command value.options (paths_of paths.now)) }
     ensures no_read { IfErr result (λ error. (error ≡ RunError.Read) → ⊥) }
 {
     answer_operands(alloc, task, paths, replies)?;
@@ -186,7 +184,7 @@ fn give_input<R: Source, W: Sink, E: Sink>(
     requires new { IsNew replies.old }
     ensures gave { let value = task_value task.now in GaveFor W.Sink E.Sink value result replies.old
         replies.new (R.remaining (watched_inner reader.old))
-        (asked value.command value.settings None) }
+        (asked value None) }
     ensures reads { ReadCalls R.Source result reader.old reader.new }
 {
     answer_records_read(alloc, task, reader, replies)?;
@@ -226,19 +224,11 @@ fn give<R: Source, W: Sink, E: Sink>(
         Invocation::Help(name) => give_text(help_text(texts, name.bytes), replies),
         Invocation::Version => give_text(texts.version, replies),
         Invocation::Equal(_, path, other) => Ok(path == other),
-        Invocation::Archive(options, settings) => {
-            give_archive(alloc, *options, *settings, reader, replies)
-        }
-        Invocation::Each(command, settings, paths) => {
-            let task = Task {
-                command: *command,
-                settings: *settings,
-            };
-            match paths {
-                Some(paths) => give_operands(alloc, &task, paths.as_slice(), replies),
-                None => give_input(alloc, &task, reader, replies),
-            }
-        }
+        Invocation::Archive(options) => give_archive(alloc, *options, reader, replies),
+        Invocation::Each(task, paths) => match paths {
+            Some(paths) => give_operands(alloc, task, paths.as_slice(), replies),
+            None => give_input(alloc, task, reader, replies),
+        },
     }
 }
 
@@ -270,9 +260,8 @@ fn is_quiet(invocation: &Invocation<'_>) -> bool
     ensures { result ≡ is_quiet (invocation_value invocation.now) }
 {
     match invocation {
-        Invocation::Equal(settings, _, _)
-        | Invocation::Archive(_, settings)
-        | Invocation::Each(_, settings, _) => settings.quiet,
+        Invocation::Equal(options, _, _) | Invocation::Archive(options) => options.quiet,
+        Invocation::Each(task, _) => task.options.quiet,
         _ => false,
     }
 }

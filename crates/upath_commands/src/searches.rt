@@ -8,12 +8,12 @@ ghost use Rattle.upath_commands.specs.Arguments.{is_dashes, last_value, newline_
 ghost use Rattle.upath_commands.specs.Arguments.{request_after, requested, unknown_option};
 ghost use Rattle.upath_commands.specs.Invocations.{invocation_value, meaning_value, view_bytes};
 ghost use Rattle.upath_commands.specs.Invocations.{usage_value};
-ghost use Rattle.upath_commands.specs.Options.{verb_by_name};
+ghost use Rattle.upath_commands.specs.Options.{command_by_name};
 ghost use Rattle.upath_commands.specs.Items.{item_value};
 
-use crate::command::Invocation;
+use crate::command::{Command, Invocation};
 use crate::items::{Item, ItemKind};
-use crate::options::{Flag, Request, Verb, has_option, verb_by_name};
+use crate::options::{Flag, Request, command_by_name, has_option};
 use crate::usage::{UsageError, UsageErrorKind};
 use std::alloc::{AllocError, Global};
 use unix_bytes::internal::find_byte;
@@ -53,9 +53,9 @@ pub(crate) fn asked_of<'a>(
     name: Path<'a>,
 ) -> Result<Invocation<'a>, UsageError<'a>>
     ensures { meaning_value result ≡ asked_of request (view_bytes name.entry)
-        (verb_by_name (view_bytes name.entry)) }
+        (command_by_name (view_bytes name.entry)) }
 {
-    match verb_by_name(name.bytes) {
+    match command_by_name(name.bytes) {
         Some(_) => Ok(requested(request, name)),
         None => Err(UsageError {
             kind: UsageErrorKind::UnknownCommand,
@@ -142,14 +142,14 @@ fn unknown_option(bytes: Path<'_>) -> UsageError<'_>
 /// Returns the first option that the command doesn't have, as an unknown option, or `None` if it
 /// has all of them.
 ///
-/// For `Verb::Canon` and the items of `canon` and `-b` it is `b`.
-pub fn foreign_option<'a>(verb: Verb, items: &[Item<'a>]) -> Option<UsageError<'a>>
+/// For `Command::Canon` and the items of `canon` and `-b` it is `b`.
+pub fn foreign_option<'a>(command: Command, items: &[Item<'a>]) -> Option<UsageError<'a>>
     ensures { option_map usage_value result
-        ≡ first_of (foreign_option verb) (map item_value items.now) }
+        ≡ first_of (foreign_option command) (map item_value items.now) }
 {
     for item in items {
         if let ItemKind::Option(flag) = item.kind {
-            if !has_option(verb, flag) {
+            if !has_option(command, flag) {
                 return Some(unknown_option(item.bytes));
             }
         }

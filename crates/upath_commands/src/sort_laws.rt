@@ -1,10 +1,12 @@
 //! Laws of what `sort` and `uniq` write.
-ghost use Rattle.std.specs.Prelude.{◌≡◌, ◌++◌, ◌∷◌, [], ℕ, Bool, true, false, List, AllPairs};
+ghost use Rattle.std.specs.Prelude.{◌≡◌, ◌++◌, ◌∷◌, [], ℕ, true, false, List, AllPairs};
 ghost use Rattle.std.specs.Prelude.{if◌then◌else◌};
 ghost use Rattle.std.specs.List.{list_any};
 ghost use Rattle.std.specs.List.Sorted.{IsPermutation, IsSortedBy, IsStableBy};
 ghost use Rattle.upath_commands.specs.Sorting.{comes_before, firsts_of, same_path, sorted_by};
 ghost use Rattle.upath_commands.specs.Sorting.{sorted_of};
+
+use crate::command::Options;
 
 /// What `sort` writes without options is in path order (`ordered`), consists of the paths that were
 /// read (`same`), and leaves equal paths in their order (`stable`).
@@ -34,7 +36,7 @@ pub fn uniq_keeps_firsts()
 ///
 /// `b`, `a//b` and `a/b` become `a//b` and `b`.
 pub fn sort_unique_keeps_firsts()
-    ensures { (reversed : Bool) (paths : List (List ℕ))
-        → sorted_of record { unique = true; reversed = reversed } paths
-        ≡ sorted_of record { unique = false; reversed = reversed } (firsts_of paths) }
+    ensures { (all unique : Options) (paths : List (List ℕ))
+        → all.unique ≡ false → unique.unique ≡ true → unique.reversed ≡ all.reversed
+        → sorted_of unique paths ≡ sorted_of all (firsts_of paths) }
 {}

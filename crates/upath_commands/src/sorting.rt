@@ -3,12 +3,11 @@ ghost use Rattle.std.specs.Prelude.{◌≡◌, OnOk, OnErr, option_map, reverse,
 ghost use Rattle.std.specs.List.{dedup};
 ghost use Rattle.std.specs.Option.{option_to_list};
 ghost use Rattle.upath_commands.specs.Records.{paths_of};
-ghost use Rattle.upath_commands.specs.Invocations.{command_value};
 ghost use Rattle.upath_commands.specs.Sorting.{chosen, comes_before, disorder_of, is_gathered};
 ghost use Rattle.upath_commands.specs.Sorting.{is_uniq, may_precede, same_path, sorted_by};
 ghost use Rattle.upath_commands.specs.Sorting.{sorted_of};
 
-use crate::command::{Command, SortOptions};
+use crate::command::{Command, Options, Task};
 use std::alloc::AllocError;
 use unix_path::Path;
 
@@ -45,7 +44,7 @@ fn reverse_order(paths: &mut Vec<Path<'_>>)
 /// unchanged.
 ///
 /// With `unique`, `b`, `a//b` and `a/b` become `a//b` and `b`.
-pub fn sort_paths(options: SortOptions, paths: &mut Vec<Path<'_>>) -> Result<(), AllocError>
+pub fn sort_paths(options: Options, paths: &mut Vec<Path<'_>>) -> Result<(), AllocError>
     ensures ok { OnOk result (paths_of paths.new.items
         ≡ sorted_of options (paths_of paths.old.items)) }
     ensures err { OnErr result (paths_of paths.new.items ≡ paths_of paths.old.items) }
@@ -61,7 +60,7 @@ pub fn sort_paths(options: SortOptions, paths: &mut Vec<Path<'_>>) -> Result<(),
 }
 
 // Returns true if and only if the first path may come just before the second in a sorted list.
-fn may_precede(options: SortOptions, path: Path<'_>, next: Path<'_>) -> bool
+fn may_precede(options: Options, path: Path<'_>, next: Path<'_>) -> bool
     ensures { result ≡ may_precede options path.entry.bytes.now next.entry.bytes.now }
 {
     let (first, second) = if options.reversed {
@@ -79,7 +78,7 @@ fn may_precede(options: SortOptions, path: Path<'_>, next: Path<'_>) -> bool
 // Returns the first path that is out of order, or `None` if there is none.
 //
 // Of `a`, `c` and `b` it is `b`.
-pub(crate) fn disorder_of<'a>(options: SortOptions, paths: &[Path<'a>]) -> Option<Path<'a>>
+pub(crate) fn disorder_of<'a>(options: Options, paths: &[Path<'a>]) -> Option<Path<'a>>
     ensures { option_map (λ path. path.bytes.now) result
         ≡ disorder_of options (paths_of paths.now) }
 {
@@ -96,7 +95,7 @@ pub(crate) fn disorder_of<'a>(options: SortOptions, paths: &[Path<'a>]) -> Optio
 }
 
 // Leaves only the first path that is out of order.
-fn keep_disorder(options: SortOptions, paths: &mut Vec<Path<'_>>) -> Result<(), AllocError>
+fn keep_disorder(options: Options, paths: &mut Vec<Path<'_>>) -> Result<(), AllocError>
     ensures { OnOk result (paths_of paths.new.items
         ≡ option_to_list (disorder_of options (paths_of paths.old.items))) }
 {
@@ -109,28 +108,28 @@ fn keep_disorder(options: SortOptions, paths: &mut Vec<Path<'_>>) -> Result<(), 
 }
 
 // Returns true if and only if the command needs all paths before it answers.
-pub(crate) fn is_gathered(command: Command<'_>) -> bool
-    ensures { result ≡ is_gathered (command_value command.entry) }
+pub(crate) fn is_gathered(command: Command) -> bool
+    ensures { result ≡ is_gathered command }
 {
-    matches!(command, Command::Sort(_) | Command::Check(_))
+    matches!(command, Command::Sort | Command::Check)
 }
 
 // Leaves the paths that a command answers that needs all paths, in their order.
-pub(crate) fn choose(command: Command<'_>, paths: &mut Vec<Path<'_>>) -> Result<(), AllocError>
-    requires { is_gathered (command_value command) ≡ true }
+pub(crate) fn choose(task: &Task<'_>, paths: &mut Vec<Path<'_>>) -> Result<(), AllocError>
+    requires { is_gathered task.now.command ≡ true }
     ensures { OnOk result (paths_of paths.new.items
-        ≡ chosen (command_value command.entry) (paths_of paths.old.items)) }
+        ≡ chosen task.now.command task.now.options (paths_of paths.old.items)) }
 {
-    match command {
-        Command::Sort(options) => sort_paths(options, paths),
-        Command::Check(options) => keep_disorder(options, paths),
+    match task.command {
+        Command::Sort => sort_paths(task.options, paths),
+        Command::Check => keep_disorder(task.options, paths),
         _ => Ok(()),
     }
 }
 
 // Returns true if the command answers only the first of equal paths.
-pub(crate) fn is_uniq(command: Command<'_>) -> bool
-    ensures { result ≡ is_uniq (command_value command.entry) }
+pub(crate) fn is_uniq(command: Command) -> bool
+    ensures { result ≡ is_uniq command }
 {
     matches!(command, Command::Uniq)
 }

@@ -3,8 +3,7 @@
 use std::alloc::{AllocError, Global};
 use unix_path::Path;
 use upath_commands::{
-    Command, EscapesOptions, Invocation, JoinRule, Settings, SortOptions, UnderOptions, UsageError,
-    argument_paths, invocation_of,
+    Command, Invocation, JoinRule, Options, Task, UsageError, argument_paths, invocation_of,
 };
 
 // Appends a word, and then the bytes of a path.
@@ -22,69 +21,67 @@ fn push_if(out: &mut Vec<u8>, is_given: bool, word: &str) -> Result<(), AllocErr
     Ok(())
 }
 
-// Appends a slash, and a letter for each setting that is on.
-fn push_settings(out: &mut Vec<u8>, settings: Settings<'_>) -> Result<(), AllocError> {
+// Appends a slash, and a letter for each option that every command has and that is given.
+fn push_letters(out: &mut Vec<u8>, options: Options) -> Result<(), AllocError> {
     out.push(b'/')?;
-    push_if(out, settings.null, "z")?;
-    push_if(out, settings.pair, "p")?;
-    push_if(out, settings.quiet, "q")?;
-    match settings.or {
-        Some(text) => push(out, "o", text),
-        None => Ok(()),
-    }
+    push_if(out, options.null, "z")?;
+    push_if(out, options.pair, "p")?;
+    push_if(out, options.quiet, "q")
 }
 
-fn push_escapes(out: &mut Vec<u8>, options: EscapesOptions) -> Result<(), AllocError> {
-    out.extend_from_slice(b"escapes")?;
+// Appends a word for each option of this command that is given.
+fn push_options(out: &mut Vec<u8>, options: Options) -> Result<(), AllocError> {
     push_if(out, options.inverted, "+inverted")?;
-    push_if(out, options.with_reason, "+reason")
-}
-
-fn push_under(out: &mut Vec<u8>, options: UnderOptions, base: Path<'_>) -> Result<(), AllocError> {
-    push(out, "under:", base)?;
-    push_if(out, options.inverted, "+inverted")?;
+    push_if(out, options.with_reason, "+reason")?;
     push_if(out, options.stripped, "+stripped")?;
-    push_if(out, options.by_components, "+by-components")
-}
-
-fn push_sort(out: &mut Vec<u8>, name: &str, options: SortOptions) -> Result<(), AllocError> {
-    push(out, name, Path { bytes: b"" })?;
+    push_if(out, options.by_components, "+by-components")?;
     push_if(out, options.unique, "+unique")?;
     push_if(out, options.reversed, "+reversed")
 }
 
-fn push_join(out: &mut Vec<u8>, rule: JoinRule, root: Path<'_>) -> Result<(), AllocError> {
+fn join_name(rule: JoinRule) -> &'static str {
     match rule {
-        JoinRule::Trusted => push(out, "join:", root),
-        JoinRule::Beneath => push(out, "beneath:", root),
-        JoinRule::InRoot => push(out, "in-root:", root),
-        JoinRule::Verbatim => push(out, "verbatim:", root),
+        JoinRule::Trusted => "join:",
+        JoinRule::Beneath => "beneath:",
+        JoinRule::InRoot => "in-root:",
+        JoinRule::Verbatim => "verbatim:",
+    }
+}
+
+// The command's name, with a colon before its own operand.
+fn name_of(task: Task<'_>) -> &'static str {
+    match task.command {
+        Command::Canon => "canon",
+        Command::Resolve => "resolve",
+        Command::Parent => "parent",
+        Command::Ancestors => "ancestors",
+        Command::Name => "name",
+        Command::Stem => "stem",
+        Command::Extension => "ext",
+        Command::Parts if task.options.from_back => "parts-from-back",
+        Command::Parts => "parts",
+        Command::Join => join_name(task.options.rule),
+        Command::Strip => "strip:",
+        Command::Relative => "relative:",
+        Command::Key => "key",
+        Command::Unkey => "unkey",
+        Command::Escapes => "escapes",
+        Command::Under => "under:",
+        Command::Sort => "sort",
+        Command::Check => "check",
+        Command::Uniq => "uniq",
+        Command::Archive | Command::Equal => "no task",
     }
 }
 
 // The command's name, with its options and its own operand.
-fn push_command(out: &mut Vec<u8>, command: Command<'_>) -> Result<(), AllocError> {
-    let none = Path { bytes: b"" };
-    match command {
-        Command::Canon => push(out, "canon", none),
-        Command::Resolve => push(out, "resolve", none),
-        Command::Parent => push(out, "parent", none),
-        Command::Ancestors => push(out, "ancestors", none),
-        Command::Name => push(out, "name", none),
-        Command::Stem => push(out, "stem", none),
-        Command::Extension => push(out, "ext", none),
-        Command::Parts => push(out, "parts", none),
-        Command::PartsFromBack => push(out, "parts-from-back", none),
-        Command::Join(rule, root) => push_join(out, rule, root),
-        Command::Strip(base) => push(out, "strip:", base),
-        Command::Relative(dir) => push(out, "relative:", dir),
-        Command::Key => push(out, "key", none),
-        Command::Unkey => push(out, "unkey", none),
-        Command::Escapes(options) => push_escapes(out, options),
-        Command::Under(options, base) => push_under(out, options, base),
-        Command::Sort(options) => push_sort(out, "sort", options),
-        Command::Check(options) => push_sort(out, "check", options),
-        Command::Uniq => push(out, "uniq", none),
+fn push_task(out: &mut Vec<u8>, task: Task<'_>) -> Result<(), AllocError> {
+    push(out, name_of(task), task.base)?;
+    push_options(out, task.options)?;
+    push_letters(out, task.options)?;
+    match task.or {
+        Some(text) => push(out, "o", text),
+        None => Ok(()),
     }
 }
 
@@ -92,29 +89,23 @@ fn push_invocation(out: &mut Vec<u8>, invocation: Invocation<'_>) -> Result<(), 
     match invocation {
         Invocation::Help(name) => push(out, "help:", name)?,
         Invocation::Version => out.extend_from_slice(b"version")?,
-        Invocation::Equal(settings, a, b) => {
+        Invocation::Equal(options, a, b) => {
             push(out, "equal:", a)?;
             push(out, "=", b)?;
-            push_settings(out, settings)?;
+            push_letters(out, options)?;
         }
-        Invocation::Archive(options, settings) => {
+        Invocation::Archive(options) => {
             out.extend_from_slice(b"archive")?;
-            if options.closed {
-                out.extend_from_slice(b" closed")?;
-            }
-            if options.tar_list {
-                out.extend_from_slice(b" tar-list")?;
-            }
-            push_settings(out, settings)?;
+            push_if(out, options.closed, " closed")?;
+            push_if(out, options.tar_list, " tar-list")?;
+            push_letters(out, options)?;
         }
-        Invocation::Each(command, settings, None) => {
-            push_command(out, command)?;
-            push_settings(out, settings)?;
+        Invocation::Each(task, None) => {
+            push_task(out, task)?;
             push(out, " <", Path { bytes: b"" })?;
         }
-        Invocation::Each(command, settings, Some(paths)) => {
-            push_command(out, command)?;
-            push_settings(out, settings)?;
+        Invocation::Each(task, Some(paths)) => {
+            push_task(out, task)?;
             for path in &paths {
                 push(out, " ", *path)?;
             }

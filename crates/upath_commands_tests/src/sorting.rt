@@ -2,12 +2,31 @@
 
 use std::alloc::{AllocError, Global};
 use unix_path::Path;
-use upath_commands::{Selection, SortOptions, records_in, sort_paths};
+use upath_commands::{JoinRule, Options, Selection, records_in, sort_paths};
+
+// The options `-u` and `-r`, if they are given.
+fn options(unique: bool, reversed: bool) -> Options {
+    Options {
+        null: false,
+        pair: false,
+        quiet: false,
+        from_back: false,
+        rule: JoinRule::Trusted,
+        inverted: false,
+        with_reason: false,
+        tar_list: false,
+        closed: false,
+        stripped: false,
+        by_components: false,
+        unique,
+        reversed,
+    }
+}
 
 // The records of a text, sorted, with a bar after each.
 fn sorted(alloc: Global, text: &str, unique: bool, reversed: bool) -> Result<Vec<u8>, AllocError> {
     let mut paths = records_in(alloc, text.as_bytes(), b' ')?;
-    sort_paths(SortOptions { unique, reversed }, &mut paths)?;
+    sort_paths(options(unique, reversed), &mut paths)?;
     let mut out = Vec::new(alloc);
     for path in &paths {
         out.extend_from_slice(path.bytes)?;

@@ -9,9 +9,10 @@ use Rattle.std.proofs.lemmas.List.Splits.{slice_split-cons_no}
 use Rattle.upath_commands.specs.AnswerLaws.{Lacks, printed_for}
 use Rattle.upath_commands.specs.Answers.{dot_if_empty, end_of, record_of, record_output}
 use Rattle.upath_commands.specs.Commands.{printed_of, text_for}
-use Rattle.upath_commands.specs.Invocations.{SettingsValue}
+use Rattle.upath_commands.specs.declared.command.Options.{Options}
 use Rattle.upath_commands.specs.Records.{records_of}
-use Rattle.upath_commands.specs.Tasks.{TaskValue, answers, message_of, messages_of, output_of}
+use Rattle.upath_commands.specs.Invocations.{TaskValue}
+use Rattle.upath_commands.specs.Tasks.{answers, message_of, messages_of, output_of}
 use Rattle.upath_commands.proofs.lemmas.RecordLemmas.{by_test, records_before, records_of-nil}
 
 -- `.` is printed in place of the empty path
@@ -42,62 +43,62 @@ records-written end (r ∷ records) h =
     ap (records_of end) (append_assoc r (end ∷ []) rest) ∙ records_before end r rest
     ∙ ap₂ (λ xs ys. xs ++ ys) (one_piece end r h.0) (records-written end records h.1)
 
-module _ (settings : SettingsValue) (p : List ℕ) where
-  record-alone : (answer : List ℕ) → settings.pair ≡ false
-      → record_of settings p answer ≡ answer ++ end_of settings ∷ []
+module _ (options : Options) (p : List ℕ) where
+  record-alone : (answer : List ℕ) → options.pair ≡ false
+      → record_of options p answer ≡ answer ++ end_of options ∷ []
   record-alone answer h = rw h refl
 
-  records-alone : (answers : List (List ℕ)) → settings.pair ≡ false
-      → flat_map (record_of settings p) answers
-      ≡ flat_map (λ answer. answer ++ end_of settings ∷ []) answers
+  records-alone : (answers : List (List ℕ)) → options.pair ≡ false
+      → flat_map (record_of options p) answers
+      ≡ flat_map (λ answer. answer ++ end_of options ∷ []) answers
   records-alone [] h = refl
   records-alone (a ∷ answers) h =
       ap₂ (λ xs ys. xs ++ ys) (record-alone a h) (records-alone answers h)
 
-  output-loud : (answers : List (List ℕ)) → settings.quiet ≡ false
-      → record_output settings p answers ≡ flat_map (record_of settings p) answers
+  output-loud : (answers : List (List ℕ)) → options.quiet ≡ false
+      → record_output options p answers ≡ flat_map (record_of options p) answers
   output-loud answers h = rw h refl
 
-  output-quiet : (answers : List (List ℕ)) → settings.quiet ≡ true
-      → record_output settings p answers ≡ []
+  output-quiet : (answers : List (List ℕ)) → options.quiet ≡ true
+      → record_output options p answers ≡ []
   output-quiet answers h = rw h refl
 
 module _ (task : TaskValue) where
   -- the output has each answer and then the byte that ends records
-  output-is : (paths : List (List ℕ)) → task.settings.quiet ≡ false → task.settings.pair ≡ false
+  output-is : (paths : List (List ℕ)) → task.options.quiet ≡ false → task.options.pair ≡ false
       → output_of task paths
-      ≡ flat_map (λ answer. answer ++ end_of task.settings ∷ []) (printed_for task paths)
+      ≡ flat_map (λ answer. answer ++ end_of task.options ∷ []) (printed_for task paths)
   output-is [] loud alone = refl
   output-is (p ∷ paths) loud alone =
-      let printed = printed_of task.command task.settings p in
+      let printed = printed_of task p in
       ap₂ (λ xs ys. xs ++ ys)
-      (output-loud task.settings p printed loud ∙ records-alone task.settings p printed alone)
+      (output-loud task.options p printed loud ∙ records-alone task.options p printed alone)
       (output-is paths loud alone)
-      ∙ sym (flat_map-append (λ answer. answer ++ end_of task.settings ∷ []) printed
+      ∙ sym (flat_map-append (λ answer. answer ++ end_of task.options ∷ []) printed
       (printed_for task paths))
 
-  pub output-reads_back : (paths : List (List ℕ)) → task.settings.quiet ≡ false
-      → task.settings.pair ≡ false
-      → AllByRecursion (Lacks (end_of task.settings)) (printed_for task paths)
-      → records_of (end_of task.settings) (output_of task paths) ≡ printed_for task paths
+  pub output-reads_back : (paths : List (List ℕ)) → task.options.quiet ≡ false
+      → task.options.pair ≡ false
+      → AllByRecursion (Lacks (end_of task.options)) (printed_for task paths)
+      → records_of (end_of task.options) (output_of task paths) ≡ printed_for task paths
   output-reads_back paths loud alone whole =
-      ap (records_of (end_of task.settings)) (output-is paths loud alone)
-      ∙ records-written (end_of task.settings) (printed_for task paths) whole
+      ap (records_of (end_of task.options)) (output-is paths loud alone)
+      ∙ records-written (end_of task.options) (printed_for task paths) whole
 
   all_nothing : (f : List ℕ → List ℕ) → ((p : List ℕ) → f p ≡ []) → (paths : List (List ℕ))
       → flat_map f paths ≡ []
   all_nothing f h [] = refl
   all_nothing f h (p ∷ paths) = ap₂ (λ xs ys. xs ++ ys) (h p) (all_nothing f h paths)
 
-  no_message : task.settings.quiet ≡ true → (p : List ℕ) → message_of task p ≡ []
+  no_message : task.options.quiet ≡ true → (p : List ℕ) → message_of task p ≡ []
   no_message h p = by_test (answers task p) (λ e. rw e refl) (λ e. rw e (rw h refl))
 
-  pub output-nothing : (paths : List (List ℕ)) → task.settings.quiet ≡ true
+  pub output-nothing : (paths : List (List ℕ)) → task.options.quiet ≡ true
       → output_of task paths ≡ []
   output-nothing paths h =
-      all_nothing (text_for task.command task.settings)
-      (λ p. output-quiet task.settings p (printed_of task.command task.settings p) h) paths
+      all_nothing (text_for task)
+      (λ p. output-quiet task.options p (printed_of task p) h) paths
 
-  pub messages-nothing : (paths : List (List ℕ)) → task.settings.quiet ≡ true
+  pub messages-nothing : (paths : List (List ℕ)) → task.options.quiet ≡ true
       → messages_of task paths ≡ []
   messages-nothing paths h = all_nothing (message_of task) (no_message h) paths

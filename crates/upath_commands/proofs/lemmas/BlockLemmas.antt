@@ -7,7 +7,7 @@ use Rattle.std.specs.Io.KnownBytes.{Consumes, IsAtEnd}
 use Rattle.upath_commands.specs.Records.{records_of}
 use Rattle.upath_commands.specs.Replies.{Answered, State, Stopped}
 use Rattle.upath_commands.specs.Selections.{selected}
-use Rattle.upath_commands.specs.Tasks.{TaskValue}
+use Rattle.upath_commands.specs.Invocations.{TaskValue}
 use Rattle.upath_commands.specs.declared.selection.Selection.{Selection}
 use Rattle.upath_commands.proofs.lemmas.RecordLemmas.{records_meet}
 use Rattle.upath_commands.proofs.lemmas.ReplyLemmas.{Answered-nil, Answered-then, Stopped-as}

@@ -16,7 +16,8 @@ use Rattle.upath_commands.specs.Outputs.{Wrote, write_failed, written_to}
 use Rattle.upath_commands.specs.Refusals.{message_for}
 use Rattle.upath_commands.specs.Replies.{Answered, answers_failed, answers_to, Called, Replied}
 use Rattle.upath_commands.specs.Replies.{ReadCalls, RepliedTo, State, state_of, Stopped}
-use Rattle.upath_commands.specs.Tasks.{TaskValue, answers, message_of}
+use Rattle.upath_commands.specs.Invocations.{TaskValue}
+use Rattle.upath_commands.specs.Tasks.{answers, message_of}
 use Rattle.upath_commands.specs.declared.output.Output.{Output}
 use Rattle.upath_commands.specs.declared.output.RunError.{RunError}
 use Rattle.upath_commands.specs.declared.output.RunError.TheVariants.{Memory, Read}
@@ -245,7 +246,7 @@ module _ {W E : Type 0} (w : Sink W) (e : Sink E) where
         (old new : Replies W E) (p : List ℕ) → is_ok result ≡ false
         → IfErr result (λ error. (error ≡ Read) → ⊥) → answers_failed new ≡ is_write_error result
         → Emitted {A = Bool} w (Err error) old.answers new.answers
-        (text_for task.command task.settings p) → new.messages ≡ old.messages
+        (text_for task p) → new.messages ≡ old.messages
         → Replied w e task result old new (p ∷ [])
     replied_failed error result old new p fails other failed h same =
         let t : Told e old.messages new.messages [] = rw same (Told-none e old.messages) in
@@ -255,7 +256,7 @@ module _ {W E : Type 0} (w : Sink W) (e : Sink E) where
 
     module _ (p : List ℕ) (is : Bool) (old new : Replies W E)
         (h : Emitted {A = Bool} w (Ok is) old.answers new.answers
-        (text_for task.command task.settings p)) (said : is ≡ answers task p)
+        (text_for task p)) (said : is ≡ answers task p)
         (all : new.tally.all ≡ (old.tally.all && is))
         (any : new.tally.any ≡ (old.tally.any || is)) where
       one_answered : Told e old.messages new.messages (message_of task p)
@@ -274,8 +275,7 @@ module _ {W E : Type 0} (w : Sink W) (e : Sink E) where
 
       -- the path is not answered, and the message for it was written or failed
       pub replied_no : (result : Result (Unit {0}) RunError) → is ≡ false
-          → OnOk result (Told e old.messages new.messages
-          (message_for task.command task.settings p))
+          → OnOk result (Told e old.messages new.messages (message_for task p))
           → OnErr result (Told e old.messages new.messages [])
           → IfErr result (λ error. error ≡ Memory) → Replied w e task result old new (p ∷ [])
       replied_no (Ok x) d t f m =

@@ -12,8 +12,7 @@ use Rattle.tar_listing.specs.Laws.{ListingReadsBack}
 use Rattle.upath_commands.specs.Archives.{IsSafeIn, OnEntries, OnInput, cut_line, entries_messages}
 use Rattle.upath_commands.specs.Archives.{entries_output, level_of, none_refused, refused_line}
 use Rattle.upath_commands.specs.Archives.{AreSafe}
-use Rattle.upath_commands.specs.Invocations.{SettingsValue}
-use Rattle.upath_commands.specs.declared.command.ArchiveOptions.{ArchiveOptions}
+use Rattle.upath_commands.specs.declared.command.Options.{Options}
 
 -- entries that are known twice are the same
 same_entries : (o : Option (List EntryValue)) (es fs : List EntryValue) → o ≡ Some es
@@ -25,42 +24,42 @@ no_entries : {A : Type 0} (o : Option (List EntryValue)) (es : List EntryValue) 
     → o ≡ Some es → A
 no_entries o es e f = absurd (let g : Some es ≡ None = sym f ∙ e in cc)
 
-module _ (options : ArchiveOptions) (settings : SettingsValue) where
+module _ (options : Options) where
   -- a record is cut off
   pub cut_texts : (P : List ℕ → List ℕ → Type 0) (records : List ℕ) → entries_in records ≡ None
-      → P [] (if settings.quiet then [] else cut_line records)
-      → OnInput false options settings records P
+      → P [] (if options.quiet then [] else cut_line records)
+      → OnInput false options records P
   cut_texts P records none h = inl (cut_line records, (none, refl), h)
 
   -- no record is cut off
   pub records_texts : (P : List ℕ → List ℕ → Type 0) (records : List ℕ) (es : List EntryValue)
       (rs : List Refusal) → entries_in records ≡ Some es
       → Decides (level_of options) (numbered_from 0 es) rs
-      → P (entries_output options settings es rs) (entries_messages settings es rs)
-      → OnInput false options settings records P
+      → P (entries_output options es rs) (entries_messages options es rs)
+      → OnInput false options records P
   records_texts P records es rs read decides h = inr (es, read, (rs, decides, h))
 
   -- a line isn't of the form
   pub line_texts : (P : List ℕ → List ℕ → Type 0) (listing : List ℕ) (n : ℕ)
-      → IsRefusedAt listing n → P [] (if settings.quiet then [] else refused_line n)
-      → OnInput true options settings listing P
+      → IsRefusedAt listing n → P [] (if options.quiet then [] else refused_line n)
+      → OnInput true options listing P
   line_texts P listing n at h = inl (refused_line n, (n, at, refl), h)
 
   -- a listing has the records' entries
   pub listing_texts : (P : List ℕ → List ℕ → Type 0) (listing records : List ℕ)
-      → IsRead listing records → OnInput false options settings records P
-      → OnInput true options settings listing P
+      → IsRead listing records → OnInput false options records P
+      → OnInput true options listing P
   listing_texts P listing records is (inl (line, (none, same), h)) =
       no_entries (entries_in records) is.entries none is.read
   listing_texts P listing records is (inr (es, read, on)) =
       inr (
         is.entries,
         is.lines,
-        subst (λ es. OnEntries options settings es P)
+        subst (λ es. OnEntries options es P)
             (same_entries (entries_in records) es is.entries read is.read) on,
       )
 
-module _ (options : ArchiveOptions) (safe : Bool) where
+module _ (options : Options) (safe : Bool) where
   -- an input that is refused as a whole isn't safe
   pub cut_safe : (records : List ℕ) → entries_in records ≡ None → safe ≡ false
       → (safe ≡ true) ↔ IsSafeIn false options records

@@ -20,32 +20,30 @@ use Rattle.upath_commands.specs.Usage.{usage_line}
 
 -- the meaning is one of another command than `archive`
 abbrev pub is_other : Meaning → Bool
-is_other (Ok (Archive options settings)) = false
+is_other (Ok (Archive options)) = false
 is_other meaning = true
 
 -- what is written
 abbrev pub output_for : Texts → Meaning → List ℕ → List ℕ
 output_for texts (Ok (Help name)) input = help_text texts name
 output_for texts (Ok Version) input = texts.version.now
-output_for texts (Ok (Each command settings paths)) input =
-    output_of record { command = command; settings = settings } (asked command settings paths input)
+output_for texts (Ok (Each task paths)) input =
+    output_of task (asked task paths input)
 output_for texts meaning input = []
 
 -- the messages
 abbrev pub messages_for : Meaning → List ℕ → List ℕ
-messages_for (Ok (Each command settings paths)) input =
-    messages_of record { command = command; settings = settings }
-    (asked command settings paths input)
+messages_for (Ok (Each task paths)) input =
+    messages_of task (asked task paths input)
 messages_for (Ok invocation) input = []
 messages_for (Err usage) input = usage_line usage
 
 -- the exit status
 abbrev pub status_for : Meaning → List ℕ → ℕ
-status_for (Ok (Equal settings a b)) input =
+status_for (Ok (Equal options a b)) input =
     if is_eq (values_cmp (values a) (values b)) then 0 else 1
-status_for (Ok (Each command settings paths)) input =
-    if command_yes record { command = command; settings = settings }
-    (asked command settings paths input) then 0 else 1
+status_for (Ok (Each task paths)) input =
+    if command_yes task (asked task paths input) then 0 else 1
 status_for (Ok invocation) input = 0
 status_for (Err usage) input = 2
 
@@ -56,10 +54,10 @@ pub OnReplies-forms : (P : List ℕ → List ℕ → Type 0) (texts : Texts) (me
     (messages_for meaning input)
 OnReplies-forms P texts (Ok (Help name)) input other = (λ h. h, λ h. h)
 OnReplies-forms P texts (Ok Version) input other = (λ h. h, λ h. h)
-OnReplies-forms P texts (Ok (Equal settings a b)) input other = (λ h. h, λ h. h)
-OnReplies-forms P texts (Ok (Archive options settings)) input other =
+OnReplies-forms P texts (Ok (Equal options a b)) input other = (λ h. h, λ h. h)
+OnReplies-forms P texts (Ok (Archive options)) input other =
     absurd (false≢true other)
-OnReplies-forms P texts (Ok (Each command settings paths)) input other = (λ h. h, λ h. h)
+OnReplies-forms P texts (Ok (Each task paths)) input other = (λ h. h, λ h. h)
 OnReplies-forms P texts (Err usage) input other = (λ h. h, λ h. h)
 
 -- the same after an error
@@ -69,10 +67,10 @@ pub OnBegunReplies-forms : (P : List ℕ → List ℕ → Type 0) (texts : Texts
     (messages_for meaning input)
 OnBegunReplies-forms P texts (Ok (Help name)) input other = (λ h. h, λ h. h)
 OnBegunReplies-forms P texts (Ok Version) input other = (λ h. h, λ h. h)
-OnBegunReplies-forms P texts (Ok (Equal settings a b)) input other = (λ h. h, λ h. h)
-OnBegunReplies-forms P texts (Ok (Archive options settings)) input other =
+OnBegunReplies-forms P texts (Ok (Equal options a b)) input other = (λ h. h, λ h. h)
+OnBegunReplies-forms P texts (Ok (Archive options)) input other =
     absurd (false≢true other)
-OnBegunReplies-forms P texts (Ok (Each command settings paths)) input other = (λ h. h, λ h. h)
+OnBegunReplies-forms P texts (Ok (Each task paths)) input other = (λ h. h, λ h. h)
 OnBegunReplies-forms P texts (Err usage) input other = (λ h. h, λ h. h)
 
 -- a status of an answer that is known
@@ -88,10 +86,10 @@ IsStatus-forms (Ok (Help name)) input status other =
     (λ (answer, is, s). of_answer true answer status is s, λ s. (true, refl, s))
 IsStatus-forms (Ok Version) input status other =
     (λ (answer, is, s). of_answer true answer status is s, λ s. (true, refl, s))
-IsStatus-forms (Ok (Equal settings a b)) input status other =
+IsStatus-forms (Ok (Equal options a b)) input status other =
     (λ (answer, is, s). of_answer _ answer status is s, λ s. (_, refl, s))
-IsStatus-forms (Ok (Archive options settings)) input status other = absurd (false≢true other)
-IsStatus-forms (Ok (Each command settings paths)) input status other =
+IsStatus-forms (Ok (Archive options)) input status other = absurd (false≢true other)
+IsStatus-forms (Ok (Each task paths)) input status other =
     (λ (answer, is, s). of_answer _ answer status is s, λ s. (_, refl, s))
 IsStatus-forms (Err usage) input status other = (λ s. s, λ s. s)
 

@@ -8,16 +8,15 @@ use Rattle.byte_streams.specs.declared.io_traits.Source.{Ghosts as Source}
 use Rattle.byte_streams.specs.declared.watched.Watched.{Watched}
 use Rattle.byte_streams.proofs.lemmas.CallLemmas.{Many-none}
 use Rattle.upath_commands.specs.Archives.{IsSafe, IsText, OnArchive}
-use Rattle.upath_commands.specs.Invocations.{SettingsValue}
+use Rattle.upath_commands.specs.declared.command.Options.{Options}
 use Rattle.upath_commands.specs.Outputs.{Emitted, is_write_error, Told, unwritten}
 use Rattle.upath_commands.specs.Replies.{Added, answers_failed, answers_to, Broken, Called, Gave}
 use Rattle.upath_commands.specs.Replies.{GaveThis}
 use Rattle.upath_commands.specs.Replies.{is_deaf, IsNew, messages_to, OfPrinted, Replied, RepliedTo}
 use Rattle.upath_commands.specs.Replies.{state_of}
 use Rattle.upath_commands.specs.Runs.{GaveFor, yes_of}
-use Rattle.upath_commands.specs.Tasks.{TaskValue}
+use Rattle.upath_commands.specs.Invocations.{TaskValue}
 use Rattle.upath_commands.specs.declared.archive.Decision.{Decision}
-use Rattle.upath_commands.specs.declared.command.ArchiveOptions.{ArchiveOptions}
 use Rattle.upath_commands.specs.declared.output.RunError.{RunError}
 use Rattle.upath_commands.specs.declared.replies.Replies.{Replies}
 use Rattle.upath_commands.proofs.lemmas.ArchiveLemmas.{OnArchive-of}
@@ -182,27 +181,27 @@ module _ {W E : Type 0} (w : Sink W) (e : Sink E) where
 
   -- what a decision of `archive` tells and adds
   pub gave_archive : (result : Result Bool RunError) (old new : Replies W E)
-      (known : Option (List ℕ)) (options : ArchiveOptions) (settings : SettingsValue)
+      (known : Option (List ℕ)) (options : Options)
       (decision : Decision)
-      → IfSome known (λ input. OnArchive options settings input (IsText decision))
+      → IfSome known (λ input. OnArchive options input (IsText decision))
       → IfSome known (λ input. (decision.is_safe ≡ true) ↔ IsSafe options input)
       → GaveThis w e result old new (Some []) (λ input. decision.output.items)
       (λ input. decision.messages.items) (λ input. decision.is_safe)
-      → Gave w e result old new known (OnArchive options settings)
-      (λ input P. P [] [] ⊎ OnArchive options settings input P)
+      → Gave w e result old new known (OnArchive options)
+      (λ input P. P [] [] ⊎ OnArchive options input P)
       (λ input is. (is ≡ true) ↔ IsSafe options input)
-  gave_archive (Ok is) old new known options settings decision texts safe h = record {
+  gave_archive (Ok is) old new known options decision texts safe h = record {
     ok = IfSome-then known (λ input t. OnArchive-of (Added (state_of w e old) (state_of w e new))
-        decision options settings input h.ok t) texts;
+        decision options input h.ok t) texts;
     answer = IfSome-then known (λ input s. rw h.answer s) safe;
     err = tt;
     called = h.called;
   }
-  gave_archive (Err error) old new known options settings decision texts safe h = record {
+  gave_archive (Err error) old new known options decision texts safe h = record {
     ok = tt;
     answer = tt;
     err = IfSome-then known (λ input t. inr (OnArchive-of
-        (Broken (state_of w e old) (state_of w e new)) decision options settings input h.err t))
+        (Broken (state_of w e old) (state_of w e new)) decision options input h.err t))
         texts;
     called = h.called;
   }

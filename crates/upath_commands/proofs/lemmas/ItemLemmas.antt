@@ -13,14 +13,14 @@ use Rattle.unix_bytes.proofs.lemmas.prefixes.PrinterLemmas.{first_is_text}
 use Rattle.upath_commands.specs.declared.items.ItemKind.TheVariants as kind
 use Rattle.upath_commands.specs.declared.options.Flag.{Flag}
 use Rattle.upath_commands.specs.declared.options.Request.{Request}
-use Rattle.upath_commands.specs.declared.options.Verb.{Verb}
+use Rattle.upath_commands.specs.declared.command.Command.{Command}
 use Rattle.upath_commands.specs.declared.usage.UsageErrorKind.TheVariants.{UnknownLetter}
 use Rattle.upath_commands.specs.Arguments.{asked_first, first_word, meaning_of, meaning_of_items}
 use Rattle.upath_commands.specs.Arguments.{asked_of, asked_with, request_of, requested}
 use Rattle.upath_commands.specs.ArgumentLaws.{is_plain, short}
 use Rattle.upath_commands.specs.Items.{character, items_after, letter_item}
 use Rattle.upath_commands.specs.Items.{letter_items, operand}
-use Rattle.upath_commands.specs.Options.{option_by_letter, verb_by_name}
+use Rattle.upath_commands.specs.Options.{option_by_letter, command_by_name}
 
 -- bytes that differ are told apart
 pub differ : (xs ys : List ℕ) → xs ≢ ys → bytes_eq xs ys ≡ false
@@ -112,20 +112,20 @@ meaning_of-items arguments h =
     ap (λ asked. unwrap_or asked (meaning_of_items (items_after None arguments))) h
 
 -- the name of a command doesn't begin with a dash
-pub verb-plain : (name : List ℕ) → is_some (verb_by_name name) ≡ true → is_plain name ≡ true
-verb-plain [] h = absurd (false≢true h)
-verb-plain (b ∷ bs) h =
+pub command-plain : (name : List ℕ) → is_some (command_by_name name) ≡ true → is_plain name ≡ true
+command-plain [] h = absurd (false≢true h)
+command-plain (b ∷ bs) h =
     by_test (eqb b 45)
     (λ e. absurd (false≢true (rw (eqb-true b 45 e) at h)))
     (λ e. rw (ne_eqb 45 b (λ same. eqb-false b 45 e (sym same))) refl)
 
 -- no command is named `help`
-pub verb-not_help : (name : List ℕ) → is_some (verb_by_name name) ≡ true → name ≢ codes "help"
-verb-not_help name h same =
-    false≢true (ap (λ name. is_some (verb_by_name name)) (sym same) ∙ h)
+pub command-not_help : (name : List ℕ) → is_some (command_by_name name) ≡ true → name ≢ codes "help"
+command-not_help name h same =
+    false≢true (ap (λ name. is_some (command_by_name name)) (sym same) ∙ h)
 
 -- what is asked for on a command
-pub asked_of-known : (asked : Request) (name : List ℕ) (found : Option Verb)
+pub asked_of-known : (asked : Request) (name : List ℕ) (found : Option Command)
     → is_some found ≡ true → asked_of asked name found ≡ Ok (requested asked name)
 asked_of-known asked name None h = absurd (false≢true h)
-asked_of-known asked name (Some verb) h = refl
+asked_of-known asked name (Some command) h = refl

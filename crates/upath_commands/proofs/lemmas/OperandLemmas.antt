@@ -3,9 +3,10 @@ use Rattle.std.proofs.Common.{◌≡◌, ℕ, Bool, false, List, [], ◌∷◌, 
 use Rattle.std.proofs.Common.{Option, Some, None, Ok}
 use Rattle.std.proofs.Common.{refl, ap}
 use Rattle.std.specs.List.{filter_map, list_any}
-use Rattle.upath_commands.specs.Arguments.{each, first_of, operands_of, settings_of}
-use Rattle.upath_commands.specs.Invocations.{CommandValue, Each}
+use Rattle.upath_commands.specs.Arguments.{each, first_of, operands_of, task_of}
+use Rattle.upath_commands.specs.Invocations.{Each}
 use Rattle.upath_commands.specs.Items.{ItemValue, operand}
+use Rattle.upath_commands.specs.declared.command.Command.{Command}
 
 pub first_of-operands : {A : Type 0} (f : ItemValue → Option A)
     → ((b : List ℕ) → f (operand b) ≡ None) → (ps : List (List ℕ))
@@ -29,18 +30,20 @@ operands_of-operands [] = refl
 operands_of-operands (p ∷ ps) = ap (λ l. p ∷ l) (operands_of-operands ps)
 
 -- the paths of a command without an operand of its own, if `--` comes just after its name
-pub each-first : (command : CommandValue) (name : List ℕ) (items : List ItemValue)
-    (ps : List (List ℕ)) → each command record { name = name; items = items; dashes = 1 } 1 ps
-    ≡ Ok (Each command (settings_of items) (Some ps))
-each-first command name items [] = refl
-each-first command name items (p ∷ ps) = refl
+pub each-first : (command : Command) (base name : List ℕ) (items : List ItemValue)
+    (ps : List (List ℕ))
+    → each command base record { name = name; items = items; dashes = 1 } 1 ps
+    ≡ Ok (Each (task_of command base items) (Some ps))
+each-first command base name items [] = refl
+each-first command base name items (p ∷ ps) = refl
 
 -- the same of a command with one
-pub each-second : (command : CommandValue) (name : List ℕ) (items : List ItemValue)
-    (ps : List (List ℕ)) → each command record { name = name; items = items; dashes = 2 } 2 ps
-    ≡ Ok (Each command (settings_of items) (Some ps))
-each-second command name items [] = refl
-each-second command name items (p ∷ ps) = refl
+pub each-second : (command : Command) (base name : List ℕ) (items : List ItemValue)
+    (ps : List (List ℕ))
+    → each command base record { name = name; items = items; dashes = 2 } 2 ps
+    ≡ Ok (Each (task_of command base items) (Some ps))
+each-second command base name items [] = refl
+each-second command base name items (p ∷ ps) = refl
 
 -- operands before the items say nothing else
 pub first_of-skip : {A : Type 0} (f : ItemValue → Option A)

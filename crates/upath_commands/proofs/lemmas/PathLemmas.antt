@@ -6,7 +6,7 @@ use Rattle.unix_path.specs.declared.path.Path.{Path}
 use Rattle.upath_commands.specs.Records.{paths_of}
 use Rattle.upath_commands.specs.Replies.{Answered, State, Stopped}
 use Rattle.upath_commands.specs.Selections.{selected, taken}
-use Rattle.upath_commands.specs.Tasks.{TaskValue}
+use Rattle.upath_commands.specs.Invocations.{TaskValue}
 use Rattle.upath_commands.specs.declared.selection.Selection.{Selection}
 use Rattle.upath_commands.proofs.lemmas.ReplyLemmas.{Answered-nil, Answered-then, Stopped-as}
 use Rattle.upath_commands.proofs.lemmas.SelectionLemmas.{selected-nil, selected-splits}

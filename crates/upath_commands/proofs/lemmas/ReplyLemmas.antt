@@ -14,7 +14,8 @@ use Rattle.upath_commands.specs.declared.output.RunError.{RunError}
 use Rattle.upath_commands.specs.declared.output.RunError.TheVariants.{Read, Write, Closed}
 use Rattle.upath_commands.specs.declared.output.RunError.TheVariants.{Memory, Arguments}
 use Rattle.upath_commands.specs.Replies.{Answered, State, Stopped}
-use Rattle.upath_commands.specs.Tasks.{TaskValue, answers, message_of, messages_of, output_of}
+use Rattle.upath_commands.specs.Invocations.{TaskValue}
+use Rattle.upath_commands.specs.Tasks.{answers, message_of, messages_of, output_of}
 use Rattle.upath_commands.proofs.lemmas.OutputLemmas.{Emits-added, Emits-then, Emits-fail}
 use Rattle.upath_commands.proofs.lemmas.OutputLemmas.{Emits-stop, EmitsPrefix-more}
 use Rattle.upath_commands.proofs.lemmas.OutputLemmas.{Tells-none, Tells-then}
@@ -118,7 +119,7 @@ TellsPrefix-more a b first second xs ys (n, k) =
 module _ (task : TaskValue) where
   output-append : (xs ys : List (List ℕ))
       → output_of task (xs ++ ys) ≡ output_of task xs ++ output_of task ys
-  output-append xs ys = flat_map-append (text_for task.command task.settings) xs ys
+  output-append xs ys = flat_map-append (text_for task) xs ys
 
   messages-append : (xs ys : List (List ℕ))
       → messages_of task (xs ++ ys) ≡ messages_of task xs ++ messages_of task ys

@@ -7,12 +7,15 @@ use Rattle.std.specs.List.{list_all, list_any}
 use Rattle.std.proofs.KnownBytes.{Appends-nil}
 use Rattle.byte_streams.specs.Watched.{AppendsPrefix}
 use Rattle.byte_streams.specs.declared.io_traits.Sink.{Ghosts as Sink}
-use Rattle.upath_commands.specs.Invocations.{CommandValue, Sort, Check, Uniq}
+use Rattle.upath_commands.specs.declared.command.Command.{Command}
+use Rattle.upath_commands.specs.declared.command.Command.TheVariants as command
+use Rattle.upath_commands.specs.declared.command.Options.{Options}
 use Rattle.upath_commands.specs.Outputs.{error_line, Tells}
 use Rattle.upath_commands.specs.Replies.{Added, Answered, Broken, IsNew, State, state_of}
 use Rattle.upath_commands.specs.Runs.{Done, Failed, command_yes, yes_of}
 use Rattle.upath_commands.specs.Sorting.{chosen, firsts_if, is_gathered, is_uniq}
-use Rattle.upath_commands.specs.Tasks.{TaskValue, answers, messages_of, output_of}
+use Rattle.upath_commands.specs.Invocations.{TaskValue}
+use Rattle.upath_commands.specs.Tasks.{answers, messages_of, output_of}
 use Rattle.upath_commands.specs.declared.output.RunError.TheVariants.{Arguments}
 use Rattle.upath_commands.specs.declared.replies.Replies.{Replies}
 use Rattle.upath_commands.proofs.lemmas.OutputLemmas.{Emits-finish, Emits-finish_fail}
@@ -20,12 +23,13 @@ use Rattle.upath_commands.proofs.lemmas.OutputLemmas.{Tells-then}
 use Rattle.upath_commands.proofs.lemmas.ReplyLemmas.{TellsPrefix-of}
 
 -- a command that doesn't need all paths answers them as they come
-pub chosen_streamed : (command : CommandValue) (paths : List (List ℕ))
-    → is_gathered command ≡ false → firsts_if (is_uniq command) paths ≡ chosen command paths
-chosen_streamed (Sort options) paths e = absurd (true≢false e)
-chosen_streamed (Check options) paths e = absurd (true≢false e)
-chosen_streamed Uniq paths e = refl
-chosen_streamed command paths e = refl
+pub chosen_streamed : (command : Command) (options : Options) (paths : List (List ℕ))
+    → is_gathered command ≡ false
+    → firsts_if (is_uniq command) paths ≡ chosen command options paths
+chosen_streamed command.Sort options paths e = absurd (true≢false e)
+chosen_streamed command.Check options paths e = absurd (true≢false e)
+chosen_streamed command.Uniq options paths e = refl
+chosen_streamed command options paths e = refl
 
 -- what a command answers that has answered these paths
 pub yes-new : {W E : Type 0} (w : Sink W) (e : Sink E) (task : TaskValue) (old new : Replies W E)

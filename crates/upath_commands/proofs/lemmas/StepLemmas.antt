@@ -4,7 +4,8 @@ use Rattle.std.proofs.Common.{sym, ap, subst, ◌∙◌, append-nil, refl}
 use Rattle.upath_commands.specs.Commands.{text_for}
 use Rattle.upath_commands.specs.Outputs.{Emits, EmitsPrefix, Tells}
 use Rattle.upath_commands.specs.Replies.{Answered, State, Stopped}
-use Rattle.upath_commands.specs.Tasks.{TaskValue, answers, message_of}
+use Rattle.upath_commands.specs.Invocations.{TaskValue}
+use Rattle.upath_commands.specs.Tasks.{answers, message_of}
 use Rattle.upath_commands.proofs.lemmas.OutputLemmas.{EmitsPrefix-of}
 
 and_one : (a b : Bool) → (a && b) ≡ (a && (b && true))
@@ -19,7 +20,7 @@ or_one true b = refl
 
 module _ (task : TaskValue) (p : List ℕ) (old new : State) where
   abbrev output : List ℕ
-  output = text_for task.command task.settings p
+  output = text_for task p
 
   -- a prefix of the answer was written, and no message
   pub Stopped-written : EmitsPrefix old.written new.written old.pending output

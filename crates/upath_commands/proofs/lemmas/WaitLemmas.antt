@@ -4,7 +4,7 @@ use Rattle.std.specs.Io.KnownBytes.{Appends}
 use Rattle.std.proofs.KnownBytes.{Appends-nil}
 use Rattle.upath_commands.specs.Outputs.{Emits, EmitsPrefix, Tells}
 use Rattle.upath_commands.specs.Replies.{Answered, State, Stopped}
-use Rattle.upath_commands.specs.Tasks.{TaskValue}
+use Rattle.upath_commands.specs.Invocations.{TaskValue}
 use Rattle.upath_commands.proofs.lemmas.ReplyLemmas.{and_true, or_false}
 
 module _ (task : TaskValue) (old new : State) (told : new.told ≡ old.told)

@@ -1,6 +1,5 @@
 use Rattle.std.proofs.Common.{rules, inl, sym, ◌∙◌}
 use Rattle.byte_streams.specs.Watched.{watched_inner}
-use Rattle.upath_commands.specs.Invocations.{settings_value}
 use Rattle.upath_commands.proofs.lemmas.GiveLemmas.{gave_archive, gave_none}
 use Rattle.upath_commands.proofs.lemmas.ReplyLemmas.{not_read_error, IfSome-use}
 use Rattle.upath_commands.proofs.archive.give_archive.Goals as goal
@@ -29,7 +28,7 @@ pub returns-clause-gave : goal.returns-clause-gave
 returns-clause-gave g c =
     let known = g.R.Source.remaining (watched_inner c.args.reader.now) in
     gave_archive g.W.Sink g.E.Sink c.give_decision.result _ _ known c.args.options
-    (settings_value c.args.settings) c.in_ok-decision.decision
+    c.in_ok-decision.decision
     (IfSome-use known c.in_ok-input.ensures.bytes (λ input b.
     rw (sym (c.as_slice.ensures.value ∙ b)) c.in_ok-decision.ensures.texts))
     (IfSome-use known c.in_ok-input.ensures.bytes (λ input b.

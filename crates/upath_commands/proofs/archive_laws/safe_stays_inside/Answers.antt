@@ -1,7 +1,7 @@
 use Rattle.std.proofs.Common.{◌≡◌, ℕ, Bool, true, false, refl, arith, if◌then◌else◌}
 use Rattle.path_archive.specs.Levels.{asks_closed}
 use Rattle.upath_commands.specs.Archives.{level_of}
-use Rattle.upath_commands.specs.declared.command.ArchiveOptions.{ArchiveOptions}
+use Rattle.upath_commands.specs.declared.command.Options.{Options}
 use Rattle.upath_commands.proofs.archive_laws.safe_stays_inside.Goals as goal
 
 -- the answer at status 0
@@ -10,12 +10,12 @@ is_yes true e = refl
 is_yes false e = absurd (omega arith)
 
 -- the level of `--closed`
-closed_level : (options : ArchiveOptions) → options.closed ≡ true
+closed_level : (options : Options) → options.closed ≡ true
     → asks_closed (level_of options) ≡ true
 closed_level options e = rw e refl
 
 pub returns : goal.returns
-returns c = λ options settings input status.
+returns c = λ options input status.
     let (entries, is, (some, all)) = status.1.0 (is_yes status.0 status.2) in (
       entries,
       is,

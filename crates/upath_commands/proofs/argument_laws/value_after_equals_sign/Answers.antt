@@ -2,12 +2,12 @@ use Rattle.std.proofs.Common.{◌≡◌, ℕ, List, ◌∷◌, ◌++◌, codes, 
 use Rattle.std.proofs.Common.{arith, ap, lt-ltb, refl, sym, ◌∙◌}
 use Rattle.upath_commands.specs.declared.items.ItemKind.TheVariants as kind
 use Rattle.upath_commands.specs.declared.options.Flag.TheVariants as option
-use Rattle.upath_commands.specs.declared.options.Verb.TheVariants as verb
+use Rattle.upath_commands.specs.declared.command.Command.TheVariants as command
 use Rattle.upath_commands.specs.Arguments.{dashes_at, fault_of, first_of, found_meaning}
 use Rattle.upath_commands.specs.Arguments.{meaning_of_items, operands_of, refuse}
 use Rattle.upath_commands.specs.Items.{ItemValue, items_after, operand}
 use Rattle.upath_commands.proofs.lemmas.ItemLemmas.{meaning_of-items}
-use Rattle.upath_commands.proofs.lemmas.MeaningLemmas.{verb_meaning-same, words_of}
+use Rattle.upath_commands.proofs.lemmas.MeaningLemmas.{command-same, words_of}
 use Rattle.upath_commands.proofs.lemmas.DashLemmas.{dashes_after, dashes_after-next}
 use Rattle.upath_commands.proofs.lemmas.DashLemmas.{dashes_at-after}
 use Rattle.upath_commands.proofs.argument_laws.value_after_equals_sign.Goals as goal
@@ -43,9 +43,9 @@ valued-same x y dir items =
     let ys = valued y dir items in
     let name = codes "relative" in
     ap (refuse (first_of fault_of items))
-    (verb_meaning-same xs ys record { flags = λ flag. refl; values = λ flag. refl } name
-    (dashes_at xs) verb.Relative refl (operands_of items)
-    ∙ ap (λ n. found_meaning (Some verb.Relative) (words_of ys name n) (operands_of items))
+    (command-same xs ys record { flags = λ flag. refl; values = λ flag. refl } name
+    (dashes_at xs) command.Relative refl (operands_of items)
+    ∙ ap (λ n. found_meaning (Some command.Relative) (words_of ys name n) (operands_of items))
     (dashes-valued x dir items ∙ sym (dashes-valued y dir items)))
 
 pub returns : goal.returns

@@ -2,7 +2,7 @@ use Rattle.std.proofs.Common.{rules, arith, refl, ap, sym, ◌∙◌, take, inl,
 use Rattle.std.proofs.lemmas.List.{take_rest}
 use Rattle.byte_streams.proofs.lemmas.CallLemmas.{Many-more, Many-none, Many-then}
 use Rattle.byte_streams.proofs.lemmas.CallLemmas.{WritesUntilNone-then}
-use Rattle.upath_commands.specs.Tasks.{task_value}
+use Rattle.upath_commands.specs.Invocations.{task_value}
 use Rattle.upath_commands.proofs.lemmas.BlockLemmas.{Reading-init, Reading-stop}
 use Rattle.upath_commands.proofs.lemmas.BlockLemmas.{Reading-wait, Reading-wait_fail}
 use Rattle.upath_commands.proofs.lemmas.BlockLemmas.{Reading-more, Reading-block}

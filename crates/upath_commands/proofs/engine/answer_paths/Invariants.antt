@@ -1,7 +1,7 @@
 use Rattle.std.proofs.Common.{◌≡◌, ◌-◌, drop, false, length}
 use Rattle.upath_commands.specs.Records.{paths_of}
 use Rattle.upath_commands.specs.Replies.{answers_failed, state_of}
-use Rattle.upath_commands.specs.Tasks.{task_value}
+use Rattle.upath_commands.specs.Invocations.{task_value}
 use Rattle.upath_commands.proofs.lemmas.CallLemmas.{Went}
 use Rattle.upath_commands.proofs.lemmas.PathLemmas.{Passed}
 use Rattle.upath_commands.proofs.engine.answer_paths.Given as goal

@@ -6,7 +6,6 @@ use Rattle.unix_path.proofs.lemmas.walks.CursorLemmas.{Components-yields}
 use Rattle.unix_path.specs.Cursor.{name_bytes}
 use Rattle.unix_path.specs.Parts.{value_bytes}
 use Rattle.upath_commands.specs.Answers.{record_output}
-use Rattle.upath_commands.specs.Invocations.{settings_value}
 use Rattle.upath_commands.proofs.lemmas.PartLemmas.{adds_all}
 use Rattle.upath_commands.proofs.lemmas.ReplyLemmas.{on_ok}
 use Rattle.upath_commands.proofs.parts.push_parts.Goals as goal
@@ -15,12 +14,12 @@ pub returns : goal.returns
 returns c =
     let p = c.args.path.bytes.now in
     let old = c.args.out.now.items in
-    let settings = settings_value c.args.settings in
+    let options = c.args.options in
     on_ok c.push_each.result
-    (λ h. adds_all settings p c.push_each.new.out.items old
+    (λ h. adds_all options p c.push_each.new.out.items old
     (YieldsList-from_map_by _ name_bytes value_bytes
     (YieldsList-at c.map.ensures.source (Components-yields c.components.result))
     c.map.ensures.closure (λ x r q k. search (rules, tests))) h
-    ∙ ap (λ vs. old ++ record_output settings p (map value_bytes vs))
+    ∙ ap (λ vs. old ++ record_output options p (map value_bytes vs))
     (values-whole p _ c.components.ensures.rest))
     c.push_each.ensures

@@ -1,5 +1,4 @@
 use Rattle.std.proofs.Common.{rules, ap, sym, ◌∙◌}
-use Rattle.upath_commands.specs.Invocations.{command_value}
 use Rattle.upath_commands.specs.Records.{paths_of}
 use Rattle.upath_commands.specs.Sorting.{firsts_if}
 use Rattle.upath_commands.proofs.lemmas.CallLemmas.{replied_nothing}
@@ -17,8 +16,8 @@ returns-then-is_gathered g c = rw (sym c.in_ok-paths.ensures.items) c.answer_gat
 pub returns : goal.returns
 returns g c =
     let paths = paths_of c.args.paths.now in
-    let command = command_value c.args.task.now.command in
+    let task = c.args.task.now in
     rw (sym (c.new-selection.ensures paths
     ∙ ap (λ is. firsts_if is paths) c.is_uniq.ensures
-    ∙ chosen_streamed command paths (sym c.is_gathered.ensures ∙ c.if-is_gathered.false)))
+    ∙ chosen_streamed task.command task.options paths (sym c.is_gathered.ensures ∙ c.if-is_gathered.false)))
     c.answer_paths.ensures.replied

@@ -2,7 +2,6 @@ use Rattle.std.proofs.Common.{◌≡◌, rules, ap, sym, ◌∙◌}
 use Rattle.byte_streams.specs.Watched.{watched_inner}
 use Rattle.upath_commands.specs.Answers.{end_of}
 use Rattle.upath_commands.specs.Records.{paths_of, records_of}
-use Rattle.upath_commands.specs.Tasks.{task_value}
 use Rattle.upath_commands.proofs.lemmas.CallLemmas.{reading_nothing}
 use Rattle.upath_commands.proofs.lemmas.ReplyLemmas.{not_read_error, on_err, on_ok, IfSome-use}
 use Rattle.upath_commands.proofs.runs.gather_input.Goals as goal
@@ -22,7 +21,7 @@ returns-in_err-paths g c =
 pub returns : goal.returns
 returns g c =
     let last = c.answer_gathered.ensures in
-    let end = end_of (task_value c.args.task.now).settings in record {
+    let end = end_of c.args.task.now.options in record {
       ok = on_ok c.answer_gathered.result
           (λ h. IfSome-use (g.R.Source.remaining (watched_inner c.args.reader.now))
           c.in_ok-input.ensures.bytes (λ input b.

@@ -5,5 +5,5 @@ use Rattle.upath_commands.proofs.searches.foreign_option.Given as goal
 
 abbrev pub invariant-loop-item : goal.invariant-loop-item
 invariant-loop-item l =
-    first_of (foreign_option l.verb) (map item_value (drop l.item-index l.items))
-    ≡ first_of (foreign_option l.verb) (map item_value l.items)
+    first_of (foreign_option l.command) (map item_value (drop l.item-index l.items))
+    ≡ first_of (foreign_option l.command) (map item_value l.items)
