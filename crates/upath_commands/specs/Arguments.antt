@@ -1,11 +1,12 @@
 -- The meaning of a list of arguments.
 use Rattle.std.specs.Prelude.{ℕ, Bool, true, false, ◌==◌, List, [], ◌∷◌, ◌++◌, length, Option}
 use Rattle.std.specs.Prelude.{Some, None, Ok, Err, codes, nat_le, nat_lt, not, option_map}
-use Rattle.std.specs.Prelude.{if◌then◌else◌, unwrap_or}
+use Rattle.std.specs.Prelude.{if◌then◌else◌, map, unwrap_or}
 use Rattle.std.specs.Option.{is_some, option_or, option_to_list}
 use Rattle.std.specs.List.{before_first, filter_map, filter, find, last_or, list_any, position}
 use Rattle.std.specs.List.{starts_with}
 use Rattle.std.specs.Str.{byte, bytes_eq}
+use Rattle.upath_commands.specs.declared.arguments.Words.{Words as WordsOf}
 use Rattle.upath_commands.specs.declared.command.Command.{Command}
 use Rattle.upath_commands.specs.declared.command.Command.TheVariants as command
 use Rattle.upath_commands.specs.declared.command.JoinRule.{JoinRule}
@@ -21,7 +22,8 @@ use Rattle.upath_commands.specs.declared.usage.UsageErrorKind.{UsageErrorKind}
 use Rattle.upath_commands.specs.declared.usage.UsageErrorKind.TheVariants as wrong
 use Rattle.upath_commands.specs.Invocations.{InvocationValue, Meaning, TaskValue, UsageValue}
 use Rattle.upath_commands.specs.Invocations as value
-use Rattle.upath_commands.specs.Items.{ItemValue, items_after}
+use Rattle.upath_commands.specs.Invocations.{view_bytes}
+use Rattle.upath_commands.specs.Items.{ItemValue, item_value, items_after}
 use Rattle.upath_commands.specs.Options.{command_by_name, has_option, request_by_word, same_option}
 
 -- the first result of `f` for these items
@@ -44,15 +46,12 @@ fault_of (Wrong wrong, bytes) = Some (wrong, bytes)
 fault_of (kind.Request request, bytes) = Some (wrong.MisplacedRequest, bytes)
 fault_of _ = None
 
--- the wrong usage that an unknown option is: a letter after a dash, or a whole argument
-abbrev pub unknown_option : List ℕ → UsageValue
-unknown_option bytes =
-    (if length bytes == 1 then wrong.UnknownLetter else wrong.UnknownOption, bytes)
-
--- the wrong usage that an item is if the command doesn't have this option
+-- the wrong usage that an item is if the command doesn't have this option, which is a letter after
+-- a dash, or a whole argument
 abbrev pub foreign_option : Command → ItemValue → Option UsageValue
 foreign_option command (kind.Option flag, bytes) =
-    if has_option command flag then None else Some (unknown_option bytes)
+    if has_option command flag then None
+    else Some (if length bytes == 1 then wrong.UnknownLetter else wrong.UnknownOption, bytes)
 foreign_option command _ = None
 
 -- the bytes of an operand
@@ -148,6 +147,14 @@ pub record Words : Type 0 where
   pub name : List ℕ
   pub items : List ItemValue
   pub dashes : ℕ
+
+-- the words of the program, with the bytes that their views point to
+abbrev pub words_value : WordsOf → Words
+words_value words = record {
+  name = view_bytes words.name;
+  items = map item_value words.items.now;
+  dashes = words.dashes;
+}
 
 -- the meaning of a command for these paths, before which come `own` operands: its name, and ROOT or
 -- BASE. A `--` after those begins the paths, so that none of them is before it, and none is read.
@@ -252,7 +259,8 @@ first_word (word ∷ words) = word
 -- that begins with a dash
 abbrev pub asked_with : Request → List (List ℕ) → Meaning
 asked_with request.Help (word ∷ words) =
-    if not (starts_with ◌==◌ word (codes "-")) then asked_of request.Help word (command_by_name word)
+    if not (starts_with ◌==◌ word (codes "-"))
+    then asked_of request.Help word (command_by_name word)
     else Ok (value.Help word)
 asked_with asked words = Ok (requested asked (first_word words))
 

@@ -2,7 +2,7 @@
 use Rattle.std.specs.Prelude.{ℕ, Bool, ◌==◌, ◌&&◌, not, List, [], ◌∷◌, ◌++◌}
 use Rattle.std.specs.Prelude.{Option, Some, None, codes, map, drop, take, unwrap_or}
 use Rattle.std.specs.Prelude.{if◌then◌else◌, find}
-use Rattle.std.specs.Option.{is_some}
+use Rattle.std.specs.Option.{is_some, option_map_or}
 use Rattle.std.specs.List.{before_first, after_first, position, starts_with}
 use Rattle.std.specs.Map.{lookup}
 use Rattle.std.specs.Str.{byte, bytes_eq}
@@ -12,7 +12,6 @@ use Rattle.upath_commands.specs.declared.items.ItemKind.{ItemKind}
 use Rattle.upath_commands.specs.declared.items.ItemKind.TheVariants as kind
 use Rattle.upath_commands.specs.declared.options.Flag.{Flag}
 use Rattle.upath_commands.specs.declared.options.Flag.TheVariants as option
-use Rattle.upath_commands.specs.declared.options.Request.{Request}
 use Rattle.upath_commands.specs.declared.usage.UsageErrorKind.TheVariants.{UnknownOption}
 use Rattle.upath_commands.specs.declared.usage.UsageErrorKind.TheVariants.{UnknownLetter}
 use Rattle.upath_commands.specs.declared.usage.UsageErrorKind.TheVariants.{MissingValue}
@@ -83,14 +82,11 @@ option_items argument =
     then letter_items (drop 1 argument)
     else operand argument ∷ [])
 
--- the items of an argument, which is this request, if it is one
-abbrev pub request_or_items : Option Request → List ℕ → List ItemValue
-request_or_items (Some asked) argument = (kind.Request asked, argument) ∷ []
-request_or_items None argument = option_items argument
-
 -- the items of an argument that may be an option or a request
 abbrev pub argument_items : List ℕ → List ItemValue
-argument_items argument = request_or_items (request_by_word argument) argument
+argument_items argument =
+    option_map_or (λ asked. (kind.Request asked, argument) ∷ []) (request_by_word argument)
+    (option_items argument)
 
 -- the option whose value is the next argument, if this argument is such an option
 abbrev pub value_awaited : List ℕ → Option Flag

@@ -15,13 +15,10 @@ key_path key = if is_own key then Some (spelling_of (key_values key)) else None
 abbrev pub unkeyed_path : List ℕ → Option (List ℕ)
 unkeyed_path text = option_and_then key_path (hex_value text)
 
--- the bytes have the byte that ends records: a NUL, if `null`, or a newline
-abbrev pub has_end : Bool → List ℕ → Bool
-has_end null p = if null then has_nul p else has_newline p
-
--- this path, if it can be a record: if it doesn't have the byte that ends records
+-- this path, if it can be a record: if it doesn't have the byte that ends records, which is a NUL
+-- if `null`, and otherwise a newline
 abbrev pub if_record : Bool → List ℕ → Option (List ℕ)
-if_record null p = if has_end null p then None else Some p
+if_record null p = if (if null then has_nul p else has_newline p) then None else Some p
 
 -- the answer of `unkey` to this text
 abbrev pub unkey_of : Bool → List ℕ → Option (List ℕ)

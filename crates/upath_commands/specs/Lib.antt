@@ -2,7 +2,6 @@ pub mod Invocations
 pub mod Options
 pub mod Items
 pub mod Arguments
-pub mod Words
 pub mod Sorting
 pub mod Selections
 pub mod Records

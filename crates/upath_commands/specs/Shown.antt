@@ -1,6 +1,6 @@
 -- Bytes as messages show them: control characters, backslashes and bytes that are not valid UTF-8
 -- as `\x` and two digits.
-use Rattle.std.specs.Prelude.{ℕ, Bool, ◌==◌, ◌||◌, ◌&&◌, ◌/◌, ◌%◌, nat_lt, nat_le, List, [], ◌∷◌}
+use Rattle.std.specs.Prelude.{ℕ, ◌==◌, ◌||◌, ◌&&◌, ◌/◌, ◌%◌, nat_lt, nat_le, List, [], ◌∷◌}
 use Rattle.std.specs.Prelude.{◌++◌, if◌then◌else◌}
 use Rattle.std.specs.List.{flat_map}
 use Rattle.std.specs.Str.{byte}
@@ -11,24 +11,17 @@ use Rattle.upath_commands.specs.Hex.{hex_digit}
 abbrev pub escaped : ℕ → List ℕ
 escaped b = byte "\\" ∷ byte "x" ∷ hex_digit (b / 16) ∷ hex_digit (b % 16) ∷ []
 
--- the byte is U+0000 to U+001F, U+007F or a backslash
-abbrev pub is_escaped : ℕ → Bool
-is_escaped b = nat_lt b 32 || b == 127 || b == byte "\\"
-
--- a byte that is a character, or belongs to one
+-- a byte that is a character, or belongs to one; U+0000 to U+001F, U+007F and a backslash are
+-- escaped
 abbrev pub shown_byte : ℕ → List ℕ
-shown_byte b = if is_escaped b then escaped b else b ∷ []
+shown_byte b = if nat_lt b 32 || b == 127 || b == byte "\\" then escaped b else b ∷ []
 
--- the bytes are U+0080 to U+009F in UTF-8
-abbrev pub is_control_pair : ℕ → ℕ → Bool
-is_control_pair b c = b == 0xC2 && nat_le 0x80 c && nat_le c 0x9F
-
--- valid UTF-8
+-- valid UTF-8; the two bytes of U+0080 to U+009F are escaped
 abbrev pub shown_text : List ℕ → List ℕ
 shown_text [] = []
 shown_text (b ∷ []) = shown_byte b
 shown_text (b ∷ c ∷ s) =
-    if is_control_pair b c then escaped b ++ (escaped c ++ shown_text s)
+    if b == 0xC2 && nat_le 0x80 c && nat_le c 0x9F then escaped b ++ (escaped c ++ shown_text s)
     else shown_byte b ++ shown_text (c ∷ s)
 
 -- valid UTF-8, and then bytes that are not

@@ -26,10 +26,7 @@ pub(crate) fn parent_answer(path: Path<'_>) -> Option<Path<'_>>
     if is_current(path) {
         return None;
     }
-    match path.parent() {
-        Some(parent) => Some(dot_if_empty(parent)),
-        None => None,
-    }
+    Some(dot_if_empty(path.parent()?))
 }
 
 // Appends the paths that the walk has yet to yield, up to the first that equals `.`.

@@ -40,10 +40,6 @@ pub(crate) fn path_of_bytes<'a>(bytes: Vec<u8>) -> CowPath<'a>
 pub(crate) fn path_of_name(name: Option<UnixStr<'_>>) -> Option<CowPath<'_>>
     ensures { option_map cow_bytes result ≡ option_map (λ name. name.bytes.now) name.entry }
 {
-    match name {
-        Some(name) => Some(CowPath::Borrowed(Path {
-            bytes: name.as_bytes(),
-        })),
-        None => None,
-    }
+    let bytes = name?.as_bytes();
+    Some(CowPath::Borrowed(Path { bytes }))
 }

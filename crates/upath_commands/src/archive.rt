@@ -1,12 +1,12 @@
 //! The command `archive`, which decides whether the entries of an archive are accepted.
-ghost use Rattle.std.specs.Prelude.{◌≡◌, ◌++◌, ◌↔◌, ◌⊎◌, [], Some, IfErr, IfOk, OnOk, false};
+ghost use Rattle.std.specs.Prelude.{◌≡◌, ◌↔◌, ◌⊎◌, [], IfOk, false};
 ghost use Rattle.std.specs.Prelude.{if◌then◌else◌, map, true};
 ghost use Rattle.byte_streams.specs.Watched.{has_failed, watched_inner};
 ghost use Rattle.path_archive.specs.EntryViews.{entry_value};
 ghost use Rattle.upath_commands.specs.Archives.{IsSafe, IsSafeIn, IsText, OnArchive, OnInput};
 ghost use Rattle.upath_commands.specs.Archives.{entries_messages, entries_output};
 ghost use Rattle.upath_commands.specs.Archives.{level_of, none_refused};
-ghost use Rattle.upath_commands.specs.Replies.{answers_failed, Gave, GaveThis, IsNew, ReadCalls};
+ghost use Rattle.upath_commands.specs.Replies.{Gave, IsNew, ReadCalls};
 
 use crate::command::Options;
 use crate::input::read_all;
@@ -39,49 +39,6 @@ fn level_of(options: Options) -> Level
     }
 }
 
-// Returns true if there are entries, and none is refused.
-fn none_refused(entries: &[Entry<'_>], refusals: &[Refusal]) -> bool
-    ensures { result ≡ none_refused (map entry_value entries.now) refusals.now }
-{
-    !entries.is_empty() && refusals.is_empty()
-}
-
-// Appends what is written for these refusals of entries.
-fn push_output(
-    options: Options,
-    entries: &[Entry<'_>],
-    refusals: &[Refusal],
-    out: &mut Vec<u8>,
-) -> Result<(), AllocError>
-    ensures { OnOk result (out.new.items ≡ out.old.items
-        ++ entries_output options (map entry_value entries.now) refusals.now) }
-{
-    if options.quiet {
-        return Ok(());
-    }
-    push_records(options, entries, refusals, out)
-}
-
-// Appends the messages for these refusals of entries.
-fn push_lines(
-    options: Options,
-    entries: &[Entry<'_>],
-    refusals: &[Refusal],
-    out: &mut Vec<u8>,
-) -> Result<(), AllocError>
-    ensures { OnOk result (out.new.items ≡ out.old.items
-        ++ entries_messages options (map entry_value entries.now) refusals.now) }
-{
-    if options.quiet {
-        return Ok(());
-    }
-    if entries.is_empty() {
-        out.extend_from_slice(b"upath: no entries\n")?;
-        return Ok(());
-    }
-    push_messages(entries, refusals, out)
-}
-
 // Returns what is written for these refusals of entries, the messages and the answer.
 fn decide_entries(
     alloc: Global,
@@ -96,13 +53,15 @@ fn decide_entries(
         decision.is_safe ≡ none_refused (map entry_value entries.now) refusals.now) }
 {
     let mut output = Vec::new(alloc);
-    push_output(options, entries, refusals, &mut output)?;
     let mut messages = Vec::new(alloc);
-    push_lines(options, entries, refusals, &mut messages)?;
+    if !options.quiet {
+        push_records(options, entries, refusals, &mut output)?;
+        push_messages(entries, refusals, &mut messages)?;
+    }
     Ok(Decision {
         output,
         messages,
-        is_safe: none_refused(entries, refusals),
+        is_safe: !entries.is_empty() && refusals.is_empty(),
     })
 }
 
@@ -134,47 +93,21 @@ fn decide_records(alloc: Global, options: Options, records: &[u8]) -> Result<Dec
     decide_entries(alloc, options, entries.as_slice(), refusals.as_slice())
 }
 
-// Returns what is written for a listing, the messages and the answer.
-fn decide_listing(alloc: Global, options: Options, listing: &[u8]) -> Result<Decision, AllocError>
-    ensures texts { IfOk result (λ decision.
-        OnInput true options listing.now (IsText decision)) }
-    ensures safe { IfOk result (λ decision.
-        (decision.is_safe ≡ true) ↔ IsSafeIn true options listing.now) }
-{
-    listing_reads_back();
-    match records_of(alloc, listing)? {
-        Ok(records) => decide_records(alloc, options, records.as_slice()),
-        Err(line) => Ok(refuse(alloc, options, refused_line(alloc, line)?)),
-    }
-}
-
 // Returns what is written for an input, the messages and the answer.
 fn decide(alloc: Global, options: Options, input: &[u8]) -> Result<Decision, AllocError>
-    ensures texts { IfOk result (λ decision. OnArchive options input.now (IsText decision)) }
+    ensures texts { IfOk result (λ decision.
+        OnInput options.tar_list options input.now (IsText decision)) }
     ensures safe { IfOk result (λ decision.
         (decision.is_safe ≡ true) ↔ IsSafe options input.now) }
 {
-    if options.tar_list {
-        decide_listing(alloc, options, input)
-    } else {
-        decide_records(alloc, options, input)
+    if !options.tar_list {
+        return decide_records(alloc, options, input);
     }
-}
-
-// Writes the messages, and adds the output. Returns the answer.
-fn give_decision<W: Sink, E: Sink>(
-    decision: &Decision,
-    replies: &mut Replies<W, E>,
-) -> Result<bool, RunError>
-    requires { answers_failed replies.old ≡ false }
-    ensures gave { GaveThis W.Sink E.Sink result replies.old replies.new (Some [])
-        (λ _. decision.now.output.items) (λ _. decision.now.messages.items)
-        (λ _. decision.now.is_safe) }
-    ensures no_read { IfErr result (λ error. (error ≡ RunError.Read) → ⊥) }
-{
-    send(&mut replies.messages, decision.messages.as_slice());
-    replies.answers.add(decision.output.as_slice())?;
-    Ok(decision.is_safe)
+    listing_reads_back();
+    match records_of(alloc, input)? {
+        Ok(records) => decide_records(alloc, options, records.as_slice()),
+        Err(line) => Ok(refuse(alloc, options, refused_line(alloc, line)?)),
+    }
 }
 
 // Decides whether the entries of the input are accepted. Returns the answer.
@@ -186,12 +119,15 @@ pub(crate) fn give_archive<R: Source, W: Sink, E: Sink>(
 ) -> Result<bool, RunError>
     requires read { has_failed reader.old ≡ false }
     requires new { IsNew replies.old }
-    ensures gave { Gave W.Sink E.Sink result replies.old replies.new (R.remaining (watched_inner reader.old))
+    ensures gave { Gave W.Sink E.Sink result replies.old replies.new
+        (R.remaining (watched_inner reader.old))
         (OnArchive options) (λ input P. P [] [] ⊎ OnArchive options input P)
         (λ input is. (is ≡ true) ↔ IsSafe options input) }
     ensures reads { ReadCalls R.Source result reader.old reader.new }
 {
     let input = read_all(alloc, reader)?;
     let decision = decide(alloc, options, input.as_slice())?;
-    give_decision(&decision, replies)
+    send(&mut replies.messages, decision.messages.as_slice());
+    replies.answers.add(decision.output.as_slice())?;
+    Ok(decision.is_safe)
 }

@@ -1,14 +1,10 @@
 //! The meaning of a list of arguments.
 ghost use Rattle.std.specs.Prelude.{◌≡◌, ◌∷◌, [], IfErr, IfOk, map, option_map};
-ghost use Rattle.upath_commands.specs.Arguments.{archive_meaning, asked_first, asked_with};
-ghost use Rattle.upath_commands.specs.Arguments.{command_meaning, each, each_after, equal_meaning};
-ghost use Rattle.upath_commands.specs.Arguments.{first_word, join_rule, last_value, meaning_of};
-ghost use Rattle.upath_commands.specs.Arguments.{meaning_of_command, meaning_of_items, operands_of};
-ghost use Rattle.upath_commands.specs.Arguments.{options_of, relative_meaning, request_of, task_of};
-ghost use Rattle.upath_commands.specs.Invocations.{meaning_value, task_value, usage_value};
-ghost use Rattle.upath_commands.specs.Invocations.{view_bytes};
+ghost use Rattle.upath_commands.specs.Arguments.{asked_first, command_meaning, each, each_after};
+ghost use Rattle.upath_commands.specs.Arguments.{equal_meaning, join_rule, meaning_of};
+ghost use Rattle.upath_commands.specs.Arguments.{meaning_of_command, options_of, words_value};
+ghost use Rattle.upath_commands.specs.Invocations.{meaning_value, usage_value, view_bytes};
 ghost use Rattle.upath_commands.specs.Items.{item_value};
-ghost use Rattle.upath_commands.specs.Words.{words_value};
 
 use crate::command::{Command, Invocation, JoinRule, Options, Task};
 use crate::items::{Item, items_of};
@@ -17,10 +13,17 @@ use crate::searches::{
     asked_of, dashes_at, fault_in, foreign_option, has, last_value, newline_fault, operands_in,
     request_in, requested,
 };
-use crate::usage::{UsageError, UsageErrorKind};
-use crate::words::Words;
+use crate::usage::{UsageError, UsageErrorKind, wrong};
 use std::alloc::{AllocError, Global};
 use unix_path::Path;
+
+// A command's name, what the arguments say, and the number of operands before `--`.
+#[derive(Clone, Copy)]
+struct Words<'a, 'b> {
+    name: Path<'a>,
+    items: &'b [Item<'a>],
+    dashes: usize,
+}
 
 // The path that a command takes as ROOT, BASE or DIR if it takes none.
 const NO_BASE: Path<'static> = Path { bytes: b"" };
@@ -62,19 +65,6 @@ fn options_of(items: &[Item<'_>]) -> Options
     }
 }
 
-// Returns a command with its options and with its ROOT, BASE or DIR.
-fn task_of<'a>(command: Command, base: Path<'a>, items: &[Item<'a>]) -> Task<'a>
-    ensures { task_value result
-        ≡ task_of command (view_bytes base.entry) (map item_value items.now) }
-{
-    Task {
-        command,
-        options: options_of(items),
-        or: last_value(items, Flag::Or),
-        base,
-    }
-}
-
 // Takes the first operand off, or returns wrong usage of this kind.
 fn take_operand<'a>(
     operands: &mut Vec<Path<'a>>,
@@ -87,10 +77,7 @@ fn take_operand<'a>(
         × (usage_value error ≡ (kind, view_bytes name.entry))) }
 {
     if operands.is_empty() {
-        return Err(UsageError {
-            kind,
-            argument: name,
-        });
+        return Err(wrong(kind, name));
     }
     Ok(operands.remove(0))
 }
@@ -107,12 +94,14 @@ fn each<'a>(
     ensures { meaning_value result ≡ each command (view_bytes base.entry)
         (words_value words.entry) own (map view_bytes operands.entry.items) }
 {
-    let task = task_of(command, base, words.items);
+    let task = Task {
+        command,
+        options: options_of(words.items),
+        or: last_value(words.items, Flag::Or),
+        base,
+    };
     match operands.first() {
-        Some(path) if own < words.dashes => Err(UsageError {
-            kind: UsageErrorKind::BeforeDashes,
-            argument: *path,
-        }),
+        Some(path) if own < words.dashes => Err(wrong(UsageErrorKind::BeforeDashes, *path)),
         None if own > words.dashes => Ok(Invocation::Each(task, None)),
         _ => Ok(Invocation::Each(task, Some(operands))),
     }
@@ -142,66 +131,8 @@ fn equal_of<'a>(
 {
     match operands {
         [a, b] => Ok(Invocation::Equal(options_of(words.items), *a, *b)),
-        [_, _, c, ..] => Err(UsageError {
-            kind: UsageErrorKind::UnexpectedOperand,
-            argument: *c,
-        }),
-        _ => Err(UsageError {
-            kind: UsageErrorKind::MissingPair,
-            argument: words.name,
-        }),
-    }
-}
-
-// Returns the meaning of `archive` with these operands.
-fn archive_of<'a>(
-    words: Words<'a, '_>,
-    operands: &[Path<'a>],
-) -> Result<Invocation<'a>, UsageError<'a>>
-    ensures { meaning_value result ≡ archive_meaning (words_value words.entry)
-        (map view_bytes operands.now) }
-{
-    match operands {
-        [] => Ok(Invocation::Archive(options_of(words.items))),
-        [operand, ..] => Err(UsageError {
-            kind: UsageErrorKind::UnexpectedOperand,
-            argument: *operand,
-        }),
-    }
-}
-
-// Returns the meaning of `join` with these operands.
-fn join_of<'a>(
-    words: Words<'a, '_>,
-    operands: Vec<Path<'a>>,
-) -> Result<Invocation<'a>, UsageError<'a>>
-    ensures { meaning_value result ≡ meaning_of_command Command.Join (words_value words.entry)
-        (map view_bytes operands.entry.items) }
-{
-    if join_rule(words.items).is_none() {
-        return Err(UsageError {
-            kind: UsageErrorKind::ContradictoryOptions,
-            argument: words.name,
-        });
-    }
-    each_after(Command::Join, UsageErrorKind::MissingRoot, words, operands)
-}
-
-// Returns the meaning of `relative` with these operands.
-fn relative_of<'a>(
-    words: Words<'a, '_>,
-    operands: Vec<Path<'a>>,
-) -> Result<Invocation<'a>, UsageError<'a>>
-    ensures { let value = words_value words.entry in meaning_value result
-        ≡ relative_meaning (last_value value.items Flag.From) value
-        (map view_bytes operands.entry.items) }
-{
-    match last_value(words.items, Flag::From) {
-        Some(dir) => each(Command::Relative, dir, words, 1, operands),
-        None => Err(UsageError {
-            kind: UsageErrorKind::MissingFrom,
-            argument: words.name,
-        }),
+        [_, _, c, ..] => Err(wrong(UsageErrorKind::UnexpectedOperand, *c)),
+        _ => Err(wrong(UsageErrorKind::MissingPair, words.name)),
     }
 }
 
@@ -215,12 +146,21 @@ fn meaning_of_command<'a>(
         (map view_bytes operands.entry.items) }
 {
     match command {
-        Command::Join => join_of(words, operands),
+        Command::Join if join_rule(words.items).is_none() => {
+            Err(wrong(UsageErrorKind::ContradictoryOptions, words.name))
+        }
+        Command::Join => each_after(command, UsageErrorKind::MissingRoot, words, operands),
         Command::Strip | Command::Under => {
             each_after(command, UsageErrorKind::MissingBase, words, operands)
         }
-        Command::Relative => relative_of(words, operands),
-        Command::Archive => archive_of(words, operands.as_slice()),
+        Command::Relative => match last_value(words.items, Flag::From) {
+            Some(dir) => each(command, dir, words, 1, operands),
+            None => Err(wrong(UsageErrorKind::MissingFrom, words.name)),
+        },
+        Command::Archive => match operands.first() {
+            Some(operand) => Err(wrong(UsageErrorKind::UnexpectedOperand, *operand)),
+            None => Ok(Invocation::Archive(options_of(words.items))),
+        },
         Command::Equal => equal_of(words, operands.as_slice()),
         Command::Sort if has(words.items, Flag::Check) => {
             each(Command::Check, NO_BASE, words, 1, operands)
@@ -239,10 +179,7 @@ fn command_of<'a>(
 {
     let name = take_operand(&mut operands, UsageErrorKind::MissingCommand, NO_BASE)?;
     let Some(command) = command_by_name(name.bytes) else {
-        return Err(UsageError {
-            kind: UsageErrorKind::UnknownCommand,
-            argument: name,
-        });
+        return Err(wrong(UsageErrorKind::UnknownCommand, name));
     };
     if let Some(error) = foreign_option(command, items) {
         return Err(error);
@@ -250,77 +187,32 @@ fn command_of<'a>(
     if let Some(error) = newline_fault(items, operands.as_slice()) {
         return Err(error);
     }
-    let dashes = dashes_at(items);
-    meaning_of_command(
-        command,
-        Words {
-            name,
-            items,
-            dashes,
-        },
-        operands,
-    )
+    let words = Words {
+        name,
+        items,
+        dashes: dashes_at(items),
+    };
+    meaning_of_command(command, words, operands)
 }
 
-// Returns the meaning of these items, whose operands are also passed.
-fn meaning_of_items<'a>(
-    items: &[Item<'a>],
-    operands: Vec<Path<'a>>,
-) -> Result<Invocation<'a>, UsageError<'a>>
-    requires { map view_bytes operands.items ≡ operands_of (map item_value items.now) }
-    ensures { meaning_value result ≡ meaning_of_items (map item_value items.now) }
-{
-    if let Some(meaning) = request_in(items) {
-        return meaning;
-    }
-    if let Some(error) = fault_in(items) {
-        return Err(error);
-    }
-    command_of(items, operands)
-}
-
-// Returns the first of these arguments, or the empty path.
-fn first_word<'a>(arguments: &[Path<'a>]) -> Path<'a>
-    ensures { view_bytes result ≡ first_word (map view_bytes arguments.now) }
-{
-    match arguments {
-        [word, ..] => *word,
-        [] => Path { bytes: b"" },
-    }
-}
-
-// Returns what this word, as the first argument, asks for in the place of a command.
-fn request_of(word: &[u8]) -> Option<Request>
-    ensures { result ≡ request_of word.now }
-{
-    if is(word, b"help") {
-        return Some(Request::Help);
-    }
-    request_by_word(word)
-}
-
-// Returns what is asked for before these arguments. Help is on the command that the first one
-// names, unless that begins with a dash.
-fn asked_with<'a>(request: Request, words: &[Path<'a>]) -> Result<Invocation<'a>, UsageError<'a>>
-    ensures { meaning_value result ≡ asked_with request (map view_bytes words.now) }
-{
-    match (request, words) {
-        (Request::Help, [word, ..]) if !word.bytes.starts_with(b"-") => asked_of(request, *word),
-        _ => Ok(requested(request, first_word(words))),
-    }
-}
-
-// Returns what the first argument asks for in the place of a command.
+// Returns what the first argument asks for in the place of a command. Help is on the command that
+// the next argument names, unless that begins with a dash.
 fn asked_first<'a>(arguments: &[Path<'a>]) -> Option<Result<Invocation<'a>, UsageError<'a>>>
     ensures { option_map meaning_value result ≡ asked_first (map view_bytes arguments.now) }
 {
-    match arguments {
-        [word, words @ ..] => {
-            let request = request_of(word.bytes)?;
-            Some(asked_with(request, words))
-        }
-        [] => None,
-    }
+    let [word, words @ ..] = arguments else {
+        return None;
+    };
+    let request = if is(word.bytes, b"help") {
+        Request::Help
+    } else {
+        request_by_word(word.bytes)?
+    };
+    Some(match (request, words) {
+        (_, []) => Ok(requested(request, NO_BASE)),
+        (Request::Help, [name, ..]) if !name.bytes.starts_with(b"-") => asked_of(request, *name),
+        (_, [name, ..]) => Ok(requested(request, *name)),
+    })
 }
 
 /// Returns what the arguments, without the program's name, ask for, or why they are wrong usage.
@@ -328,8 +220,8 @@ fn asked_first<'a>(arguments: &[Path<'a>]) -> Option<Result<Invocation<'a>, Usag
 /// The rules are those of GNU's programs, but that requests count only where they stand first:
 /// - `--help`, `-h` and `help` as the first argument ask for help on the command that the second
 ///   argument names, or in general if that begins with a dash or is missing; `--version` asks for
-///   the version. So do `--help`, `-h` and
-///   `--version` just after the command's name. Elsewhere they are wrong usage.
+///   the version. So do `--help`, `-h` and `--version` just after the command's name. Elsewhere
+///   they are wrong usage.
 /// - An argument that begins with `--` is a long option, and one that begins with `-` is one short
 ///   option for each letter after the dash. All others are operands, and so is a single `-`.
 /// - Options may come before and after operands. A `--` ends them: it is no operand, and everything
@@ -371,8 +263,15 @@ pub fn invocation_of<'a>(
         return Ok(meaning);
     }
     let items = items_of(alloc, arguments)?;
-    let operands = operands_in(alloc, items.as_slice())?;
-    Ok(meaning_of_items(items.as_slice(), operands))
+    let items = items.as_slice();
+    if let Some(meaning) = request_in(items) {
+        return Ok(meaning);
+    }
+    if let Some(error) = fault_in(items) {
+        return Ok(Err(error));
+    }
+    let operands = operands_in(alloc, items)?;
+    Ok(command_of(items, operands))
 }
 
 /// Returns the arguments as paths, in the same memory.

@@ -38,10 +38,8 @@ pub(crate) fn strip_answer<'a>(base: Path<'_>, path: Path<'a>) -> Option<CowPath
     ensures { option_map cow_bytes result
         ≡ option_map dot_if_empty (rest_after base.entry.bytes.now path.entry.bytes.now) }
 {
-    match rest_after(base, path) {
-        Some(rest) => Some(CowPath::Borrowed(dot_if_empty(rest))),
-        None => None,
-    }
+    let rest = rest_after(base, path)?;
+    Some(CowPath::Borrowed(dot_if_empty(rest)))
 }
 
 // Returns the relative path from a directory, or `.` in place of the empty path.

@@ -1,5 +1,5 @@
 //! Answers paths, one after the other: operands, and the records of an input as they are read.
-ghost use Rattle.std.specs.Prelude.{◌≡◌, ◌++◌, ◌∷◌, [], ℕ, List, OnOk, false};
+ghost use Rattle.std.specs.Prelude.{◌≡◌, ◌++◌, ◌∷◌, ℕ, List, OnOk, false};
 ghost use Rattle.byte_streams.specs.Watched.{has_failed};
 ghost use Rattle.upath_commands.specs.Answers.{end_of};
 ghost use Rattle.upath_commands.specs.Records.{paths_of, records_of};
@@ -20,29 +20,7 @@ use std::alloc::Global;
 use unix_bytes::internal::after_last;
 use unix_path::Path;
 
-// Answers a path, or writes the message for it.
-fn answer_path<W: Sink, E: Sink>(
-    task: &Task<'_>,
-    path: Path<'_>,
-    replies: &mut Replies<W, E>,
-) -> Result<(), RunError>
-    requires { answers_failed replies.old ≡ false }
-    ensures { Replied W.Sink E.Sink (task_value task.now) result replies.old replies.new
-        (path.entry.bytes.now ∷ []) }
-{
-    let is_answered = replies.answers.answer(task, path)?;
-    let Tally { all, any } = replies.tally;
-    replies.tally = Tally {
-        all: all && is_answered,
-        any: any || is_answered,
-    };
-    if is_answered {
-        return Ok(());
-    }
-    report(&mut replies.messages, &mut replies.line, task, path)
-}
-
-// Answers a path, if it is selected.
+// Answers a path if it is selected, or writes the message for it.
 fn answer_next<W: Sink, E: Sink>(
     alloc: Global,
     task: &Task<'_>,
@@ -57,10 +35,19 @@ fn answer_next<W: Sink, E: Sink>(
         → selected selection.old (path.entry.bytes.now ∷ paths)
         ≡ taken selection.old path.entry.bytes.now ++ selected selection.new paths) }
 {
-    if selection.take(alloc, path)? {
-        return answer_path(task, path, replies);
+    if !selection.take(alloc, path)? {
+        return Ok(());
     }
-    Ok(())
+    let is_answered = replies.answers.answer(task, path)?;
+    let Tally { all, any } = replies.tally;
+    replies.tally = Tally {
+        all: all && is_answered,
+        any: any || is_answered,
+    };
+    if is_answered {
+        return Ok(());
+    }
+    report(&mut replies.messages, &mut replies.line, task, path)
 }
 
 // Answers each of these paths that is selected.

@@ -2,7 +2,7 @@
 ghost use Rattle.std.specs.Prelude.{◌≡◌, ◌++◌, ◌∷◌, IfOk};
 ghost use Rattle.std.specs.Str.{byte};
 ghost use Rattle.unix_path.specs.Pointers.{cow_bytes};
-ghost use Rattle.upath_commands.specs.Answers.{escape_reason, escaping_of, Finds, is_refused};
+ghost use Rattle.upath_commands.specs.Answers.{escape_reason, escaping_of, Finds};
 ghost use Rattle.upath_commands.specs.Escaping.{escapes};
 
 use crate::answer::path_of_bytes;
@@ -18,33 +18,20 @@ pub(crate) fn escapes(path: Path<'_>) -> bool
     within::escapes(path)
 }
 
-// Returns true if and only if the path escapes or has a NUL.
-pub(crate) fn is_refused(path: Path<'_>) -> bool
-    ensures { result ≡ is_refused path.entry.bytes.now }
-{
-    escapes(path) || has_nul(path.bytes)
-}
-
-// Returns the reason why a path is refused.
-fn escape_reason(path: Path<'_>) -> &'static [u8]
-    ensures { result.now ≡ escape_reason path.entry.bytes.now }
-{
-    if path.has_root() {
-        b"root"
-    } else if escapes(path) {
-        b"escapes"
-    } else {
-        b"nul"
-    }
-}
-
 // Returns the reason why a path is refused, a tab, and the path.
 fn with_reason<'a>(alloc: Global, path: Path<'_>) -> Result<CowPath<'a>, AllocError>
     ensures { IfOk result (λ answer. cow_bytes answer
         ≡ escape_reason path.entry.bytes.now ++ byte "\t" ∷ path.entry.bytes.now) }
 {
+    let reason: &[u8] = if path.has_root() {
+        b"root"
+    } else if escapes(path) {
+        b"escapes"
+    } else {
+        b"nul"
+    };
     let mut line = Vec::new(alloc);
-    line.extend_from_slice(escape_reason(path))?;
+    line.extend_from_slice(reason)?;
     line.push(b'\t')?;
     line.extend_from_slice(path.bytes)?;
     Ok(path_of_bytes(line))
@@ -58,7 +45,7 @@ pub(crate) fn escapes_answer<'a>(
 ) -> Result<Option<CowPath<'a>>, AllocError>
     ensures { Finds result (escaping_of options path.entry.bytes.now) }
 {
-    let is_refused = is_refused(path);
+    let is_refused = escapes(path) || has_nul(path.bytes);
     if is_refused == options.inverted {
         return Ok(None);
     }

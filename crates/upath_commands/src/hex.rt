@@ -1,6 +1,6 @@
 //! Bytes in hexadecimal.
 ghost use Rattle.std.specs.Prelude.{◌≡◌, ◌<◌, IfOk, option_map};
-ghost use Rattle.upath_commands.specs.Hex.{byte_value, digit_value, hex_digit, hex_of, hex_value};
+ghost use Rattle.upath_commands.specs.Hex.{digit_value, hex_digit, hex_of, hex_value};
 
 use std::alloc::{AllocError, Global};
 
@@ -40,16 +40,6 @@ fn digit_value(digit: u8) -> Option<u8>
     }
 }
 
-// Returns the byte with these two digits, or `None` if one of them is no digit.
-fn byte_value(high: u8, low: u8) -> Option<u8>
-    ensures { result ≡ byte_value high low }
-{
-    match (digit_value(high), digit_value(low)) {
-        (Some(high), Some(low)) => Some(16 * high + low),
-        _ => None,
-    }
-}
-
 // Returns the bytes that this text is in hexadecimal, or `None` if it isn't hexadecimal.
 #[tactic(auto, using(crate::proofs::lemmas::HexLemmas::no_value))]
 pub(crate) fn hex_value(alloc: Global, text: &[u8]) -> Result<Option<Vec<u8>>, AllocError>
@@ -59,10 +49,10 @@ pub(crate) fn hex_value(alloc: Global, text: &[u8]) -> Result<Option<Vec<u8>>, A
     let mut bytes = Vec::new(alloc);
     let mut rest = text;
     while let [high, low, after @ ..] = rest {
-        let Some(byte) = byte_value(*high, *low) else {
+        let (Some(high), Some(low)) = (digit_value(*high), digit_value(*low)) else {
             return Ok(None);
         };
-        bytes.push(byte)?;
+        bytes.push(16 * high + low)?;
         rest = after;
     }
     match rest {

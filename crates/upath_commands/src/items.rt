@@ -1,16 +1,12 @@
 //! What arguments say before the command is known: options, their values, operands and requests.
-ghost use Rattle.std.specs.Prelude.{◌≡◌, ◌++◌, ◌≤◌, ◌<◌, ◌∷◌, [], IfOk, OnOk, map, length, None};
+ghost use Rattle.std.specs.Prelude.{◌≡◌, ◌++◌, ◌∷◌, [], IfOk, OnOk, map, None, take};
 ghost use Rattle.upath_commands.specs.Items.{argument_items, character, item_value, items_after};
-ghost use Rattle.upath_commands.specs.Items.{known, letter_item, letter_items, long_items};
-ghost use Rattle.upath_commands.specs.Items.{operand, option_items, valued_name, with_value};
+ghost use Rattle.upath_commands.specs.Items.{letter_items, long_items, operand};
 ghost use Rattle.upath_commands.specs.Invocations.{view_bytes};
-ghost use Rattle.upath_commands.specs.Options.{option_by_letter};
-ghost use Rattle.std.specs.Prelude.{slice_index, take};
 ghost use Rattle.unix_bytes.specs.Lossy.{is_text};
 
 use crate::options::{
-    Flag, Request, is, option_by_letter, option_by_name, request_by_word, takes_value,
-    value_awaited,
+    Flag, Request, is, option_by_letter, option_by_name, request_by_word, value_awaited,
 };
 use crate::usage::UsageErrorKind;
 use std::alloc::{AllocError, Global};
@@ -19,44 +15,29 @@ use unix_bytes::internal::find_byte;
 use unix_bytes::laws::tests_are_right;
 use unix_path::Path;
 
-/// The kind of an item.
-///
-/// `a` is an `ItemKind::Operand`.
+// The kind of an item.
 #[derive(Clone, Copy)]
-pub enum ItemKind {
-    /// An operand.
+pub(crate) enum ItemKind {
+    // An operand.
     Operand,
-    /// `--`, after which all arguments are operands.
+    // `--`, after which all arguments are operands.
     Dashes,
-    /// An option, which is known.
+    // An option, which is known.
     Option(Flag),
-    /// The value of this option.
+    // The value of this option.
     Value(Flag),
-    /// `--help`, `-h` or `--version`.
+    // `--help`, `-h` or `--version`.
     Request(Request),
-    /// Wrong usage, whatever the command is.
+    // Wrong usage, whatever the command is.
     Wrong(UsageErrorKind),
 }
 
-/// What an argument says, or a letter of it, with its bytes.
-///
-/// `-zp` has two items, whose bytes are `z` and `p`.
+// What an argument says, or a letter of it. Its bytes are the argument, the letter of a short
+// option, or the value after a `=`.
 #[derive(Clone, Copy)]
-pub struct Item<'a> {
-    /// The kind of the item.
-    pub kind: ItemKind,
-    /// The argument, or the letter of a short option, or the value after a `=`.
-    pub bytes: Path<'a>,
-}
-
-// Returns the kind of an item for the option that was found, or for an unknown one.
-fn known(option: Option<Flag>) -> ItemKind
-    ensures { result ≡ known option }
-{
-    match option {
-        Some(flag) => ItemKind::Option(flag),
-        None => ItemKind::Wrong(UsageErrorKind::UnknownOption),
-    }
+pub(crate) struct Item<'a> {
+    pub(crate) kind: ItemKind,
+    pub(crate) bytes: Path<'a>,
 }
 
 // Appends one item.
@@ -75,27 +56,6 @@ fn push_item<'a>(
     Ok(())
 }
 
-// Appends the items of an argument that has a value after a `=`.
-fn push_with_value<'a>(
-    argument: &'a [u8],
-    value: &'a [u8],
-    kind: ItemKind,
-    items: &mut Vec<Item<'a>>,
-) -> Result<(), AllocError>
-    ensures { OnOk result (map item_value items.new.items
-        ≡ map item_value items.old.items ++ with_value argument.now value.now kind) }
-{
-    let ItemKind::Option(flag) = kind else {
-        return push_item(kind, argument, items);
-    };
-    if takes_value(flag) {
-        push_item(kind, argument, items)?;
-        return push_item(ItemKind::Value(flag), value, items);
-    }
-    let kind = ItemKind::Wrong(UsageErrorKind::UnexpectedValue);
-    push_item(kind, argument, items)
-}
-
 // Appends the items of an argument that is `--` and this text.
 fn push_long<'a>(
     argument: &'a [u8],
@@ -106,12 +66,19 @@ fn push_long<'a>(
         ≡ map item_value items.old.items ++ long_items argument.now text.now) }
 {
     let end = find_byte(text, b'=');
-    let kind = known(option_by_name(&text[..end]));
-    if end < text.len() {
-        push_with_value(argument, &text[end + 1..], kind, items)
-    } else {
-        push_item(kind, argument, items)
+    let Some(flag) = option_by_name(&text[..end]) else {
+        let kind = ItemKind::Wrong(UsageErrorKind::UnknownOption);
+        return push_item(kind, argument, items);
+    };
+    if end == text.len() {
+        return push_item(ItemKind::Option(flag), argument, items);
     }
+    if !matches!(flag, Flag::From | Flag::Or) {
+        let kind = ItemKind::Wrong(UsageErrorKind::UnexpectedValue);
+        return push_item(kind, argument, items);
+    }
+    push_item(ItemKind::Option(flag), argument, items)?;
+    push_item(ItemKind::Value(flag), &text[end + 1..], items)
 }
 
 // Returns true if and only if a prefix, or all of `bytes` if it is shorter, is valid UTF-8.
@@ -137,46 +104,22 @@ fn character(bytes: &[u8]) -> &[u8]
     &bytes[..bytes.len().min(len)]
 }
 
-// Appends the item of the first of these letters.
-fn push_letter<'a>(letters: &'a [u8], items: &mut Vec<Item<'a>>) -> Result<(), AllocError>
-    requires { 0 < length letters.now }
-    ensures { OnOk result (map item_value items.new.items ≡ map item_value items.old.items
-        ++ letter_item (option_by_letter (slice_index letters.now 0)) letters.now ∷ []) }
-{
-    match option_by_letter(letters[0]) {
-        Some(flag) => push_item(ItemKind::Option(flag), &letters[..1], items),
-        None => {
-            let kind = ItemKind::Wrong(UsageErrorKind::UnknownLetter);
-            push_item(kind, character(letters), items)
-        }
-    }
-}
-
 // Appends an item for each letter.
 fn push_letters<'a>(letters: &'a [u8], items: &mut Vec<Item<'a>>) -> Result<(), AllocError>
     ensures { OnOk result (map item_value items.new.items
         ≡ map item_value items.old.items ++ letter_items letters.now) }
 {
-    let mut index = 0;
-    while index < letters.len() {
-        push_letter(&letters[index..], items)?;
-        index += 1;
+    for (index, letter) in letters.iter().enumerate() {
+        let rest = &letters[index..];
+        match option_by_letter(*letter) {
+            Some(flag) => push_item(ItemKind::Option(flag), &rest[..1], items)?,
+            None => {
+                let kind = ItemKind::Wrong(UsageErrorKind::UnknownLetter);
+                push_item(kind, character(rest), items)?;
+            }
+        }
     }
     Ok(())
-}
-
-// Appends the items of an argument that is no request.
-fn push_option<'a>(argument: &'a [u8], items: &mut Vec<Item<'a>>) -> Result<(), AllocError>
-    ensures { OnOk result (map item_value items.new.items
-        ≡ map item_value items.old.items ++ option_items argument.now) }
-{
-    if argument.starts_with(b"--") {
-        push_long(argument, &argument[2..], items)
-    } else if argument.starts_with(b"-") && !is(argument, b"-") {
-        push_letters(&argument[1..], items)
-    } else {
-        push_item(ItemKind::Operand, argument, items)
-    }
 }
 
 // Appends the items of an argument that may be an option or a request.
@@ -184,9 +127,14 @@ fn push_argument<'a>(argument: &'a [u8], items: &mut Vec<Item<'a>>) -> Result<()
     ensures { OnOk result (map item_value items.new.items
         ≡ map item_value items.old.items ++ argument_items argument.now) }
 {
-    match request_by_word(argument) {
-        Some(request) => push_item(ItemKind::Request(request), argument, items),
-        None => push_option(argument, items),
+    if let Some(request) = request_by_word(argument) {
+        push_item(ItemKind::Request(request), argument, items)
+    } else if argument.starts_with(b"--") {
+        push_long(argument, &argument[2..], items)
+    } else if argument.starts_with(b"-") && !is(argument, b"-") {
+        push_letters(&argument[1..], items)
+    } else {
+        push_item(ItemKind::Operand, argument, items)
     }
 }
 
@@ -201,34 +149,24 @@ fn push_operands<'a>(arguments: &[Path<'a>], items: &mut Vec<Item<'a>>) -> Resul
     Ok(())
 }
 
-// Returns the argument that is this option, without a value.
-fn valued_name(option: Flag) -> &'static [u8]
-    ensures { result.now ≡ valued_name option }
-{
-    match option {
-        Flag::Or => b"--or",
-        _ => b"--from",
-    }
-}
-
 // Appends wrong usage, if an option still awaits its value.
 fn push_missing(awaits: Option<Flag>, items: &mut Vec<Item<'_>>) -> Result<(), AllocError>
     ensures { OnOk result (map item_value items.new.items
         ≡ map item_value items.old.items ++ items_after awaits []) }
 {
+    let kind = ItemKind::Wrong(UsageErrorKind::MissingValue);
     match awaits {
-        Some(flag) => {
-            let kind = ItemKind::Wrong(UsageErrorKind::MissingValue);
-            push_item(kind, valued_name(flag), items)
-        }
         None => Ok(()),
+        Some(Flag::Or) => push_item(kind, b"--or", items),
+        Some(_) => push_item(kind, b"--from", items),
     }
 }
 
-/// Returns what the arguments say, in their order.
-///
-/// The items of `canon` and `--null` are an operand and `Flag::Null`.
-pub fn items_of<'a>(alloc: Global, arguments: &[Path<'a>]) -> Result<Vec<Item<'a>>, AllocError>
+// Returns what the arguments say, in their order.
+pub(crate) fn items_of<'a>(
+    alloc: Global,
+    arguments: &[Path<'a>],
+) -> Result<Vec<Item<'a>>, AllocError>
     ensures { IfOk result (λ items. map item_value items.items
         ≡ items_after None (map view_bytes arguments.now)) }
 {

@@ -3,8 +3,6 @@ ghost use Rattle.std.specs.Prelude.{◌≡◌, Some};
 ghost use Rattle.path_within.specs.Below.{below_of};
 ghost use Rattle.path_within.specs.Requests.{request_names};
 ghost use Rattle.upath_commands.specs.Answers.{Finds, joined_of};
-ghost use Rattle.upath_commands.specs.declared.command.JoinRule.TheVariants.{Beneath, InRoot};
-ghost use Rattle.upath_commands.specs.declared.command.JoinRule.TheVariants.{Verbatim};
 
 use crate::command::JoinRule;
 use path_within::within::join_verbatim;
@@ -26,49 +24,6 @@ fn join_request<'a>(
     Ok(Some(CowPath::Owned(answer)))
 }
 
-// Returns the join of a path that doesn't escape, below the root as spelled.
-fn join_beneath<'a>(
-    alloc: Global,
-    root: Path<'_>,
-    path: Path<'_>,
-) -> Result<Option<CowPath<'a>>, AllocError>
-    ensures { Finds result (joined_of Beneath root.entry.bytes.now path.entry.bytes.now) }
-{
-    match Request::beneath(path) {
-        Ok(request) => join_request(alloc, root, request),
-        Err(_) => Ok(None),
-    }
-}
-
-// Returns the join of a path that stays at the root, below the root as spelled.
-fn join_in_root<'a>(
-    alloc: Global,
-    root: Path<'_>,
-    path: Path<'_>,
-) -> Result<Option<CowPath<'a>>, AllocError>
-    ensures { Finds result (joined_of InRoot root.entry.bytes.now path.entry.bytes.now) }
-{
-    match Request::in_root(path) {
-        Ok(request) => join_request(alloc, root, request),
-        Err(_) => Ok(None),
-    }
-}
-
-// Returns the join of a path that has neither a root nor any `..`.
-fn join_as_is<'a>(
-    alloc: Global,
-    root: Path<'_>,
-    path: Path<'_>,
-) -> Result<Option<CowPath<'a>>, AllocError>
-    ensures { Finds result (joined_of Verbatim root.entry.bytes.now path.entry.bytes.now) }
-{
-    match join_verbatim(alloc, root, path) {
-        Ok(answer) => Ok(Some(CowPath::Owned(answer))),
-        Err(WithinError::Memory(error)) => Err(error),
-        Err(_) => Ok(None),
-    }
-}
-
 // Returns the join to the root, unless the rule refuses the path.
 pub(crate) fn join_answer<'a>(
     alloc: Global,
@@ -80,8 +35,18 @@ pub(crate) fn join_answer<'a>(
 {
     match rule {
         JoinRule::Trusted => Ok(Some(CowPath::Owned(root.join(alloc, path)?))),
-        JoinRule::Beneath => join_beneath(alloc, root, path),
-        JoinRule::InRoot => join_in_root(alloc, root, path),
-        JoinRule::Verbatim => join_as_is(alloc, root, path),
+        JoinRule::Beneath => match Request::beneath(path) {
+            Ok(request) => join_request(alloc, root, request),
+            Err(_) => Ok(None),
+        },
+        JoinRule::InRoot => match Request::in_root(path) {
+            Ok(request) => join_request(alloc, root, request),
+            Err(_) => Ok(None),
+        },
+        JoinRule::Verbatim => match join_verbatim(alloc, root, path) {
+            Ok(answer) => Ok(Some(CowPath::Owned(answer))),
+            Err(WithinError::Memory(error)) => Err(error),
+            Err(_) => Ok(None),
+        },
     }
 }

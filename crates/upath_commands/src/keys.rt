@@ -5,7 +5,7 @@ ghost use Rattle.unix_path.specs.Parts.{values};
 ghost use Rattle.path_keys.specs.Keys.{key_of};
 ghost use Rattle.upath_commands.specs.Answers.{Finds};
 ghost use Rattle.upath_commands.specs.Hex.{hex_of};
-ghost use Rattle.upath_commands.specs.KeyTexts.{has_end, key_path, unkey_of, unkeyed_path};
+ghost use Rattle.upath_commands.specs.KeyTexts.{unkey_of, unkeyed_path};
 
 use crate::answer::path_of_bytes;
 use crate::hex::{hex_of, hex_value};
@@ -27,35 +27,17 @@ pub(crate) fn key_answer<'a>(
     Ok(Some(path_of_bytes(text)))
 }
 
-// Returns the canonical form of the paths with this key, or `None` if no path has it.
-fn key_path(alloc: Global, key: &[u8]) -> Result<Option<PathBuf>, AllocError>
-    ensures { IfOk result (λ found. option_map path_bytes found ≡ key_path key.now) }
-{
-    match path_of(alloc, key) {
-        Ok(path) => Ok(Some(path)),
-        Err(KeyError::NotAKey) => Ok(None),
-        Err(KeyError::Memory(error)) => Err(error),
-    }
-}
-
 // Returns the path of the key that this text is in hexadecimal, or `None` if it is no key.
 pub(crate) fn unkeyed_path(alloc: Global, text: &[u8]) -> Result<Option<PathBuf>, AllocError>
     ensures { IfOk result (λ found. option_map path_bytes found ≡ unkeyed_path text.now) }
 {
-    match hex_value(alloc, text)? {
-        Some(key) => key_path(alloc, key.as_slice()),
-        None => Ok(None),
-    }
-}
-
-// Returns true if and only if the bytes have the byte that ends records.
-fn has_end(null: bool, bytes: &[u8]) -> bool
-    ensures { result ≡ has_end null bytes.now }
-{
-    if null {
-        has_nul(bytes)
-    } else {
-        has_newline(bytes)
+    let Some(key) = hex_value(alloc, text)? else {
+        return Ok(None);
+    };
+    match path_of(alloc, key.as_slice()) {
+        Ok(path) => Ok(Some(path)),
+        Err(KeyError::NotAKey) => Ok(None),
+        Err(KeyError::Memory(error)) => Err(error),
     }
 }
 
@@ -68,7 +50,9 @@ pub(crate) fn unkey_answer<'a>(
     ensures { Finds result (unkey_of null text.entry.bytes.now) }
 {
     match unkeyed_path(alloc, text.bytes)? {
-        Some(path) if !has_end(null, path.as_path().bytes) => Ok(Some(CowPath::Owned(path))),
-        _ => Ok(None),
+        Some(path) if null && has_nul(path.as_path().bytes) => Ok(None),
+        Some(path) if !null && has_newline(path.as_path().bytes) => Ok(None),
+        Some(path) => Ok(Some(CowPath::Owned(path))),
+        None => Ok(None),
     }
 }

@@ -53,7 +53,6 @@ pub mod sort_laws;
 mod sorting;
 mod task;
 mod usage;
-mod words;
 
 pub use arguments::{argument_paths, invocation_of};
 pub use command::{Command, Invocation, JoinRule, Options, Task};

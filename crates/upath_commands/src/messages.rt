@@ -9,7 +9,7 @@ ghost use Rattle.upath_commands.specs.Usage.{usage_line};
 
 use crate::command::Task;
 use crate::output::RunError;
-use crate::task::push_message;
+use crate::reasons::push_message;
 use crate::usage::{UsageError, push_usage};
 use byte_streams::{Sink, Watched, write_all};
 use std::alloc::{AllocError, Global};
@@ -58,24 +58,18 @@ pub(crate) fn report_usage<E: Sink>(
     Ok(())
 }
 
-// Writes the message for an error of the run, unless `is_quiet`.
+// Writes the message for an error of the run, unless `is_quiet`, nobody reads the output any more,
+// or the caller reports the error. It needs no memory.
 pub(crate) fn report_error<E: Sink>(sink: &mut Watched<E>, is_quiet: bool, error: RunError)
     ensures { Told E.Sink sink.old sink.new (error_line is_quiet error) }
 {
-    if !is_quiet {
-        send(sink, line_of(error));
+    if is_quiet {
+        return;
     }
-}
-
-// Returns the line for an error, which needs no memory. It is empty if nobody reads the output any
-// more, and for an error that the caller reports.
-fn line_of(error: RunError) -> &'static [u8]
-    ensures { result.now ≡ error_line false error }
-{
     match error {
-        RunError::Read => b"upath: read error\n",
-        RunError::Write => b"upath: write error\n",
-        RunError::Memory => b"upath: out of memory\n",
-        RunError::Closed | RunError::Arguments => b"",
+        RunError::Read => send(sink, b"upath: read error\n"),
+        RunError::Write => send(sink, b"upath: write error\n"),
+        RunError::Memory => send(sink, b"upath: out of memory\n"),
+        RunError::Closed | RunError::Arguments => {}
     }
 }

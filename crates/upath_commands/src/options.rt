@@ -3,57 +3,53 @@ ghost use Rattle.std.specs.Prelude.{◌≡◌};
 ghost use Rattle.std.specs.Str.{bytes_eq};
 ghost use Rattle.upath_commands.specs.Items.{value_awaited};
 ghost use Rattle.upath_commands.specs.Options.{command_by_name, has_option, option_by_letter};
-ghost use Rattle.upath_commands.specs.Options.{option_by_name, request_by_word, takes_value};
+ghost use Rattle.upath_commands.specs.Options.{option_by_name, request_by_word};
 
 use crate::command::Command;
 
-/// An option.
-///
-/// `-z` and `--null` are both `Flag::Null`.
+// An option.
 #[derive(Clone, Copy, PartialEq, Eq)]
-pub enum Flag {
-    /// `-z` or `--null`.
+pub(crate) enum Flag {
+    // `-z` or `--null`.
     Null,
-    /// `-p` or `--pair`.
+    // `-p` or `--pair`.
     Pair,
-    /// `-q` or `--quiet`.
+    // `-q` or `--quiet`.
     Quiet,
-    /// `--or`, which takes a value.
+    // `--or`, which takes a value.
     Or,
-    /// `-b`.
+    // `-b`.
     FromBack,
-    /// `--beneath`.
+    // `--beneath`.
     Beneath,
-    /// `--in-root`.
+    // `--in-root`.
     InRoot,
-    /// `--verbatim`.
+    // `--verbatim`.
     Verbatim,
-    /// `--from`, which takes a value.
+    // `--from`, which takes a value.
     From,
-    /// `-v`.
+    // `-v`.
     Inverted,
-    /// `--reason`.
+    // `--reason`.
     Reason,
-    /// `--strip`.
+    // `--strip`.
     Strip,
-    /// `--by-components`.
+    // `--by-components`.
     ByComponents,
-    /// `-c`.
+    // `-c`.
     Check,
-    /// `-u`.
+    // `-u`.
     Unique,
-    /// `-r`.
+    // `-r`.
     Reversed,
-    /// `--closed`.
+    // `--closed`.
     Closed,
-    /// `--tar-list`.
+    // `--tar-list`.
     TarList,
 }
 
-/// Returns the option with this letter, or `None` if no option has it.
-///
-/// For `b'z'` it is `Flag::Null`.
-pub fn option_by_letter(letter: u8) -> Option<Flag>
+// Returns the option with this letter, or `None` if no option has it.
+pub(crate) fn option_by_letter(letter: u8) -> Option<Flag>
     ensures { result ≡ option_by_letter letter }
 {
     match letter {
@@ -69,20 +65,16 @@ pub fn option_by_letter(letter: u8) -> Option<Flag>
     }
 }
 
-/// Returns true if and only if the bytes are this name.
-///
-/// `is(b"--", b"--")` is true.
-pub fn is(bytes: &[u8], name: &[u8]) -> bool
+// Returns true if and only if the bytes are this name.
+pub(crate) fn is(bytes: &[u8], name: &[u8]) -> bool
     ensures { result ≡ bytes_eq bytes.now name.now }
 {
     bytes == name
 }
 
-/// Returns the option with this long name, or `None` if no option has it. A name that is cut short
-/// is another name.
-///
-/// For `null` it is `Flag::Null`, and for `nul` there is none.
-pub fn option_by_name(name: &[u8]) -> Option<Flag>
+// Returns the option with this long name, or `None` if no option has it. A name that is cut short
+// is another name.
+pub(crate) fn option_by_name(name: &[u8]) -> Option<Flag>
     ensures { result ≡ option_by_name name.now }
 {
     match () {
@@ -103,10 +95,8 @@ pub fn option_by_name(name: &[u8]) -> Option<Flag>
     }
 }
 
-/// Returns the command with this name, or `None` if no command has it.
-///
-/// For `ext` it is `Command::Extension`.
-pub fn command_by_name(name: &[u8]) -> Option<Command>
+// Returns the command with this name, or `None` if no command has it.
+pub(crate) fn command_by_name(name: &[u8]) -> Option<Command>
     ensures { result ≡ command_by_name name.now }
 {
     match () {
@@ -133,10 +123,8 @@ pub fn command_by_name(name: &[u8]) -> Option<Command>
     }
 }
 
-/// Returns true if and only if the command has the option.
-///
-/// `Command::Parts` has `Flag::FromBack`, and no other command has.
-pub fn has_option(command: Command, option: Flag) -> bool
+// Returns true if and only if the command has the option.
+pub(crate) fn has_option(command: Command, option: Flag) -> bool
     ensures { result ≡ has_option command option }
 {
     match option {
@@ -153,21 +141,17 @@ pub fn has_option(command: Command, option: Flag) -> bool
     }
 }
 
-/// What is asked for in the place of a command.
-///
-/// `--help` and `-h` are both `Request::Help`.
+// What is asked for in the place of a command.
 #[derive(Clone, Copy, PartialEq, Eq)]
-pub enum Request {
-    /// `--help` or `-h`.
+pub(crate) enum Request {
+    // `--help` or `-h`.
     Help,
-    /// `--version`.
+    // `--version`.
     Version,
 }
 
-/// Returns the request that this argument is, or `None` if it is none.
-///
-/// For `-h` it is `Request::Help`, and for `-zh` there is none.
-pub fn request_by_word(word: &[u8]) -> Option<Request>
+// Returns the request that this argument is, or `None` if it is none.
+pub(crate) fn request_by_word(word: &[u8]) -> Option<Request>
     ensures { result ≡ request_by_word word.now }
 {
     match () {
@@ -178,20 +162,9 @@ pub fn request_by_word(word: &[u8]) -> Option<Request>
     }
 }
 
-/// Returns true if and only if the option takes a value.
-///
-/// `Flag::From` does.
-pub fn takes_value(option: Flag) -> bool
-    ensures { result ≡ takes_value option }
-{
-    matches!(option, Flag::From | Flag::Or)
-}
-
-/// Returns the option whose value is the next argument, or `None` if this argument is no such
-/// option.
-///
-/// For `--from` it is `Flag::From`, and for `--from=a` there is none.
-pub fn value_awaited(argument: &[u8]) -> Option<Flag>
+// Returns the option whose value is the next argument, or `None` if this argument is no such
+// option.
+pub(crate) fn value_awaited(argument: &[u8]) -> Option<Flag>
     ensures { result ≡ value_awaited argument.now }
 {
     match () {

@@ -1,5 +1,5 @@
 //! Answers that are the components of a path, each a record.
-ghost use Rattle.std.specs.Prelude.{◌≡◌, ◌++◌, OnOk, List, map, reverse};
+ghost use Rattle.std.specs.Prelude.{◌≡◌, ◌++◌, if◌then◌else◌, OnOk, List, map, reverse};
 ghost use Rattle.std.specs.Iterator.{IsFinite, Drains};
 ghost use Rattle.unix_bytes.specs.declared.bytes.UnixStr.{UnixStr};
 ghost use Rattle.upath_commands.specs.Answers.{part_bytes, record_output};
@@ -30,33 +30,19 @@ fn push_each<'a, I: Iterator<Item = UnixStr<'a>>>(
     Ok(())
 }
 
-// Appends the components.
+// Appends the components, from the last one if the options say so.
 pub(crate) fn push_parts(
     path: Path<'_>,
     options: Options,
     out: &mut Vec<u8>,
 ) -> Result<(), AllocError>
-    ensures { OnOk result (out.new.items ≡ out.old.items
-        ++ record_output options path.entry.bytes.now
-        (part_bytes path.entry.bytes.now)) }
+    ensures { let parts = part_bytes path.entry.bytes.now in OnOk result (out.new.items
+        ≡ out.old.items ++ record_output options path.entry.bytes.now
+        (if options.from_back then reverse parts else parts)) }
 {
-    push_each(
-        path.components().map(Component::as_unix_str),
-        path,
-        options,
-        out,
-    )
-}
-
-// Appends the components, from the last one.
-pub(crate) fn push_parts_from_back(
-    path: Path<'_>,
-    options: Options,
-    out: &mut Vec<u8>,
-) -> Result<(), AllocError>
-    ensures { OnOk result (out.new.items ≡ out.old.items
-        ++ record_output options path.entry.bytes.now
-        (reverse (part_bytes path.entry.bytes.now))) }
-{
-    push_each(path.iter().rev(), path, options, out)
+    if options.from_back {
+        return push_each(path.iter().rev(), path, options, out);
+    }
+    let parts = path.components().map(Component::as_unix_str);
+    push_each(parts, path, options, out)
 }

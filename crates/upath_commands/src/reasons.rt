@@ -2,7 +2,7 @@
 ghost use Rattle.std.specs.Prelude.{◌≡◌, ◌++◌, IfOk, OnOk, option_map};
 ghost use Rattle.upath_commands.specs.Invocations.{task_value};
 ghost use Rattle.unix_path.specs.Parts.{is_rooted};
-ghost use Rattle.upath_commands.specs.Refusals.{join_reason, no_relative, reason_line, reason_of};
+ghost use Rattle.upath_commands.specs.Refusals.{join_reason, message_for, no_relative, reason_of};
 ghost use Rattle.upath_commands.specs.Refusals.{reason_text, unkey_reason};
 
 use crate::command::{Command, JoinRule, Task};
@@ -13,14 +13,12 @@ use path_within::within::has_root_or_parent_dir;
 use std::alloc::{AllocError, Global};
 use unix_path::Path;
 
-/// Why a path has no answer.
-///
-/// `upath name a/..` has the reason `Plain` of `no file name`.
+// Why a path has no answer.
 #[derive(Clone, Copy)]
-pub enum Reason<'a> {
-    /// This text.
+pub(crate) enum Reason<'a> {
+    // This text.
     Plain(&'static [u8]),
-    /// There is no relative path from this directory, and this text says why.
+    // There is no relative path from this directory, and this text says why.
     NoRelative(Path<'a>, &'static [u8]),
 }
 
@@ -60,7 +58,7 @@ fn unkey_reason(alloc: Global, null: bool, text: &[u8]) -> Result<&'static [u8],
 }
 
 // Returns why a path has no answer that has none. Allocates for `unkey`.
-pub(crate) fn reason_of<'a>(
+fn reason_of<'a>(
     alloc: Global,
     task: &Task<'a>,
     path: Path<'_>,
@@ -97,16 +95,19 @@ fn push_text(reason: Reason<'_>, out: &mut Vec<u8>) -> Result<(), AllocError>
     Ok(())
 }
 
-// Appends the line for a path and a reason.
-pub(crate) fn push_reason(
+// Appends the message for a path that is not answered.
+pub(crate) fn push_message(
+    task: &Task<'_>,
     path: Path<'_>,
-    reason: Option<Reason<'_>>,
     out: &mut Vec<u8>,
 ) -> Result<(), AllocError>
-    ensures { OnOk result (out.new.items ≡ out.old.items
-        ++ reason_line path.entry.bytes.now (option_map reason_text reason.entry)) }
+    ensures { OnOk result (out.new.items
+        ≡ out.old.items ++ message_for (task_value task.now) path.entry.bytes.now) }
 {
-    let Some(reason) = reason else {
+    if task.options.quiet {
+        return Ok(());
+    }
+    let Some(reason) = reason_of(*out.allocator(), task, path)? else {
         return Ok(());
     };
     out.extend_from_slice(b"upath: ")?;

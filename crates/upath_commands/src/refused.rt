@@ -1,14 +1,12 @@
 //! What `archive` prints for the entries that are refused.
-ghost use Rattle.std.specs.Prelude.{◌≡◌, ◌++◌, ◌∷◌, [], IfOk, OnOk, map};
+ghost use Rattle.std.specs.Prelude.{◌≡◌, ◌++◌, IfOk, OnOk, map};
 ghost use Rattle.std.specs.List.{flat_map};
-ghost use Rattle.std.specs.Str.{byte};
 ghost use Rattle.path_archive.specs.EntryViews.{entry_value};
-ghost use Rattle.upath_commands.specs.Archives.{cut_line, cut_record, entry_in, kind_text};
-ghost use Rattle.upath_commands.specs.Archives.{leaf_text, or_its_target, or_target, printed_path};
-ghost use Rattle.upath_commands.specs.Archives.{reason_name};
+ghost use Rattle.upath_commands.specs.Archives.{cut_line, entry_in, kind_text, leaf_text};
+ghost use Rattle.upath_commands.specs.Archives.{or_its_target, or_target, reason_name};
+ghost use Rattle.upath_commands.specs.Archives.{refusal_lines};
 ghost use Rattle.upath_commands.specs.Archives.{refusal_message, refusal_record, refusal_text};
 ghost use Rattle.upath_commands.specs.Archives.{refused_line};
-ghost use Rattle.upath_commands.specs.Shown.{shown};
 
 use crate::command::Options;
 use crate::push::end_of;
@@ -42,18 +40,6 @@ fn reason_name(reason: Reason) -> &'static [u8]
     }
 }
 
-// Appends a path as it is printed.
-fn push_path(path: &[u8], options: Options, out: &mut Vec<u8>) -> Result<(), AllocError>
-    ensures { OnOk result (out.new.items ≡ out.old.items
-        ++ printed_path options path.now) }
-{
-    if has_newline(path) && !options.null {
-        return push_shown(path, out);
-    }
-    out.extend_from_slice(path)?;
-    Ok(())
-}
-
 // Appends the record for a refusal.
 fn push_record(
     options: Options,
@@ -68,7 +54,12 @@ fn push_record(
         out.extend_from_slice(reason_name(refusal.reason))?;
         out.push(b'\t')?;
     }
-    push_path(entry_at(entries, refusal.entry).path().bytes, options, out)?;
+    let path = entry_at(entries, refusal.entry).path().bytes;
+    if has_newline(path) && !options.null {
+        push_shown(path, out)?;
+    } else {
+        out.extend_from_slice(path)?;
+    }
     out.push(end_of(options))?;
     Ok(())
 }
@@ -89,22 +80,14 @@ pub(crate) fn push_records(
     Ok(())
 }
 
-// Appends bytes as messages show them, and a space.
-fn push_word(bytes: &[u8], out: &mut Vec<u8>) -> Result<(), AllocError>
-    ensures { OnOk result (out.new.items ≡ out.old.items ++ (shown bytes.now ++ byte " " ∷ [])) }
-{
-    push_shown(bytes, out)?;
-    out.push(b' ')?;
-    Ok(())
-}
-
 // Appends the target of a hard link, which may be what is refused.
 fn push_or_target(entry: Entry<'_>, out: &mut Vec<u8>) -> Result<(), AllocError>
     ensures { OnOk result (out.new.items ≡ out.old.items ++ or_target (entry_value entry.entry)) }
 {
     if let Entry::HardLink(_, target) = entry {
         out.extend_from_slice(b"this path or the target ")?;
-        push_word(target.bytes, out)?;
+        push_shown(target.bytes, out)?;
+        out.push(b' ')?;
     }
     Ok(())
 }
@@ -196,39 +179,36 @@ fn push_message(
     Ok(())
 }
 
-// Appends the message for each refusal.
+// Appends the message for each refusal, or one if there are no entries.
 pub(crate) fn push_messages(
     entries: &[Entry<'_>],
     refusals: &[Refusal],
     out: &mut Vec<u8>,
 ) -> Result<(), AllocError>
     ensures { OnOk result (out.new.items ≡ out.old.items
-        ++ flat_map (refusal_message (map entry_value entries.now)) refusals.now) }
+        ++ refusal_lines (map entry_value entries.now) refusals.now) }
 {
+    if entries.is_empty() {
+        out.extend_from_slice(b"upath: no entries\n")?;
+        return Ok(());
+    }
     for refusal in refusals {
         push_message(entries, *refusal, out)?;
     }
     Ok(())
 }
 
-// Returns the number, from 1, of the record that is cut off in this input.
-fn cut_record(input: &[u8]) -> usize
-    ensures { result ≡ cut_record input.now }
+// Returns the message for an input in which a record is cut off.
+pub(crate) fn cut_line(alloc: Global, input: &[u8]) -> Result<Vec<u8>, AllocError>
+    ensures { IfOk result (λ line. line.items ≡ cut_line input.now) }
 {
-    let mut count = 0;
+    let mut count: usize = 0;
     for byte in input {
         if *byte == 0 {
             count += 1;
         }
     }
-    count / 3 + 1
-}
-
-// Returns the message for an input in which a record is cut off.
-pub(crate) fn cut_line(alloc: Global, input: &[u8]) -> Result<Vec<u8>, AllocError>
-    ensures { IfOk result (λ line. line.items ≡ cut_line input.now) }
-{
-    let n = cut_record(input);
+    let n = count / 3 + 1;
     let line = format!(in alloc; "upath: record {n} is cut off\n")?;
     Ok(line.into_bytes())
 }

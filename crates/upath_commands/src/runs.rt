@@ -108,25 +108,6 @@ fn answer_operands<W: Sink, E: Sink>(
     answer_paths(alloc, task, &mut selection, paths, replies)
 }
 
-// Answers the records of the input, of a command that needs all of them before it answers.
-fn gather_input<R: Source, W: Sink, E: Sink>(
-    alloc: Global,
-    task: &Task<'_>,
-    reader: &mut Watched<R>,
-    replies: &mut Replies<W, E>,
-) -> Result<(), RunError>
-    requires write { answers_failed replies.old ≡ false }
-    requires read { has_failed reader.old ≡ false }
-    requires gathered { is_gathered task.now.command ≡ true }
-    ensures { let value = task_value task.now in
-        RepliedTo R.Source W.Sink E.Sink value result reader.old reader.new replies.old replies.new
-        (asked value None) }
-{
-    let input = read_all(alloc, reader)?;
-    let paths = records_in(alloc, input.as_slice(), end_of(task.options))?;
-    answer_gathered(alloc, task, paths, replies)
-}
-
 // Answers the records of the input.
 fn answer_records_read<R: Source, W: Sink, E: Sink>(
     alloc: Global,
@@ -141,7 +122,9 @@ fn answer_records_read<R: Source, W: Sink, E: Sink>(
         (asked value None) }
 {
     if is_gathered(task.command) {
-        return gather_input(alloc, task, reader, replies);
+        let input = read_all(alloc, reader)?;
+        let paths = records_in(alloc, input.as_slice(), end_of(task.options))?;
+        return answer_gathered(alloc, task, paths, replies);
     }
     let mut selection = Selection::new(alloc, is_uniq(task.command));
     answer_input(alloc, task, &mut selection, reader, replies)

@@ -1,6 +1,6 @@
 //! Wrong usage: lists of arguments without a meaning.
 ghost use Rattle.std.specs.Prelude.{◌≡◌, ◌++◌, OnOk};
-ghost use Rattle.upath_commands.specs.Invocations.{usage_value};
+ghost use Rattle.upath_commands.specs.Invocations.{usage_value, view_bytes};
 ghost use Rattle.upath_commands.specs.Usage.{shown_argument, usage_line, usage_text};
 
 use crate::shown::push_shown;
@@ -53,6 +53,13 @@ pub struct UsageError<'a> {
     pub kind: UsageErrorKind,
     /// The argument, with its dashes and its value, or only the letter of a short option.
     pub argument: Path<'a>,
+}
+
+// Returns wrong usage of this kind.
+pub(crate) fn wrong<'a>(kind: UsageErrorKind, argument: Path<'a>) -> UsageError<'a>
+    ensures { usage_value result ≡ (kind, view_bytes argument.entry) }
+{
+    UsageError { kind, argument }
 }
 
 // Returns what is wrong with the argument of wrong usage.

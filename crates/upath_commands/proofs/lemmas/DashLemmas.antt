@@ -3,6 +3,8 @@ use Rattle.std.proofs.Common.{◌≡◌, ℕ, ◌+◌, false, List, [], ◌∷�
 use Rattle.std.proofs.Common.{Option, Some, None, map, refl, sym, ap, ◌∙◌, one-add, arith}
 use Rattle.std.proofs.Common.{if◌then◌else◌, add_assoc}
 use Rattle.std.specs.List.{before_first, cons_option, list_any, position_or_len}
+use Rattle.upath_commands.specs.declared.items.ItemKind.{ItemKind}
+use Rattle.upath_commands.specs.declared.items.ItemKind.TheVariants as kind
 use Rattle.upath_commands.specs.Arguments.{dashes_at, is_dashes, operand_of, operands_of}
 use Rattle.upath_commands.specs.Items.{ItemValue, operand}
 use Rattle.upath_commands.proofs.lemmas.RecordLemmas.{by_test}
@@ -69,3 +71,25 @@ dashes-moved item before items h none =
     ∙ dashes_after-operands before 0 (item ∷ items) ∙ dashes_after-other n item items h none
     ∙ sym (dashes_at-after (item ∷ rest) ∙ dashes_after-other 0 item rest h none
     ∙ dashes_after-operands before 0 items)
+
+-- an operand counts
+pub dashes-operand : (n m : ℕ) (found : ItemKind) (bytes : List ℕ) (items : List ItemValue)
+    → found ≡ kind.Operand → m ≡ n + 1
+    → dashes_after m items ≡ dashes_after n ((found, bytes) ∷ items)
+dashes-operand n m found bytes items is count =
+    rw (is, count) (sym (dashes_after-next n (n + 1) (operand bytes) items refl refl))
+
+-- another item than `--` doesn't
+pub dashes-other : (n m : ℕ) (found : ItemKind) (bytes : List ℕ) (items : List ItemValue)
+    → (found ≡ kind.Dashes → ⊥) → (found ≡ kind.Operand → ⊥) → m ≡ n
+    → dashes_after m items ≡ dashes_after n ((found, bytes) ∷ items)
+dashes-other n m kind.Operand bytes items dashes no_operand count = absurd (no_operand refl)
+dashes-other n m kind.Dashes bytes items dashes no_operand count = absurd (dashes refl)
+dashes-other n m (kind.Option f) bytes items dashes no_operand count =
+    rw count (sym (dashes_after-other n (kind.Option f, bytes) items refl refl))
+dashes-other n m (kind.Value f) bytes items dashes no_operand count =
+    rw count (sym (dashes_after-other n (kind.Value f, bytes) items refl refl))
+dashes-other n m (kind.Request r) bytes items dashes no_operand count =
+    rw count (sym (dashes_after-other n (kind.Request r, bytes) items refl refl))
+dashes-other n m (kind.Wrong w) bytes items dashes no_operand count =
+    rw count (sym (dashes_after-other n (kind.Wrong w, bytes) items refl refl))

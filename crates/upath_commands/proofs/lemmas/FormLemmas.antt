@@ -9,7 +9,7 @@ use Rattle.byte_streams.specs.Watched.{AppendsPrefix}
 use Rattle.unix_path.specs.Order.{values_cmp}
 use Rattle.unix_path.specs.Parts.{values}
 use Rattle.upath_commands.specs.declared.runs.Texts.{Texts}
-use Rattle.upath_commands.specs.Invocations.{InvocationValue, Meaning}
+use Rattle.upath_commands.specs.Invocations.{Meaning}
 use Rattle.upath_commands.specs.Invocations.{Help, Version, Equal, Archive, Each}
 use Rattle.upath_commands.specs.Outputs.{Tells}
 use Rattle.upath_commands.specs.Replies.{State}

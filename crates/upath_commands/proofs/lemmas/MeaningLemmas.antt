@@ -23,8 +23,9 @@ use Rattle.upath_commands.specs.Invocations as value
 use Rattle.upath_commands.specs.Items.{ItemValue, operand}
 use Rattle.upath_commands.specs.Options.{command_by_name}
 use Rattle.upath_commands.proofs.lemmas.DashLemmas.{dashes-moved}
-use Rattle.upath_commands.proofs.lemmas.OperandLemmas.{filter_map-operands, filter_map-skip, first_of-skip}
-use Rattle.upath_commands.proofs.lemmas.OperandLemmas.{list_any-operands, list_any-skip, operands_of-skip}
+use Rattle.upath_commands.proofs.lemmas.OperandLemmas.{filter_map-operands, filter_map-skip}
+use Rattle.upath_commands.proofs.lemmas.OperandLemmas.{first_of-skip, list_any-operands}
+use Rattle.upath_commands.proofs.lemmas.OperandLemmas.{list_any-skip, operands_of-skip}
 
 -- the same options are among both lists of items, with the same values
 pub record SameOptions (xs ys : List ItemValue) : Type 0 where
@@ -105,7 +106,8 @@ module _ (xs ys : List ItemValue) (same : SameOptions xs ys) (name : List ℕ) (
       → equal_meaning (words_of xs name n) operands ≡ equal_meaning (words_of ys name n) operands
   equal_meaning-same [] = refl
   equal_meaning-same (a ∷ []) = refl
-  equal_meaning-same (a ∷ b ∷ []) = ap (λ options. Ok (value.Equal options a b)) (options_of-same xs ys same)
+  equal_meaning-same (a ∷ b ∷ []) =
+      ap (λ options. Ok (value.Equal options a b)) (options_of-same xs ys same)
   equal_meaning-same (a ∷ b ∷ c ∷ operands) = refl
 
   archive_meaning-same : (operands : List (List ℕ))
@@ -174,7 +176,8 @@ module _ (xs ys : List ItemValue) (same : SameOptions xs ys) (name : List ℕ) (
       (ap₂ refuse (newline_fault-same operands) (meaning_of_command-same command operands))
 
   found_meaning-same : (found : Option Command)
-      → ((command : Command) → first_of (foreign_option command) xs ≡ first_of (foreign_option command) ys)
+      → ((command : Command)
+      → first_of (foreign_option command) xs ≡ first_of (foreign_option command) ys)
       → (operands : List (List ℕ)) → found_meaning found (words_of xs name n) operands
       ≡ found_meaning found (words_of ys name n) operands
   found_meaning-same None foreign operands = refl
@@ -183,7 +186,8 @@ module _ (xs ys : List ItemValue) (same : SameOptions xs ys) (name : List ℕ) (
 
 -- operands mean the same with both lists of items, if both have the same options
 command_meaning-same : (xs ys : List ItemValue) → SameOptions xs ys
-    → ((command : Command) → first_of (foreign_option command) xs ≡ first_of (foreign_option command) ys)
+    → ((command : Command)
+    → first_of (foreign_option command) xs ≡ first_of (foreign_option command) ys)
     → dashes_at xs ≡ dashes_at ys → (operands : List (List ℕ))
     → command_meaning xs operands ≡ command_meaning ys operands
 command_meaning-same xs ys same foreign dashes [] = refl

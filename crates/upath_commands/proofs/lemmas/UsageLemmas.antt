@@ -1,6 +1,6 @@
 -- Wrong usage among words and one letter that is an option.
 use Rattle.std.proofs.Common.{◌≡◌, ◌≢◌, ℕ, true, false, List, [], ◌∷◌, ◌++◌, map, codes}
-use Rattle.std.proofs.Common.{Option, Some, None, refl, sym, ap, ◌∙◌, ne_eqb}
+use Rattle.std.proofs.Common.{Some, None, refl, sym, ap, ◌∙◌, ne_eqb}
 use Rattle.std.specs.List.{list_all}
 use Rattle.std.specs.Option.{is_some}
 use Rattle.std.specs.Str.{bytes_eq}

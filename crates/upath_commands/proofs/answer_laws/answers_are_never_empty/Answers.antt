@@ -1,4 +1,4 @@
-use Rattle.std.proofs.Common.{◌≡◌, ◌≢◌, ℕ, Bool, true, false, List, [], Option, Some, None}
+use Rattle.std.proofs.Common.{◌≡◌, ◌≢◌, ℕ, true, false, List, [], Option, Some, None}
 use Rattle.unix_path.specs.Parents.{parent_of}
 use Rattle.path_within.specs.Resolved.{resolved_bytes_of}
 use Rattle.upath_commands.specs.Answers.{is_current, relative_of, rest_after}

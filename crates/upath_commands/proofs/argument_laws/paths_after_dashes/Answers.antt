@@ -2,9 +2,9 @@ use Rattle.std.proofs.Common.{◌∷◌, [], codes, refl}
 use Rattle.upath_commands.specs.declared.command.Command.TheVariants as command
 use Rattle.upath_commands.specs.declared.items.ItemKind.TheVariants as kind
 use Rattle.upath_commands.specs.declared.options.Flag.TheVariants as option
-use Rattle.upath_commands.specs.Arguments.{fault_of, foreign_option, meaning_of, value_of}
+use Rattle.upath_commands.specs.Arguments.{fault_of, foreign_option, meaning_of}
 use Rattle.upath_commands.proofs.lemmas.MeaningLemmas.{task_of-before}
-use Rattle.upath_commands.proofs.lemmas.OperandLemmas.{each-first, filter_map-operands}
+use Rattle.upath_commands.proofs.lemmas.OperandLemmas.{each-first}
 use Rattle.upath_commands.proofs.lemmas.OperandLemmas.{first_of-operands, operands_of-operands}
 use Rattle.upath_commands.proofs.argument_laws.paths_after_dashes.Goals as goal
 

@@ -1,4 +1,5 @@
-use Rattle.std.proofs.Common.{arith, rules}
+use Rattle.std.proofs.Common.{◌+◌, ◌*◌, ap₂, arith, rules}
+use Rattle.upath_commands.specs.Hex.{byte_of}
 use Rattle.upath_commands.proofs.lemmas.HexLemmas.{read_all, read_first, read_more}
 use Rattle.upath_commands.proofs.hex.hex_value.Goals as goal
 
@@ -7,8 +8,10 @@ loop-rest-init c = read_first c.args.text.now c.new-bytes.result.items c.new-byt
 
 pub loop-rest-preserved : goal.loop-rest-preserved
 loop-rest-preserved c =
-    read_more c.args.text.now c.loop-rest.bytes.items c.loop-rest.rest.now _ c.in-Some.byte
-    c.loop-rest.invariant (omega arith) c.in-Some.ensures (search rules)
+    let byte = c.in-Some-Some in
+    read_more c.args.text.now c.loop-rest.bytes.items c.loop-rest.rest.now _
+    (16 * byte.high + byte.low) c.loop-rest.invariant (omega arith)
+    (ap₂ byte_of byte.ensures byte.ensures') (search rules)
 
 pub returns-in-empty : goal.returns-in-empty
 returns-in-empty c =

@@ -1,4 +1,4 @@
-use Rattle.std.proofs.Common.{◌≡◌, ◌++◌, ◌-◌, map, drop, length}
+use Rattle.std.proofs.Common.{◌≡◌, ◌++◌, map, drop}
 use Rattle.upath_commands.specs.Items.{item_value, letter_items}
 use Rattle.upath_commands.proofs.items.push_letters.Given as goal
 
@@ -6,6 +6,3 @@ abbrev pub invariant-loop-index : goal.invariant-loop-index
 invariant-loop-index l =
     map item_value l.items.items ++ letter_items (drop l.index l.letters)
     ≡ map item_value l.initial.items.items ++ letter_items l.letters
-
-abbrev pub decreases-loop-index : goal.decreases-loop-index
-decreases-loop-index l = length l.letters - l.index

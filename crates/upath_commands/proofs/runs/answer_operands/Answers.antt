@@ -19,5 +19,6 @@ returns g c =
     let task = c.args.task.now in
     rw (sym (c.new-selection.ensures paths
     ∙ ap (λ is. firsts_if is paths) c.is_uniq.ensures
-    ∙ chosen_streamed task.command task.options paths (sym c.is_gathered.ensures ∙ c.if-is_gathered.false)))
+    ∙ chosen_streamed task.command task.options paths
+    (sym c.is_gathered.ensures ∙ c.if-is_gathered.false)))
     c.answer_paths.ensures.replied

@@ -5,7 +5,7 @@ use Rattle.upath_commands.specs.Invocations.{view_bytes}
 use Rattle.upath_commands.specs.Items.{item_value}
 use Rattle.upath_commands.specs.Arguments.{has_newline, last_value}
 use Rattle.upath_commands.specs.declared.options.Flag.TheVariants as option
-use Rattle.upath_commands.proofs.searches.newline_in.Given as goal
+use Rattle.upath_commands.proofs.searches.newline_fault.Given as goal
 
 abbrev pub invariant-loop-operand : goal.invariant-loop-operand
 invariant-loop-operand l =

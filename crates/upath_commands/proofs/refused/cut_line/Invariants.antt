@@ -1,6 +1,6 @@
 use Rattle.std.proofs.Common.{◌≡◌, ◌≤◌, ◌==◌, take}
 use Rattle.std.specs.List.{count_by}
-use Rattle.upath_commands.proofs.refused.cut_record.Given as goal
+use Rattle.upath_commands.proofs.refused.cut_line.Given as goal
 
 abbrev pub invariant-loop-byte : goal.invariant-loop-byte
 invariant-loop-byte l =
