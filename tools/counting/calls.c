@@ -18,6 +18,7 @@ typedef struct {
 
 enum { MOST = 1 << 16 };
 static uint8_t record[MOST], out[3 * MOST];
+static unix_path_slot slots[MOST];
 
 #define A a.bytes, a.length
 #define B b.bytes, b.length
@@ -38,6 +39,7 @@ static bool make_call(const uint8_t *bytes, size_t length, path a, path b)
     unix_path_part part;
     unix_path_span span;
     unix_path_chunk chunk;
+    unix_path_refusal refusal;
     size_t last = a.length, first = 0;
 #define BEGIN(name) CALL(name, unix_path_##name(A, &walk))
 #define LEFT(name) CALL(name, unix_path_##name(A, &walk, &span))
@@ -50,6 +52,9 @@ static bool make_call(const uint8_t *bytes, size_t length, path a, path b)
 #define ASK_TWO(answer, name) CALL(name, unix_path_##name(A, B))
 #define MAKE(name) CALL(name, unix_path_##name(A, OUT))
 #define MAKE_OF_TWO(name) CALL(name, unix_path_##name(A, B, OUT))
+#define COUNT_SLOTS(name) CALL(name, unix_path_##name(A))
+#define CHECK_ENTRIES(name)                                                                       \
+    CALL(name, unix_path_##name(A, slots, MOST, UNIX_PATH_CLOSED, &refusal))
 #include "../../tests/calls.inc"
     return false;
 }

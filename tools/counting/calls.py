@@ -104,6 +104,12 @@ KEYS = [
     ("key_ups", lambda n: cut(n, b"\0\3"), EDGES),
 ]
 
+# Families of entries of an archive, as records.
+ENTRIES = [
+    ("files", lambda n: cut(n, b"f\0a/b\0\0"), EDGES),
+    ("links", lambda n: cut(n, b"f\0a\0\0h\0b\0a\0"), EDGES),
+]
+
 # Families of requests, for `escapes`, `check_request` and the joins with a root.
 REQUESTS = [
     ("plain", plain, EDGES),
@@ -128,6 +134,8 @@ def families():
     yield "rooted", lambda n: (SERVED, b"/" + plain(n - 1)), EDGES, "join_in_root"
     for title, make, sizes in KEYS:
         yield title, lambda n, make=make: (make(n), b""), sizes, "from_key key_range_end"
+    for title, make, sizes in ENTRIES:
+        yield title, lambda n, make=make: (make(n), b""), sizes, "check_entries entries_scratch"
 
 
 def rows_of(checkout):
