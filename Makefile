@@ -1,7 +1,7 @@
 # GNU make builds, installs and tests by these targets; `make help` lists them.
 #
 # The SHA-256 of asm/PROVED.txt, which tools/generate writes here.
-PROVED = a77b5d5b13fc300df75bb98993a17e6d56af643466ac1e3d07d0282f1d78fcdd
+PROVED = 4bc403135181f8093f685b1b8442e838356aff4ea18b4c279654632c17bb1dd8
 PREFIX ?= /usr/local
 LIBDIR ?= $(PREFIX)/lib
 INCLUDEDIR ?= $(PREFIX)/include
