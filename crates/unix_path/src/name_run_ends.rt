@@ -8,9 +8,10 @@
 //!
 //! This module is for code that works on the single bytes of a path or a key.
 ghost use Rattle.std.specs.Prelude.{◌≡◌, ℕ, ◌+◌, ◌<◌, ◌≤◌, ◌==◌, false, length, slice_index_or};
-ghost use Rattle.std.specs.Prelude.{IsTrue, ◌↔◌, bit_and, slice_index};
-ghost use Rattle.unix_path.specs.NameRunEnds.{ends_name_run_of, no_name_starts_at};
-ghost use Rattle.unix_path.specs.NameRunEnds.{BothLackBits, IsNameRunEnd};
+ghost use Rattle.std.specs.Prelude.{IsTrue, ◌↔◌};
+ghost use Rattle.unix_path.specs.NameRunEnds.{is_end_candidate_of, ends_name_run_of};
+ghost use Rattle.unix_path.specs.NameRunEnds.{no_name_starts_at, IsNameRunEnd};
+ghost use Rattle.unix_path.specs.NameRunEnds.{BothLackBits, IsRoughEndCandidate};
 
 use std::simd::prelude::*;
 
@@ -56,10 +57,9 @@ pub fn may_end_name_run_simd16(bytes: &[u8], at: usize, separator: u8, dot: u8) 
     requires readable { at + 17 ≤ length bytes.now }
     requires apart { BothLackBits separator dot }
     ensures none { result ≡ false → (i : ℕ) → at ≤ i → i < at + 16
-        → ends_name_run_of separator dot bytes.now i ≡ false }
+        → is_end_candidate_of separator dot bytes.now i ≡ false }
     ensures found { IsTrue result
-        → (i : ℕ) × (at ≤ i) × (i < at + 16) × (slice_index bytes.now i ≡ separator)
-        × (bit_and (slice_index_or bytes.now (i + 1) separator) 208 ≡ 0) }
+        → (i : ℕ) × (at ≤ i) × (i < at + 16) × IsRoughEndCandidate separator bytes.now i }
 {
     let here = u8x16::from_slice(&bytes[at..]) ^ u8x16::splat(separator);
     let next = u8x16::from_slice(&bytes[at + 1..]) & u8x16::splat(0xD0);
@@ -74,7 +74,7 @@ fn may_end_name_run_simd32(bytes: &[u8], at: usize, separator: u8, dot: u8) -> b
     requires readable { at + 33 ≤ length bytes.now }
     requires apart { BothLackBits separator dot }
     ensures { result ≡ false → (i : ℕ) → at ≤ i → i < at + 32
-        → ends_name_run_of separator dot bytes.now i ≡ false }
+        → is_end_candidate_of separator dot bytes.now i ≡ false }
 {
     let first = may_end_name_run_simd16(bytes, at, separator, dot);
     let second = may_end_name_run_simd16(bytes, at + 16, separator, dot);
@@ -88,7 +88,7 @@ fn has_no_end_candidate_over_32(bytes: &[u8], separator: u8, dot: u8) -> bool
     requires apart { BothLackBits separator dot }
     requires long { 33 ≤ length bytes.now }
     ensures { IsTrue result → (i : ℕ) → i + 1 < length bytes.now
-        → ends_name_run_of separator dot bytes.now i ≡ false }
+        → is_end_candidate_of separator dot bytes.now i ≡ false }
 {
     let last = bytes.len() - 33;
     if may_end_name_run_simd32(bytes, last, separator, dot) {
@@ -110,7 +110,7 @@ fn has_no_end_candidate_over_32(bytes: &[u8], separator: u8, dot: u8) -> bool
 fn has_no_end_candidate(bytes: &[u8], separator: u8, dot: u8) -> bool
     requires { BothLackBits separator dot }
     ensures { IsTrue result → (i : ℕ) → i < length bytes.now
-        → ends_name_run_of separator dot bytes.now i ≡ false }
+        → is_end_candidate_of separator dot bytes.now i ≡ false }
 {
     let len = bytes.len();
     if len < 17 || bytes[len - 1] == separator {
@@ -130,7 +130,7 @@ fn end_candidate_simd8(bytes: &[u8], at: usize, separator: u8, dot: u8) -> usize
     requires { at + 9 ≤ length bytes.now }
     ensures in_range { result ≤ 8 }
     ensures none_before { (i : ℕ) → at ≤ i → i < at + result
-        → ends_name_run_of separator dot bytes.now i ≡ false }
+        → is_end_candidate_of separator dot bytes.now i ≡ false }
 {
     let separators = u8x8::splat(separator);
     let here = u8x8::from_slice(&bytes[at..]);
@@ -200,7 +200,7 @@ fn end_candidate_block(bytes: &[u8], start: usize, last: usize, separator: u8, d
     ensures forward { start ≤ result }
     ensures in_range { result < last + 16 }
     ensures none_before { (i : ℕ) → start ≤ i → i < result
-        → ends_name_run_of separator dot bytes.now i ≡ false }
+        → is_end_candidate_of separator dot bytes.now i ≡ false }
 {
     let mut at = start;
     while at < last && !may_end_name_run_simd16(bytes, at, separator, dot) {

@@ -7,7 +7,7 @@ use Rattle.std.proofs.lemmas.Simd.{length-chunk}
 use Rattle.unix_bytes.proofs.lemmas.vectors.TestLaneLemmas.{hits, both, either, Tells, Tells-hits}
 use Rattle.unix_bytes.proofs.lemmas.vectors.TestLaneLemmas.{Tells-both}
 use Rattle.unix_bytes.proofs.lemmas.vectors.TestLaneLemmas.{Tells-either, lane_at, TellFrom}
-use Rattle.unix_path.proofs.lemmas.name_run_ends.NameRunEndLemmas.{is_end_candidate_of}
+use Rattle.unix_path.specs.NameRunEnds.{is_end_candidate_of}
 
 -- the lanes that show which of the n bytes of `here` are end candidates; byte i of `next` is the
 -- byte after byte i of `here`

@@ -12,8 +12,7 @@ use Rattle.std.proofs.lemmas.Grind.{common_steps}
 use Rattle.unix_bytes.proofs.lemmas.vectors.TestLaneLemmas.{with, length-with, get_or-with, hits}
 use Rattle.unix_bytes.proofs.lemmas.vectors.TestLaneLemmas.{Tells, Tells-hits, TellFrom, lane_at}
 use Rattle.unix_bytes.proofs.lemmas.vectors.TestLaneLemmas.{mask_of, found_set, none_set}
-use Rattle.unix_path.specs.NameRunEnds.{ends_name_run_of, BothLackBits}
-use Rattle.unix_path.proofs.lemmas.name_run_ends.NameRunEndLemmas.{no_end-unless}
+use Rattle.unix_path.specs.NameRunEnds.{is_end_candidate_of, BothLackBits, IsRoughEndCandidate}
 
 abbrev odd : ℕ → ℕ → List ℕ → List ℕ → List ℕ
 odd n m here next = zip2 (λ a b. bit_or a b) (with (λ a b. bit_xor a b) n here m)
@@ -75,14 +74,14 @@ may_end_shown n m s at some low l =
     }
 
 -- if m and p have none of the bits of 208, n is 1 to 64, s has more than n bytes from `at` on, and
--- the mask of `lanes` is 0, then none of the first n of these bytes ends a run of names
+-- the mask of `lanes` is 0, then none of the first n of these bytes is an end candidate
 pub none_told : (n m p : ℕ) (s : List ℕ) (at : ℕ) → BothLackBits m p → 0 < n → n ≤ 64
     → at + n + 1 ≤ length s → not (eqb (mask_of (lanes n m s at)) 0) ≡ false
-    → (i : ℕ) → at ≤ i → i < at + n → ends_name_run_of m p s i ≡ false
-none_told n m p s at bits some low l none i from to = no_end-unless m p s i
-    (other_at m p (get_or s i 0) (get_or s (i + 1) m) bits
+    → (i : ℕ) → at ≤ i → i < at + n → is_end_candidate_of m p s i ≡ false
+none_told n m p s at bits some low l none i from to =
+    other_at m p (get_or s i 0) (get_or s (i + 1) m) bits
     ((none_set (may_end_shown n m s at some low l)
-    (eqb-true (mask_of (lanes n m s at)) 0 (negated _ none))).none_before i from to))
+    (eqb-true (mask_of (lanes n m s at)) 0 (negated _ none))).none_before i from to)
 
 -- if `(x ^ m) | (y & 208)` is 0, then x is m, and y has none of the bits of 208
 near_at : (m x y : ℕ) → bit_or (bit_xor x m) (bit_and y 208) ≡ 0
@@ -98,8 +97,7 @@ near_at m x y e =
 -- of the first n of these bytes is m, and the byte after it has none of the bits of 208
 pub one_told : (n m : ℕ) (s : List ℕ) (at : ℕ) → 0 < n → n ≤ 64 → at + n + 1 ≤ length s
     → not (eqb (mask_of (lanes n m s at)) 0) ≡ true
-    → (i : ℕ) × (at ≤ i) × (i < at + n) × (get_or s i 0 ≡ m)
-    × (bit_and (get_or s (i + 1) m) 208 ≡ 0)
+    → (i : ℕ) × (at ≤ i) × (i < at + n) × IsRoughEndCandidate m s i
 one_told n m s at some low l found =
     let told = may_end_shown n m s at some low l in
     let first = found_set told (eqb-false (mask_of (lanes n m s at)) 0 (unnegated _ found)) in

@@ -10,17 +10,6 @@ use Rattle.std.proofs.lemmas.Grind.{common_steps}
 use Rattle.unix_path.specs.NameRunEnds.{ends_name_run_of, no_name_starts_at}
 use Rattle.unix_path.specs.NameRunEnds.{IsNameRunEnd}
 
--- the byte of s at i is the separator, and another separator, a dot, or the end of s follows it
-abbrev pub is_end_candidate_of : ℕ → ℕ → List ℕ → ℕ → Bool
-is_end_candidate_of m p s i =
-    let next = get_or s (i + 1) m in
-    eqb (get_or s i 0) m && (eqb next m || eqb next p)
-
--- only an end candidate ends a run of names
-pub no_end-unless : (m p : ℕ) (s : List ℕ) (i : ℕ) → is_end_candidate_of m p s i ≡ false
-    → ends_name_run_of m p s i ≡ false
-no_end-unless m p s i none = grind (arith, common_steps)
-
 -- true if no name starts at the first of three consecutive bytes a, b and c
 abbrev pub no_name : ℕ → ℕ → ℕ → ℕ → ℕ → Bool
 no_name m p a b c = eqb a m || (eqb a p && (eqb b m || (eqb b p && eqb c m)))

@@ -1,9 +1,9 @@
 -- If a string is moved, the positions of its components move with it, and the components stay the
 -- same.
-use Rattle.std.proofs.Common.{◌≡◌, ℕ, ◌+◌, List, [], ◌∷◌, Some, length, map, refl, ap, arith}
-use Rattle.std.specs.List.{last_or, slice_split}
-use Rattle.std.specs.Option.{option_map_or}
+use Rattle.std.proofs.Common.{◌≡◌, ℕ, ◌+◌, List, [], ◌∷◌, length, map, refl, ap, arith}
+use Rattle.std.specs.List.{slice_split}
 use Rattle.unix_path.specs.Parts.{Part, inner_parts, is_slash, parts_of_pieces}
+use Rattle.unix_path.specs.Rest.{last_end}
 use Rattle.std.proofs.lemmas.List.{take_rest}
 
 -- the component p, moved by d bytes
@@ -32,10 +32,6 @@ values-part_at d (p ∷ ps) = ap (λ vs. p.value ∷ vs) (values-part_at d ps)
 pub values-inner_parts : (at : ℕ) (s : List ℕ)
     → map (λ p. p.value) (inner_parts at s) ≡ map (λ p. p.value) (inner_parts 0 s)
 values-inner_parts at s = grind (arith, inner_parts-add 0 at s, values-part_at at (inner_parts 0 s))
-
--- the index where the last component ends, if the components are p and then ps
-abbrev pub last_end : Part → List Part → ℕ
-last_end p ps = option_map_or (λ q. q.end) (last_or (Some p) ps) 0
 
 -- the index where the last of these components ends, or 0 if there is none
 abbrev pub parts_end : List Part → ℕ

@@ -9,8 +9,7 @@ use Rattle.unix_path.proofs.lemmas.parts.PartLemmas.{parts-name, parts-none, par
 use Rattle.unix_path.proofs.lemmas.parts.PlaceLemmas.{last_end-part_at, part_at, parts_end}
 use Rattle.unix_path.proofs.lemmas.filler.TrimLemmas.{trims_to}
 use Rattle.unix_path.specs.Parts.{Part, parts}
-use Rattle.unix_path.specs.Rest.{rest, span_of}
-use Rattle.unix_path.proofs.lemmas.parts.PlaceLemmas.{last_end}
+use Rattle.unix_path.specs.Rest.{last_end, rest, span_of}
 use Rattle.unix_path.specs.Scan.{EndsInPart}
 
 -- if q is appended to the components p and ps, the last of them ends where q ends

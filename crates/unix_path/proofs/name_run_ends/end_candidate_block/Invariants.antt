@@ -1,13 +1,13 @@
 use Rattle.std.proofs.Common.{◌≡◌, ℕ, ◌+◌, ◌-◌, ◌<◌, ◌≤◌, false}
-use Rattle.unix_path.specs.NameRunEnds.{ends_name_run_of}
+use Rattle.unix_path.specs.NameRunEnds.{is_end_candidate_of}
 use Rattle.unix_path.proofs.name_run_ends.end_candidate_block.Given as goal
 
--- no byte read so far ends a run of names
+-- no byte read so far is an end candidate
 abbrev pub invariant-loop-at : goal.invariant-loop-at
 invariant-loop-at l = record {
   forward : l.start ≤ l.at;
   in_range : l.at < l.last + 16;
-  none_before : (i : ℕ) → l.start ≤ i → i < l.at → ends_name_run_of l.separator l.dot l.bytes i
+  none_before : (i : ℕ) → l.start ≤ i → i < l.at → is_end_candidate_of l.separator l.dot l.bytes i
       ≡ false;
 }
 

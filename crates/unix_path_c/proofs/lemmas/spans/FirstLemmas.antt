@@ -3,8 +3,7 @@ use Rattle.std.proofs.Common.{◌≡◌, ℕ, ◌+◌, ◌-◌, ◌≤◌, ◌<�
 use Rattle.std.proofs.Common.{map, sym, ap, ap₂, subst, ◌∙◌, arith, take_all, ltb-true, ltb-false}
 use Rattle.std.proofs.lemmas.List.{nil_from_length}
 use Rattle.unix_path.specs.Parts.{Part, Value, parts, value_bytes, values}
-use Rattle.unix_path.specs.Rest.{rest}
-use Rattle.unix_path.proofs.lemmas.parts.PlaceLemmas.{last_end}
+use Rattle.unix_path.specs.Rest.{last_end, rest}
 use Rattle.unix_bytes.proofs.lemmas.lists.ListLemmas.{by_test}
 use Rattle.unix_path.proofs.lemmas.rests.MiddleLemmas.{Middle, middle, middle_of, rest-middle}
 use Rattle.unix_path.proofs.lemmas.parts.PartLemmas.{parts-none, values-nil}
