@@ -1,11 +1,13 @@
 //! The codes of a key, read one by one.
 ghost use Rattle.std.specs.Prelude.{◌≡◌, ◌<◌, ◌^◌, ℕ, List, [], ◌∷◌, ◌++◌, length, map};
-ghost use Rattle.std.specs.Prelude.{◌↔◌, false, option_map, None, IfSome, IsTrue};
+ghost use Rattle.std.specs.Prelude.{◌↔◌, false, option_map, None, Some, IfSome, IsTrue};
+ghost use Rattle.std.specs.Borrow.{Bor};
 ghost use Rattle.unix_path.specs.Names.{name_of};
 ghost use Rattle.unix_path.specs.Parts.{Normal, RootDir, Value};
 ghost use Rattle.unix_path.specs.Prefixes.{IsPrefixOf};
 ghost use Rattle.path_keys.specs.Keys.{code, raised};
 ghost use Rattle.path_keys.specs.Codes.{code_bytes, IsComponent};
+ghost use Rattle.path_keys.specs.declared.codes.Code.TheVariants.{Name};
 
 use unix_bytes::internal::find_byte;
 
@@ -57,7 +59,8 @@ impl<'a> Code<'a> {
     // Returns the bytes of the name in the key; `None` if this is not the code of a name.
     #[inline]
     pub(crate) fn name(self) -> Option<&'a [u8]>
-        ensures { (v : Value) → code v ≡ code_bytes self.entry
+        ensures name { (name : Bor (List ℕ)) → self.entry ≡ Name name → result ≡ Some name }
+        ensures value { (v : Value) → code v ≡ code_bytes self.entry
             → option_map (λ name. name.now) result
             ≡ option_map (λ name. map raised name) (name_of v) }
     {

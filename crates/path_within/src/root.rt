@@ -1,11 +1,11 @@
 //! Roots: directories below which requests are joined.
-ghost use Rattle.std.specs.Prelude.{◌≡◌, ◌↔◌, ◌+◌, ◌≤◌, ◌++◌, [], true, false, length};
-ghost use Rattle.std.specs.Prelude.{vec_capacity};
+ghost use Rattle.std.specs.Prelude.{◌≡◌, ◌↔◌, ◌+◌, ◌≤◌, ◌∷◌, ◌++◌, [], true, false, length};
+ghost use Rattle.std.specs.Prelude.{if◌then◌else◌, vec_capacity};
 ghost use Rattle.std.specs.Prelude.{IfOk, IfSome, OnOk, OnErr, IsOk, IsErrOf, IsTrue, Some, None};
 ghost use Rattle.std.specs.Fmt.{padded};
 ghost use Rattle.unix_path.specs.Buffers.{path_bytes, capacity};
-ghost use Rattle.unix_path.specs.Joins.{join_of};
-ghost use Rattle.unix_path.specs.Parts.{is_rooted, values};
+ghost use Rattle.unix_path.specs.Joins.{needs_no_separator};
+ghost use Rattle.unix_path.specs.Parts.{slash, values};
 ghost use Rattle.unix_path.specs.Prefixes.{IsPrefixOf, stripped_of};
 ghost use Rattle.unix_path.specs.Slices.{LiesIn};
 ghost use Rattle.path_within.specs.Below.{below_of, has_nul, GoesDown, IsBelow};
@@ -71,13 +71,14 @@ fn append(bytes: &mut Vec<u8>, more: &[u8])
     let _ = bytes.extend_from_slice(more);
 }
 
-// Returns the second path joined to the first, unless the second has a root. Reuses the memory of
-// `previous`, which has enough capacity.
+// Returns the second path after the first, with a slash between them unless the first is empty or
+// ends in a slash. Reuses the memory of `previous`, which has enough capacity.
 #[inline]
 fn join_bytes_in(previous: PathBuf, both: (Path<'_>, Path<'_>)) -> (PathBuf, ())
     requires { length both.0.bytes.now + 1 + length both.1.bytes.now ≤ capacity previous }
-    ensures bytes { is_rooted both.entry.1.bytes.now ≡ false
-        → path_bytes result.0 ≡ join_of both.entry.0.bytes.now both.entry.1.bytes.now }
+    ensures bytes { path_bytes result.0 ≡ (both.entry.0.bytes.now
+        ++ (if needs_no_separator both.entry.0.bytes.now then [] else slash ∷ []))
+        ++ both.entry.1.bytes.now }
     ensures capacity { capacity previous ≤ capacity result.0 }
 {
     let (root, path) = both;

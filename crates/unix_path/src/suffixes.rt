@@ -1,8 +1,8 @@
 //! Suffixes of paths, compared by components. Usually the last bytes decide.
-ghost use Rattle.std.specs.Prelude.{◌≡◌, ◌↔◌, ◌<◌, ◌≤◌, ◌-◌, ◌==◌, ℕ, false, IsTrue, None};
-ghost use Rattle.std.specs.Prelude.{IfSome, drop, length, slice_index, take};
+ghost use Rattle.std.specs.Prelude.{◌≡◌, ◌↔◌, ◌<◌, ◌≤◌, ◌-◌, ◌==◌, ◌++◌, List, false, IsTrue};
+ghost use Rattle.std.specs.Prelude.{None, IfSome, drop, length, slice_index, take};
 ghost use Rattle.std.specs.List.{position_or_len};
-ghost use Rattle.unix_path.specs.Parts.{is_slash, slash, values};
+ghost use Rattle.unix_path.specs.Parts.{Value, is_slash, slash, values};
 ghost use Rattle.unix_path.specs.Prefixes.{IsSuffixOf};
 ghost use Rattle.unix_path.specs.Scan.{EndsInPart};
 
@@ -50,16 +50,16 @@ fn common_suffix_len(a: &[u8], b: &[u8]) -> usize
 
 // Returns 0 if one of the paths is empty, or ends in a slash or in filler. Otherwise returns the
 // length of the last component if both paths have the same one, and `None` if their last components
-// differ. If it returns a length, `a` ends with `b` if and only if the paths without as many last
-// bytes do. Reads only the last components and the slashes before them.
+// differ. Without as many last bytes, both paths lack the same components. Reads only the last
+// components and the slashes before them.
 #[inline]
 pub(crate) fn shared_last_len(a: &[u8], b: &[u8]) -> Option<usize>
     ensures apart { result ≡ None → IsSuffixOf (values b.now) (values a.now) → ⊥ }
     ensures in_first { IfSome result (λ len. len ≤ length a.now) }
     ensures in_second { IfSome result (λ len. len ≤ length b.now) }
-    ensures shared { IfSome result (λ len. IsSuffixOf (values b.now) (values a.now)
-        ↔ IsSuffixOf (values (take (length b.now - len) b.now))
-        (values (take (length a.now - len) a.now))) }
+    ensures shared { IfSome result (λ len. (shared : List Value)
+        × (values a.now ≡ values (take (length a.now - len) a.now) ++ shared)
+        × (values b.now ≡ values (take (length b.now - len) b.now) ++ shared)) }
 {
     if !ends_in_part(a) || !ends_in_part(b) {
         return Some(0);

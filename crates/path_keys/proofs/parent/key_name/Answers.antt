@@ -10,4 +10,4 @@ pub returns-clause-value : goal.returns-clause-value
 returns-clause-value c = λ s e.
     let last = c.in-Some.last in
     last_name c.args.key.now s last.start (code_bytes last.code) _ (c.in-Some.ensures.some s e)
-    c.name.ensures
+    c.name.ensures.value

@@ -82,6 +82,6 @@ down_joined_here path h =
 pub resolved-names_only_join : (a b : List ℕ) → is_names_only a ≡ true → is_names_only b ≡ true
     → is_rooted b ≡ false → join_of a b ≡ resolved_bytes_of (join_of a b)
 resolved-names_only_join a b h k r =
-    below_of-verbatim a b r (names_only_verbatim b k r)
+    join_of-separator a b r ∙ below_of-verbatim a b (names_only_verbatim b k r)
     ∙ ap (λ s. below_of s (names_below (values b))) (sym (resolved-names_only a h))
     ∙ below_of-within a b (names_only_stays b k r)

@@ -9,7 +9,7 @@ use Rattle.unix_path.specs.Joins.{join_of, needs_no_separator}
 use Rattle.unix_path.specs.Parts.{Value, RootDir, Normal, is_rooted, slash, value_bytes, values}
 use Rattle.unix_path.specs.Prefixes.{IsPrefixOf, stripped_of}
 use Rattle.path_runs.specs.Spelling.{slashed_bytes}
-use Rattle.path_runs.proofs.lemmas.joins.AssociativeLemmas.{join_of-separator, separator}
+use Rattle.path_runs.proofs.lemmas.joins.AssociativeLemmas.{separator}
 use Rattle.path_runs.proofs.lemmas.spelling.JoinAllLemmas.{joins-some, unslashed_bytes}
 use Rattle.path_runs.proofs.lemmas.spelling.UnslashedLemmas.{IsUnslashedValue, Shape, Rooted}
 use Rattle.path_runs.proofs.lemmas.spelling.UnslashedLemmas.{Rootless, values-shape}
@@ -86,13 +86,12 @@ unfolding below_of
 below_of-some root [] h some = absurd (omega arith)
 below_of-some root (v ∷ vs) h some = grind (arith, joins-some, unslashed_bytes)
 
--- if b is its resolved names, verbatim, the join of the root and b is the join of the root and
--- these names
-pub below_of-verbatim : (root b : List ℕ) → is_rooted b ≡ false
-    → AreVerbatim b (names_below (values b))
-    → join_of root b ≡ below_of root (names_below (values b))
-below_of-verbatim root b r h =
-    join_of-separator root b r ∙ grind (arith, below_of-some, unslashed_names)
+-- if the bytes `names` are the resolved names of b, verbatim, the join of the root and the resolved
+-- names of b is the root prefix and then these bytes
+pub below_of-verbatim : {names : List ℕ} (root b : List ℕ)
+    → AreVerbatim names (names_below (values b))
+    → root_prefix root ++ names ≡ below_of root (names_below (values b))
+below_of-verbatim root b h = grind (arith, below_of-some, unslashed_names)
 
 -- ---- components
 
@@ -164,12 +163,11 @@ pub begins : {s : List ℕ} (root b : List ℕ) → s ≡ below_of root (names_b
     → IsPrefixOf root s
 begins root b e = let h = after_root root b in (h.more, h.is ∙ sym e)
 
--- if s is the join of the root and b, the join of the root and the resolved names of b is no longer
+-- if s is the root prefix and then b, the join of the root and the resolved names of b is no longer
 -- than s
-pub length-below : {s : List ℕ} (root b : List ℕ) → is_rooted b ≡ false → s ≡ join_of root b
+pub length-below : {s : List ℕ} (root b : List ℕ) → s ≡ root_prefix root ++ b
     → length (below_of root (names_below (values b))) ≤ length s
-length-below {s} root b r e =
-    let whole : s ≡ root_prefix root ++ b = e ∙ join_of-separator root b r in
+length-below root b e =
     grind (arith, after_root root b, length-append, length-append (root_prefix root) b)
 
 -- the join of the root and the resolved names of b is at most one byte longer than the root and b

@@ -2,7 +2,6 @@
 use Rattle.std.proofs.Common.{◌≡◌, ℕ, suc, ◌<◌, true, List, [], ◌∷◌, length}
 use Rattle.std.proofs.Common.{refl, ap, ◌∙◌, arith, drop, false}
 use Rattle.std.specs.Int.{from_bool}
-use Rattle.std.proofs.lemmas.List.{get_or_default, get_or_past}
 use Rattle.unix_path.specs.Parts.{dot, is_rooted, is_slash, slash}
 use Rattle.unix_path.specs.NameRunEnds.{ends_name_run_of, no_name_starts_at}
 use native.Mathlib.Numerals.{unary_clauses}

@@ -5,7 +5,7 @@ use Rattle.std.proofs.Common.{length-drop}
 use Rattle.std.specs.List.{position_or_len}
 use Rattle.std.proofs.lemmas.List.Sums.{fails_before_first}
 use Rattle.std.proofs.lemmas.Grind.{common_steps}
-use Rattle.unix_path.specs.Parts.{is_slash, value_bytes, values}
+use Rattle.unix_path.specs.Parts.{Value, is_slash, value_bytes, values}
 use Rattle.unix_path.specs.Prefixes.{IsSuffixOf}
 use Rattle.unix_path.specs.Scan.{EndsInPart}
 use Rattle.unix_path.specs.Steps.{is_piece_start}
@@ -139,15 +139,29 @@ pub record LongestSuffix (a b : List ℕ) (k : ℕ) : Type 0 where
       → get_or a (length a - 1 - k) 0 ≡ get_or b (length b - 1 - k) 0
       → get_or a (length a - 1 - k) 0 ≡ 47
 
--- if a piece of each begins where the longest common suffix begins, a ends with b if and only if
--- they do so without this suffix
-pub ends_before : {a b : List ℕ} {k : ℕ} → LongestSuffix a b k
+-- the components of a and b are those of all but their last n bytes, each followed by the same
+-- components
+abbrev pub SharesLast : List ℕ → List ℕ → ℕ → Type 0
+SharesLast a b n = (shared : List Value)
+    × (values a ≡ values (take (length a - n) a) ++ shared)
+    × (values b ≡ values (take (length b - n) b) ++ shared)
+
+-- so it is for the longest common suffix, if a piece of each begins where this suffix begins
+pub shares_longest : {a b : List ℕ} {k : ℕ} → LongestSuffix a b k
     → is_piece_start a (length a - k) ≡ true → is_piece_start b (length b - k) ≡ true
-    → IsSuffixOf (values b) (values a)
-    ↔ IsSuffixOf (values (take (length b - k) b)) (values (take (length a - k) a))
-ends_before {a} {b} {k} h begins_a begins_b =
+    → SharesLast a b k
+shares_longest {a} {b} {k} h begins_a begins_b =
     let shares = shares_last a b k h.first h.second h.suffix begins_a begins_b in
-    (ends_without_shared shares, ends_with_shared shares)
+    (shares.last, shares.first, shares.second)
+
+-- if it is so, a ends with b if and only if they do so without these bytes
+pub ends_before : (a b : List ℕ) (n : ℕ) → SharesLast a b n
+    → IsSuffixOf (values (take (length b - n) b)) (values (take (length a - n) a))
+    ↔ IsSuffixOf (values b) (values a)
+ends_before a b n h =
+    let shares : SharesSuffix (values a) (values b) (values (take (length a - n) a))
+    (values (take (length b - n) b)) = record { last = h.0; first = h.1; second = h.2 } in
+    (ends_with_shared shares, ends_without_shared shares)
 
 -- if a piece of only one of them, or of neither, begins where the longest common suffix begins, a
 -- doesn't end with b

@@ -1,5 +1,5 @@
 use Rattle.std.proofs.Common.{◌≡◌, true, false, refl, sym, ◌∙◌}
-use Rattle.unix_path.proofs.lemmas.order.EndingLemmas.{ends_apart, ends_before, LongestSuffix}
+use Rattle.unix_path.proofs.lemmas.order.EndingLemmas.{ends_apart, LongestSuffix, shares_longest}
 use Rattle.unix_path.proofs.suffixes.shared_last_len.Goals.{
   After-common_suffix_len-len,
   else-is_piece_start-via-then-is_piece_start+else-is_piece_start-2,
@@ -34,7 +34,7 @@ suffix c =
 
 pub returns-then-is_piece_start-2-clause-shared : goal.returns-then-is_piece_start-2-clause-shared
 returns-then-is_piece_start-2-clause-shared c =
-    ends_before
+    shares_longest
     (suffix (goal.at.returns-then-is_piece_start-2-clause-shared c).After-common_suffix_len-len)
     (sym c.is_piece_start.ensures ∙ c.if-is_piece_start.true)
     (sym c.is_piece_start-then-is_piece_start.ensures ∙ c.if-is_piece_start-2.true)
