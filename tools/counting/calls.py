@@ -10,6 +10,8 @@ import collections
 import re
 import struct
 
+from repository import ROOT
+
 # A row: its name, the call, and the pairs of paths whose instructions are added up.
 Row = collections.namedtuple("Row", "name call pairs")
 
@@ -138,11 +140,16 @@ def families():
         yield title, lambda n, make=make: (make(n), b""), sizes, "check_entries entries_scratch"
 
 
-def rows_of(checkout):
-    """Returns the rows of the calls from C that the header of a checkout declares, family by
-    family. A call that no family lists is counted on plain paths."""
+def calls_of(checkout):
+    """Returns the names of the calls that the header of a checkout declares."""
     with open(f"{checkout}/include/unix_path.h", encoding="utf-8") as file:
-        calls = set(re.findall(r"^\w+ unix_path_(\w+)\(const", file.read(), re.M))
+        return set(re.findall(r"^\w+ unix_path_(\w+)\(const", file.read(), re.M))
+
+
+def rows_of(checkout):
+    """Returns the rows of the calls from C that both a checkout and this one declare, family by
+    family. A call that no family lists is counted on plain paths."""
+    calls = calls_of(checkout) & calls_of(ROOT)
     found = [*families()]
     others = calls.difference(*(named.split() for *_, named in found))
     found.append(("plain", lambda n: (plain(n), b"new.rs"), EDGES, " ".join(sorted(others))))

@@ -48,8 +48,8 @@ pub(crate) fn is_directory(rank: usize) -> bool
     rank >= DIRECTORY
 }
 
-// Returns a path without its leading `.`.
-#[inline]
+// Returns a path without its leading `.`. Not inlined, since sorting calls it in many places.
+#[inline(never)]
 pub(crate) fn without_dot(path: Path<'_>) -> Path<'_>
     ensures { values result.bytes.now ≡ components path.entry.bytes.now }
 {

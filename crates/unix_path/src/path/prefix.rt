@@ -48,7 +48,7 @@ impl<'a> Path<'a> {
     /// (C: `unix_path_join_beneath`), or its `join_within`.
     ///
     /// For `/a//b/` and the base `/a` it is `b`.
-    #[inline]
+    #[inline(always)]
     #[tactic(auto, using(crate::proofs::lemmas::order::StripLemmas::stripped))]
     pub fn strip_prefix(&self, base: Path<'_>) -> Result<Path<'a>, StripPrefixError>
         ensures ok { IsOk result
