@@ -1,7 +1,7 @@
 # GNU make builds, installs and tests by these targets; `make help` lists them.
 #
 # The SHA-256 of asm/PROVED.txt, which tools/generate writes here.
-PROVED = 4bc403135181f8093f685b1b8442e838356aff4ea18b4c279654632c17bb1dd8
+PROVED = a003f731344e1fd19b1918acb7d64775e560a8c9be9b82506df5713f82ac244f
 PREFIX ?= /usr/local
 LIBDIR ?= $(PREFIX)/lib
 INCLUDEDIR ?= $(PREFIX)/include
