@@ -15,6 +15,7 @@ use crate::level::Level;
 use crate::links::leads_out;
 use crate::names::is_named;
 use crate::order::sort_slots;
+use crate::outlined::starts_with;
 use crate::pass::mark_clashes;
 use crate::records::{slots_needed, split};
 use crate::refusal::{Reason, Refusal};
@@ -56,7 +57,7 @@ fn clash_reason(records: &[u8], first: &Slot, second: &Slot) -> Reason
     requires { Clash (use_at records.now first.now) (use_at records.now second.now) }
     ensures { ClashesFor (use_at records.now first.now) (use_at records.now second.now) result }
 {
-    if !first.names(records).starts_with(second.names(records)) {
+    if !starts_with(first.names(records), second.names(records)) {
         return Reason::BelowLeaf;
     }
     if second.rank == TARGET {

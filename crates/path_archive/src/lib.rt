@@ -11,6 +11,7 @@ mod level;
 mod links;
 mod names;
 mod order;
+mod outlined;
 mod pass;
 mod records;
 mod refusal;

@@ -4,9 +4,9 @@ ghost use Rattle.unix_path.specs.Parts.{Value, values};
 ghost use Rattle.path_archive.specs.Entries.{components};
 ghost use Rattle.path_archive.specs.Rule.{StaysBelow, StaysInside};
 
+use crate::outlined::has_root_or_parent_dir;
 use crate::slot::without_dot;
 use path_within::has_nul;
-use path_within::within::has_root_or_parent_dir;
 use unix_path::laws::walks_in_order;
 use unix_path::{Component, Path};
 

@@ -7,9 +7,9 @@ ghost use Rattle.path_archive.specs.Entries.{use_as};
 ghost use Rattle.path_archive.specs.Rule.{IsNamed, ends_in_name};
 ghost use Rattle.path_archive.specs.Slots.{used_as_of};
 
+use crate::outlined::has_root_or_parent_dir;
 use crate::slot::is_directory;
 use path_within::has_nul;
-use path_within::within::has_root_or_parent_dir;
 use unix_bytes::internal::after_last;
 use unix_path::Path;
 

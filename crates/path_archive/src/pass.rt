@@ -8,6 +8,7 @@ ghost use Rattle.path_archive.specs.Rule.{Clash, is_directory, kinds_clash};
 ghost use Rattle.path_archive.specs.Slots.{path_at, slot_lt, use_at, used_as_of};
 ghost use Rattle.path_archive.specs.declared.pass.Meeting.TheVariants.{Clashing, OnePath, Apart};
 
+use crate::outlined::starts_with;
 use crate::slot::{HARD_LINK, SYMLINK, Slot, TARGET, is_directory};
 
 // How a use relates to an earlier one.
@@ -53,10 +54,10 @@ fn relate(records: &[u8], first: &Slot, second: &Slot) -> Meeting
         ≡ components (path_at records.now second.now) → ⊥ }
 {
     let (upper, lower) = (first.names(records), second.names(records));
-    if !lower.starts_with(upper) {
+    if !starts_with(lower, upper) {
         return Meeting::Apart;
     }
-    if upper.starts_with(lower) {
+    if starts_with(upper, lower) {
         return relate_ranks(first.rank, second.rank);
     }
     if is_directory(first.rank) {

@@ -84,17 +84,12 @@ impl<'a> Pieces<'a> {
         // The number of `..` that have been taken and have not dropped a name yet.
         let mut parent_dirs = 0_usize;
         while let Some(bytes) = self.next_back() {
-            if bytes.is_empty() || bytes == b".".as_slice() {
-                continue;
+            match bytes {
+                [] | [b'.'] => {}
+                [b'.', b'.'] => parent_dirs += 1,
+                _ if parent_dirs == 0 => return LastResolved::Name(UnixStr::from_bytes(bytes)),
+                _ => parent_dirs -= 1,
             }
-            if bytes == b"..".as_slice() {
-                parent_dirs += 1;
-                continue;
-            }
-            if parent_dirs == 0 {
-                return LastResolved::Name(UnixStr::from_bytes(bytes));
-            }
-            parent_dirs -= 1;
         }
         LastResolved::ParentDirs(parent_dirs)
     }

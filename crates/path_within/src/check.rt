@@ -1,10 +1,8 @@
 //! Tests of a path from outside: whether it escapes, has a `..`, or has a NUL.
-ghost use Rattle.std.specs.Prelude.{◌≡◌, ◌↔◌, ◌||◌, false, true, IsTrue};
+ghost use Rattle.std.specs.Prelude.{◌≡◌, ◌↔◌, false, true, IsTrue};
 ghost use Rattle.unix_path.specs.Parts.{values};
-ghost use Rattle.unix_path.specs.Views.{value_of};
 ghost use Rattle.path_within.specs.Below.{has_nul};
-ghost use Rattle.path_within.specs.Escapes.{has_root_or_parent_dir, is_parent_dir, is_root};
-ghost use Rattle.path_within.specs.Escapes.{Escapes};
+ghost use Rattle.path_within.specs.Escapes.{Escapes, has_root_or_parent_dir};
 ghost use Rattle.path_within.specs.NamePieces.{is_names_only};
 ghost use Rattle.path_within.specs.declared.check.Check.TheVariants.{NamesOnly, Refused};
 
@@ -91,16 +89,9 @@ pub(crate) fn check_escape(path: Path<'_>) -> Check
     Check::Accepted
 }
 
-// Returns true if the component is the root or `..`.
-#[inline]
-fn is_root_or_parent_dir(part: Component<'_>) -> bool
-    ensures { result ≡ is_root (value_of part.entry) || is_parent_dir (value_of part.entry) }
-{
-    matches!(part, Component::RootDir | Component::ParentDir)
-}
-
 // Tests whether the path has a root or a `..`. A path that consists of names only is accepted
-// without a walk.
+// without a walk. Always inlined, like its caller, so that a join is one function.
+#[inline(always)]
 pub(crate) fn check_parent_dir(path: Path<'_>) -> Check
     ensures refused { result ≡ Refused
         ↔ (has_root_or_parent_dir (values path.entry.bytes.now) ≡ true) }
@@ -112,9 +103,10 @@ pub(crate) fn check_parent_dir(path: Path<'_>) -> Check
     if is_names_only(path) {
         return Check::NamesOnly;
     }
-    let mut parts = path.components();
-    if parts.any(is_root_or_parent_dir) {
-        return Check::Refused;
+    for part in path.components() {
+        if matches!(part, Component::RootDir | Component::ParentDir) {
+            return Check::Refused;
+        }
     }
     Check::Accepted
 }
@@ -141,6 +133,7 @@ pub fn escapes(path: Path<'_>) -> bool
 ///
 /// It is true for `/a` and `a/../b`, and false for `./a` and `..a`.
 #[must_use]
+#[inline(always)]
 pub fn has_root_or_parent_dir(path: Path<'_>) -> bool
     ensures { result ≡ has_root_or_parent_dir (values path.entry.bytes.now) }
 {

@@ -13,6 +13,7 @@ mod check;
 pub mod laws;
 mod names_only;
 mod normal;
+mod outlined;
 pub mod relative;
 mod request;
 pub mod resolved;

@@ -18,7 +18,8 @@ ghost use Rattle.path_within.specs.Layouts.{layout_values};
 ghost use Rattle.path_within.specs.WrittenBytes.{slashed_len};
 
 use crate::backward::{LastResolved, Pieces, count_resolved};
-use crate::names_only::{is_names_only, name_starts_at};
+use crate::names_only::name_starts_at;
+use crate::outlined::is_names_only;
 use crate::write::{Layout, Names};
 use std::alloc::{AllocError, Global};
 use unix_path::laws::walks_in_order;

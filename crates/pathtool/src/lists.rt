@@ -22,7 +22,9 @@ fn push_item(item: &[u8], is_first: bool, answer: &mut Vec<u8>) -> Result<(), Al
     answer.extend_from_slice(item)
 }
 
-// Appends the items, with a tab between two of them.
+// Appends the items, with a tab between two of them. Always inlined, since each caller has another
+// type of iterator.
+#[inline(always)]
 pub(crate) fn push_list<'a, I: Iterator<Item = UnixStr<'a>>>(
     items: I,
     answer: &mut Vec<u8>,

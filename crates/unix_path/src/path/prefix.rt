@@ -48,6 +48,7 @@ impl<'a> Path<'a> {
     /// (C: `unix_path_join_beneath`), or its `join_within`.
     ///
     /// For `/a//b/` and the base `/a` it is `b`.
+    // Always inlined, so that the call from C is one function, although other crates call this too.
     #[inline(always)]
     #[tactic(auto, using(crate::proofs::lemmas::order::StripLemmas::stripped))]
     pub fn strip_prefix(&self, base: Path<'_>) -> Result<Path<'a>, StripPrefixError>
@@ -81,8 +82,9 @@ impl<'a> Path<'a> {
     /// `join_within`.
     ///
     /// `/etc/passwd` starts with `/etc/`, and not with `/e`.
+    // Always inlined, for the same reason as `strip_prefix`.
     #[must_use]
-    #[inline]
+    #[inline(always)]
     #[tactic(auto, using(crate::proofs::lemmas::order::StripLemmas::empty_begins))]
     pub fn starts_with(&self, base: Path<'_>) -> bool
         ensures { IsTrue result

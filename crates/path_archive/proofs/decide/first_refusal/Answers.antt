@@ -1,4 +1,4 @@
-use Rattle.std.proofs.Common.{◌<◌, arith, length}
+use Rattle.std.proofs.Common.{arith}
 use Rattle.path_archive.specs.Refusals.{IsFrom}
 use Rattle.path_archive.proofs.lemmas.refusals.CollectLemmas.{first_starts, first_step, settles}
 use Rattle.path_archive.proofs.decide.first_refusal.Goals as goal

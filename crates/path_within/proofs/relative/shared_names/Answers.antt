@@ -6,7 +6,7 @@ use Rattle.unix_path.specs.Parts.{Normal, value_bytes}
 use Rattle.path_within.specs.Backward.{last_names}
 use Rattle.path_within.specs.Below.{names_below}
 use Rattle.path_within.proofs.lemmas.below.BoundLemmas.{slashed_len-names}
-use Rattle.path_within.proofs.lemmas.backward.SharedLemmas.{Shares, same_bytes}
+use Rattle.path_within.proofs.lemmas.backward.SharedLemmas.{same_bytes}
 use Rattle.path_within.proofs.lemmas.backward.SharedLemmas.{shares_taken}
 use Rattle.path_within.proofs.lemmas.backward.PutLemmas.{slashed_len-push}
 use Rattle.path_within.proofs.relative.shared_names.Goals as goal

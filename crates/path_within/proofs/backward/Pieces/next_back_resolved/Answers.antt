@@ -1,26 +1,13 @@
-use Rattle.std.proofs.Common.{◌≡◌, ◌-◌, suc, refl, arith, add-one}
+use Rattle.std.proofs.Common.{◌≡◌, ◌-◌, suc, refl, arith}
 use Rattle.std.proofs.lemmas.Grind.{common_steps}
-use Rattle.unix_path.specs.Parts.{CurDir, ParentDir, Normal}
+use Rattle.unix_path.specs.Parts.{Normal}
 use Rattle.path_within.specs.Backward.{piece_value}
 use Rattle.path_within.specs.Pieces.{remaining_values}
 use Rattle.path_within.proofs.lemmas.backward.LastLemmas.{none_remain, taken}
 use Rattle.path_within.proofs.backward.Pieces.next_back_resolved.Goals as goal
 
-pub loop-bytes-preserved-then-is_empty : goal.loop-bytes-preserved-then-is_empty
-loop-bytes-preserved-then-is_empty c =
-    let filler : piece_value c.in-Some.bytes.now ≡ CurDir = grind (arith, common_steps) in
-    taken c.loop-bytes.parent_dirs (remaining_values c.next_back.new.self) c.loop-bytes.invariant
-    refl c.in-Some.ensures.some filler
-
-pub loop-bytes-preserved-then-eq-2 : goal.loop-bytes-preserved-then-eq-2
-loop-bytes-preserved-then-eq-2 c =
-    let dots : piece_value c.in-Some.bytes.now ≡ ParentDir = grind (arith, common_steps) in
-    rw add-one (taken c.loop-bytes.parent_dirs (remaining_values c.next_back.new.self)
-    c.loop-bytes.invariant
-    refl c.in-Some.ensures.some dots)
-
-pub returns-then-parent_dirs-eq0 : goal.returns-then-parent_dirs-eq0
-returns-then-parent_dirs-eq0 c =
+pub returns-in_default-bytes : goal.returns-in_default-bytes
+returns-in_default-bytes c =
     let name : piece_value c.in-Some.bytes.now ≡ Normal c.from_bytes.result.bytes.now =
     grind (arith, common_steps) in
     taken 0 (remaining_values c.next_back.new.self) c.loop-bytes.invariant c.if-parent_dirs-eq0.true
