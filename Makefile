@@ -1,7 +1,7 @@
 # GNU make builds, installs and tests by these targets; `make help` lists them.
 #
 # The SHA-256 of asm/PROVED.txt, which tools/generate writes here.
-PROVED = a003f731344e1fd19b1918acb7d64775e560a8c9be9b82506df5713f82ac244f
+PROVED = aef3d1717e50f21064a8070b257d0687cc589f71ac1072eeb0a51a8509473777
 PREFIX ?= /usr/local
 LIBDIR ?= $(PREFIX)/lib
 INCLUDEDIR ?= $(PREFIX)/include
