@@ -1,7 +1,7 @@
 //! A table of mounts: paths below mount points, mapped to files below the roots mounted there.
 ghost use Rattle.std.specs.Prelude.{◌≡◌, IfOk, IfSome, None};
 ghost use Rattle.unix_path.specs.Buffers.{path_bytes};
-ghost use Rattle.path_tree.specs.Tree.{table_of};
+ghost use Rattle.path_tree.specs.Tree.{entries_of};
 ghost use Rattle.callers.specs.Mounts.{IsMounted, IsUnmounted};
 
 use path_tree::PathTree;
@@ -25,9 +25,9 @@ pub fn mounted_file(
     path: Path<'_>,
 ) -> Result<Option<PathBuf>, AllocError>
     ensures file { IfOk result (λ found. IfSome found (λ file.
-        IsMounted path.entry.bytes.now (table_of mounts.now) (path_bytes file))) }
+        IsMounted path.entry.bytes.now (entries_of mounts.now) (path_bytes file))) }
     ensures none { IfOk result (λ found. found ≡ None
-        → IsUnmounted path.entry.bytes.now (table_of mounts.now)) }
+        → IsUnmounted path.entry.bytes.now (entries_of mounts.now)) }
 {
     let Some((rest, root)) = mounts.longest_prefix(path)? else {
         return Ok(None);

@@ -1,7 +1,7 @@
 //! A router: finds the handler of a path, which is that of the longest route that is a prefix of
 //! the path.
 ghost use Rattle.std.specs.Prelude.{IfOk};
-ghost use Rattle.path_tree.specs.Tree.{table_of};
+ghost use Rattle.path_tree.specs.Tree.{entries_of};
 ghost use Rattle.callers.specs.Router.{IsRouted};
 
 use path_tree::PathTree;
@@ -23,7 +23,7 @@ pub fn route<'a, 'r, H>(
     fallback: &'r H,
     path: Path<'a>,
 ) -> Result<(&'r H, Path<'a>), AllocError>
-    ensures { IfOk result (λ route. IsRouted path.entry.bytes.now (table_of routes.entry.now)
+    ensures { IfOk result (λ route. IsRouted path.entry.bytes.now (entries_of routes.entry.now)
         fallback.entry.now route.1.bytes.now route.0.now) }
 {
     match routes.longest_prefix(path)? {

@@ -4,6 +4,7 @@ use Rattle.std.specs.Prelude.{◌≡◌, Bool, List, Option, length, take}
 use Rattle.std.specs.BTreeMap.{is_at}
 use Rattle.std.specs.Map.{lookup}
 use Rattle.std.specs.Ordering.{is_eq}
+use Rattle.std.specs.declared.cmp.Ordering.{Ordering}
 use Rattle.unix_path.specs.Order.{values_cmp}
 use Rattle.unix_path.specs.Parts.{Value}
 
@@ -11,11 +12,12 @@ use Rattle.unix_path.specs.Parts.{Value}
 abbrev pub value_at : {V : Type 0} → List Value → List (List Value × V) → Option V
 value_at v rows = lookup (is_at (values_cmp v)) rows
 
--- for each list of components except w, the rows `new` have the same value as the rows `old`, or
--- both have none
-abbrev pub SameElsewhere : {V : Type 0} → List Value → List (List Value × V)
-    → List (List Value × V) → Type 0
-SameElsewhere w old new = (v : List Value) → ¬ (v ≡ w) → value_at v new ≡ value_at v old
+-- for each key except k, the entries `new` have the same value as the entries `old`, or both have
+-- none; `cmp` is the order of the keys, which for rows are lists of components
+abbrev pub SameElsewhere : {K V : Type 0} → (K → K → Ordering) → K → List (K × V) → List (K × V)
+    → Type 0
+SameElsewhere {K = K} cmp k old new =
+    (other : K) → ¬ (other ≡ k) → lookup (is_at (cmp other)) new ≡ lookup (is_at (cmp other)) old
 
 -- the components v start with the components base
 abbrev pub is_under : List Value → List Value → Bool

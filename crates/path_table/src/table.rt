@@ -70,8 +70,8 @@ impl<V> PathTable<V> {
             ≡ value_at (values (path_bytes path)) (table_of self.old)) }
         ensures found { OnOk result
             (value_at (values (path_bytes path)) (table_of self.new) ≡ Some value) }
-        ensures others { OnOk result
-            (SameElsewhere (values (path_bytes path)) (table_of self.old) (table_of self.new)) }
+        ensures others { OnOk result (SameElsewhere values_cmp (values (path_bytes path))
+            (table_of self.old) (table_of self.new)) }
         ensures entries { OnOk result (entries_of self.new
             ≡ insert_entry paths_cmp (entries_of self.old) path value) }
         ensures key_stays { IfOk result (λ old.
@@ -122,7 +122,7 @@ impl<V> PathTable<V> {
             ≡ remove_entry (is_at (values_cmp (values (path_bytes path.now))))
             (table_of self.old) }
         ensures gone { value_at (values (path_bytes path.now)) (table_of self.new) ≡ None }
-        ensures others { SameElsewhere (values (path_bytes path.now))
+        ensures others { SameElsewhere values_cmp (values (path_bytes path.now))
             (table_of self.old) (table_of self.new) }
         ensures entries { entries_of self.new
             ≡ remove_entry (is_at (paths_cmp path.now)) (entries_of self.old) }

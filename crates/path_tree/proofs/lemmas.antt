@@ -1,4 +1,4 @@
 -- The lemmas, by subject.
 pub mod keys
-pub mod rows
+pub mod entries
 pub mod children

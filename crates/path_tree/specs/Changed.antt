@@ -3,7 +3,7 @@ use Rattle.std.specs.Prelude.{ℕ, Bool, List, filter, not}
 use Rattle.std.specs.Borrow.{Bor}
 use Rattle.std.specs.List.{filter_map}
 use Rattle.std.specs.Option.{option_map}
-use Rattle.path_tree.specs.Rows.{entry_at}
+use Rattle.path_tree.specs.Entries.{entry_at}
 
 -- the bytes of a borrowed key, with the two values that are borrowed with it
 abbrev pub borrowed_both : {V W : Type 0} → Bor (List ℕ) × Bor V × Bor W → List ℕ × V × W

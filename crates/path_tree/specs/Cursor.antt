@@ -1,6 +1,6 @@
 -- The entries in which a cursor finds keys. No public clause cites this definition.
 use Rattle.std.specs.Prelude.{ℕ, List}
-use Rattle.path_tree.specs.Rows.{entries_from, key_entries}
+use Rattle.path_tree.specs.Entries.{entries_from, key_entries}
 use Rattle.path_tree.specs.Tree.{entries_of}
 use Rattle.path_tree.specs.declared.tree.merge_cursor.MergeCursor.{MergeCursor}
 use Rattle.path_tree.specs.declared.tree.merge_cursor.MergeCursor.TheVariants.{LookUp, Walk}

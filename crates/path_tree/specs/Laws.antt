@@ -4,11 +4,6 @@ use Rattle.unix_path.specs.Parts.{values}
 use Rattle.path_keys.specs.Keys.{key_of}
 use Rattle.unix_path.specs.Prefixes.{IsPrefixOf}
 use Rattle.path_tree.specs.Children.{child_of}
-use Rattle.path_keys.specs.KeyValues.{key_values}
-
--- the key of a path represents the path's components
-abbrev pub KeysRepresent : Type 0
-KeysRepresent = (s : List ℕ) → key_values (key_of (values s)) ≡ values s
 
 -- if a path has more components than a base that it starts with, the child of the base's key with
 -- which its key starts is the key of as many components as the base has, and one more

@@ -1,4 +1,4 @@
-pub mod Rows
+pub mod Entries
 pub mod LookupKey
 pub mod Hashed
 pub mod KeyFilter

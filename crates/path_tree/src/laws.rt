@@ -1,25 +1,13 @@
 //! Laws of trees: facts about the definitions, each available to a proof that calls it.
-ghost use Rattle.std.specs.Prelude.{◌≡◌, map};
 ghost use Rattle.std.specs.List.{All};
 ghost use Rattle.std.specs.List.Sorted.{IsStrictlySortedBy};
 ghost use Rattle.std.specs.Map.{keys_of};
-ghost use Rattle.unix_path.specs.Order.{values_cmp};
 ghost use Rattle.path_keys.specs.Keys.{IsKey};
 ghost use Rattle.path_keys.specs.Ranges.{bytes_cmp};
-ghost use Rattle.path_tree.specs.Laws.{ChildHasOneMore, KeysRepresent};
-ghost use Rattle.path_keys.specs.KeyValues.{key_values};
-ghost use Rattle.path_tree.specs.Tree.{entries_of, table_of};
+ghost use Rattle.path_tree.specs.Laws.{ChildHasOneMore};
+ghost use Rattle.path_tree.specs.Tree.{entries_of};
 
 use crate::tree::PathTree;
-
-/// The key of a path represents the components of the path.
-///
-/// What a tree has at a key is therefore what it has at each path that has the key.
-///
-/// 61 00 62 00, the key of `a//b`, represents `a` and `b`.
-pub fn keys_represent_values()
-    ensures { KeysRepresent }
-{}
 
 /// If a path has more components than a base that it starts with, the child of the base's key with
 /// which its key starts is the key of the base and the next component.
@@ -31,8 +19,8 @@ pub fn child_has_one_more()
     ensures { ChildHasOneMore }
 {}
 
-/// The keys of a tree are keys of paths, in strictly increasing order of their bytes, and their
-/// paths are in path order.
+/// The keys of a tree are keys of paths, in strictly increasing order of their bytes, which is path
+/// order.
 ///
 /// So `path_of` can read each key of a tree back, and no two keys of a tree are equal.
 ///
@@ -40,8 +28,6 @@ pub fn child_has_one_more()
 pub fn tree_has_keys<V>(tree: &PathTree<V>)
     ensures keys { All IsKey (keys_of (entries_of tree.now)) }
     ensures ordered { IsStrictlySortedBy bytes_cmp (keys_of (entries_of tree.now)) }
-    ensures rows { map (λ e. (key_values e.0, e.1)) (entries_of tree.now) ≡ table_of tree.now }
-    ensures rows_ordered { IsStrictlySortedBy values_cmp (keys_of (table_of tree.now)) }
 {
     tree.show_entries();
 }

@@ -3,7 +3,7 @@ ghost use Rattle.std.specs.Prelude.{◌≡◌, ◌≤◌, true, IfOk, IsOk, leng
 ghost use Rattle.unix_path.specs.Parts.{values};
 ghost use Rattle.path_keys.specs.Held.{key_bytes};
 ghost use Rattle.path_keys.specs.Keys.{key_of};
-ghost use Rattle.path_keys.specs.KeyValues.{is_own, key_values};
+ghost use Rattle.path_keys.specs.KeyValues.{is_own};
 
 use path_keys::{PathKey, write_key};
 use std::alloc::{AllocError, Global};
@@ -31,9 +31,8 @@ impl<'a> LookupKey<'a> {
         path: Path<'_>,
         buffer: &'a mut [u8; STACK_LEN],
     ) -> Result<LookupKey<'a>, AllocError>
-        ensures own { IfOk result (λ key. is_own (lookup_bytes key) ≡ true) }
-        ensures values { IfOk result (λ key.
-            key_values (lookup_bytes key) ≡ values path.entry.bytes.now) }
+        ensures key { IfOk result (λ key.
+            lookup_bytes key ≡ key_of (values path.entry.bytes.now)) }
         ensures succeeds { length (key_of (values path.entry.bytes.now)) ≤ 512 → IsOk result }
     {
         let len = write_key(path, buffer);
@@ -59,7 +58,7 @@ impl<'a> LookupKey<'a> {
 // Returns a vector of the bytes of the path's key.
 pub(crate) fn owned_key(alloc: Global, path: Path<'_>) -> Result<Vec<u8>, AllocError>
     ensures own { IfOk result (λ key. is_own key.items ≡ true) }
-    ensures values { IfOk result (λ key. key_values key.items ≡ values path.entry.bytes.now) }
+    ensures key { IfOk result (λ key. key.items ≡ key_of (values path.entry.bytes.now)) }
 {
     let key = PathKey::from_path(alloc, path)?;
     Ok(key.into_vec())

@@ -7,13 +7,14 @@ ghost use Rattle.std.specs.List.{AllPass};
 ghost use Rattle.std.specs.Map.{keys_of, remove_entry};
 ghost use Rattle.std.specs.Option.{option_copied, option_copied_mut};
 ghost use Rattle.std.proofs.Props.{props};
-ghost use Rattle.unix_path.specs.Order.{values_cmp};
 ghost use Rattle.unix_path.specs.Parts.{values};
-ghost use Rattle.path_runs.specs.Rows.{SameElsewhere, value_at};
+ghost use Rattle.path_runs.specs.Rows.{SameElsewhere};
 ghost use Rattle.path_keys.specs.Held.{key_bytes};
 ghost use Rattle.path_keys.specs.Keys.{key_of};
+ghost use Rattle.path_keys.specs.KeyValues.{is_own};
+ghost use Rattle.path_keys.specs.Ranges.{bytes_cmp};
+ghost use Rattle.path_tree.specs.Entries.{entry_at};
 ghost use Rattle.path_tree.specs.KeyFilter.{may_contain};
-ghost use Rattle.path_keys.specs.KeyValues.{is_own, key_values};
 
 mod changed;
 mod children;
@@ -60,13 +61,13 @@ pub struct PathTree<V> {
 
 impl<V> PathTree<V> {
     ghost use Rattle.path_tree.specs.Borrowed.{borrows_value};
-    ghost use Rattle.path_tree.specs.Tree.{table_of};
+    ghost use Rattle.path_tree.specs.Tree.{entries_of};
 
     /// Returns a tree without entries. Does not allocate.
     ///
     /// It has no value at `a`.
     pub fn new(alloc: Global) -> PathTree<V>
-        ensures { table_of result ≡ [] }
+        ensures { entries_of result ≡ [] }
     {
         PathTree {
             alloc,
@@ -89,15 +90,16 @@ impl<V> PathTree<V> {
     pub fn insert(&mut self, path: Path<'_>, value: V) -> Result<Option<V>, AllocError>
     where
         V: Drop,
-        ensures rows { OnOk result (table_of self.new
-            ≡ insert_entry values_cmp (table_of self.old) (values path.entry.bytes.now) value) }
+        ensures entries { OnOk result (entries_of self.new ≡ insert_entry bytes_cmp
+            (entries_of self.old) (key_of (values path.entry.bytes.now)) value) }
         ensures old { IfOk result (λ old. old
-            ≡ value_at (values path.entry.bytes.now) (table_of self.old)) }
+            ≡ entry_at (key_of (values path.entry.bytes.now)) (entries_of self.old)) }
         ensures found { OnOk result
-            (value_at (values path.entry.bytes.now) (table_of self.new) ≡ Some value) }
+            (entry_at (key_of (values path.entry.bytes.now)) (entries_of self.new) ≡ Some value) }
         ensures others { OnOk result
-            (SameElsewhere (values path.entry.bytes.now) (table_of self.old) (table_of self.new)) }
-        ensures err { OnErr result (table_of self.new ≡ table_of self.old) }
+            (SameElsewhere bytes_cmp (key_of (values path.entry.bytes.now))
+            (entries_of self.old) (entries_of self.new)) }
+        ensures err { OnErr result (entries_of self.new ≡ entries_of self.old) }
     {
         let key = owned_key(self.alloc, path)?;
         self.put(key, value)
@@ -107,8 +109,7 @@ impl<V> PathTree<V> {
     ///
     /// With 1 at `a/b`, for the key of `a/./b` it is 1.
     pub fn get(&self, key: &PathKey) -> Option<&V>
-        ensures { option_copied result
-            ≡ value_at (key_values (key_bytes key.now)) (table_of self.now) }
+        ensures { option_copied result ≡ entry_at (key_bytes key.now) (entries_of self.now) }
     {
         self.find(bytes_of(key))
     }
@@ -121,7 +122,7 @@ impl<V> PathTree<V> {
     /// With 1 at `a/b`, for `a/./b` it is 1.
     pub fn get_path(&self, path: Path<'_>) -> Result<Option<&V>, AllocError>
         ensures value { IfOk result (λ found. option_copied found
-            ≡ value_at (values path.entry.bytes.now) (table_of self.now)) }
+            ≡ entry_at (key_of (values path.entry.bytes.now)) (entries_of self.now)) }
         ensures succeeds { length (key_of (values path.entry.bytes.now)) ≤ 512 → IsOk result }
     {
         let mut buffer = [0u8; STACK_LEN];
@@ -134,10 +135,9 @@ impl<V> PathTree<V> {
     ///
     /// With 1 at `a/b`, writing 2 through the reference for the key of `a//b` leaves 2 at `a/b`.
     pub fn get_mut(&mut self, key: &PathKey) -> Option<&mut V>
-        ensures* writes_back { sem 𝓛 (borrows_value V.row self.entry
-            (key_values (key_bytes key.now)) result) }
+        ensures* writes_back { sem 𝓛 (borrows_value V.row self.entry (key_bytes key.now) result) }
         ensures value { option_copied_mut result
-            ≡ value_at (key_values (key_bytes key.now)) (table_of self.old) }
+            ≡ entry_at (key_bytes key.now) (entries_of self.old) }
     {
         self.find_mut(bytes_of(key))
     }
@@ -148,8 +148,7 @@ impl<V> PathTree<V> {
     /// `a`.
     #[must_use]
     pub fn contains(&self, key: &PathKey) -> bool
-        ensures { result
-            ≡ is_some (value_at (key_values (key_bytes key.now)) (table_of self.now)) }
+        ensures { result ≡ is_some (entry_at (key_bytes key.now) (entries_of self.now)) }
     {
         self.get(key).is_some()
     }
@@ -162,7 +161,7 @@ impl<V> PathTree<V> {
     /// With 1 at `a/b` and no other entry, a tree contains `a//b/`, but not `a`.
     pub fn contains_path(&self, path: Path<'_>) -> Result<bool, AllocError>
         ensures value { IfOk result (λ found. found
-            ≡ is_some (value_at (values path.entry.bytes.now) (table_of self.now))) }
+            ≡ is_some (entry_at (key_of (values path.entry.bytes.now)) (entries_of self.now))) }
         ensures succeeds { length (key_of (values path.entry.bytes.now)) ≤ 512 → IsOk result }
     {
         Ok(self.get_path(path)?.is_some())
@@ -173,13 +172,12 @@ impl<V> PathTree<V> {
     /// With 1 at `a/b` and no other entry, removing the key of `a//b` returns 1 and leaves no
     /// entries.
     pub fn remove(&mut self, key: &PathKey) -> Option<V>
-        ensures value { result ≡ value_at (key_values (key_bytes key.now)) (table_of self.old) }
-        ensures rows { table_of self.new
-            ≡ remove_entry (is_at (values_cmp (key_values (key_bytes key.now))))
-            (table_of self.old) }
-        ensures gone { value_at (key_values (key_bytes key.now)) (table_of self.new) ≡ None }
-        ensures others { SameElsewhere (key_values (key_bytes key.now))
-            (table_of self.old) (table_of self.new) }
+        ensures value { result ≡ entry_at (key_bytes key.now) (entries_of self.old) }
+        ensures entries { entries_of self.new
+            ≡ remove_entry (is_at (bytes_cmp (key_bytes key.now))) (entries_of self.old) }
+        ensures gone { entry_at (key_bytes key.now) (entries_of self.new) ≡ None }
+        ensures others { SameElsewhere bytes_cmp (key_bytes key.now)
+            (entries_of self.old) (entries_of self.new) }
     {
         self.take(bytes_of(key))
     }
@@ -194,15 +192,16 @@ impl<V> PathTree<V> {
     /// With 1 at `a/b` and no other entry, removing `a//b` returns 1 and leaves no entries.
     pub fn remove_path(&mut self, path: Path<'_>) -> Result<Option<V>, AllocError>
         ensures value { IfOk result (λ found. found
-            ≡ value_at (values path.entry.bytes.now) (table_of self.old)) }
-        ensures rows { OnOk result (table_of self.new
-            ≡ remove_entry (is_at (values_cmp (values path.entry.bytes.now)))
-            (table_of self.old)) }
+            ≡ entry_at (key_of (values path.entry.bytes.now)) (entries_of self.old)) }
+        ensures entries { OnOk result (entries_of self.new
+            ≡ remove_entry (is_at (bytes_cmp (key_of (values path.entry.bytes.now))))
+            (entries_of self.old)) }
         ensures gone { OnOk result
-            (value_at (values path.entry.bytes.now) (table_of self.new) ≡ None) }
+            (entry_at (key_of (values path.entry.bytes.now)) (entries_of self.new) ≡ None) }
         ensures others { OnOk result
-            (SameElsewhere (values path.entry.bytes.now) (table_of self.old) (table_of self.new)) }
-        ensures err { OnErr result (table_of self.new ≡ table_of self.old) }
+            (SameElsewhere bytes_cmp (key_of (values path.entry.bytes.now))
+            (entries_of self.old) (entries_of self.new)) }
+        ensures err { OnErr result (entries_of self.new ≡ entries_of self.old) }
         ensures succeeds { length (key_of (values path.entry.bytes.now)) ≤ 512 → IsOk result }
     {
         let mut buffer = [0u8; STACK_LEN];
@@ -214,7 +213,7 @@ impl<V> PathTree<V> {
     ///
     /// It is 1 if 1 was inserted at `a/b`, and then 2 at `a//b`.
     pub fn len(&self) -> usize
-        ensures { result ≡ length (table_of self.now) }
+        ensures { result ≡ length (entries_of self.now) }
     {
         self.entries.len()
     }
@@ -224,7 +223,7 @@ impl<V> PathTree<V> {
     /// It is true for a new tree.
     #[must_use]
     pub fn is_empty(&self) -> bool
-        ensures { IsTrue result ↔ (table_of self.now ≡ []) }
+        ensures { IsTrue result ↔ (entries_of self.now ≡ []) }
     {
         self.entries.is_empty()
     }
@@ -235,7 +234,7 @@ impl<V> PathTree<V> {
     pub fn clear(&mut self)
     where
         V: Drop,
-        ensures { table_of self.new ≡ [] }
+        ensures { entries_of self.new ≡ [] }
     {
         self.entries.clear();
     }

@@ -1,5 +1,5 @@
 -- Keys that begin with the key of a base.
-pub mod RowLemmas
+pub mod OwnLemmas
 pub mod PassLemmas
 pub mod FilterLemmas
 pub mod UnderLemmas

@@ -4,9 +4,10 @@ ghost use Rattle.std.specs.Borrow.{sem};
 ghost use Rattle.std.specs.BTreeMap.{insert_entry, is_at};
 ghost use Rattle.std.specs.Map.{remove_entry};
 ghost use Rattle.std.specs.Option.{option_copied, option_copied_mut};
-ghost use Rattle.unix_path.specs.Order.{values_cmp};
-ghost use Rattle.path_runs.specs.Rows.{SameElsewhere, value_at};
-ghost use Rattle.path_keys.specs.KeyValues.{is_own, key_values};
+ghost use Rattle.path_runs.specs.Rows.{SameElsewhere};
+ghost use Rattle.path_keys.specs.KeyValues.{is_own};
+ghost use Rattle.path_keys.specs.Ranges.{bytes_cmp};
+ghost use Rattle.path_tree.specs.Entries.{entry_at};
 
 use super::PathTree;
 use crate::key_filter::KeyFilter;
@@ -14,13 +15,12 @@ use std::alloc::AllocError;
 
 impl<V> PathTree<V> {
     ghost use Rattle.path_tree.specs.Borrowed.{borrows_value};
-    ghost use Rattle.path_tree.specs.Tree.{table_of};
+    ghost use Rattle.path_tree.specs.Tree.{entries_of};
 
-    // Returns the value at the path of this key; `None` if there is none.
+    // Returns the value at the key with these bytes; `None` if there is none.
     #[inline]
     pub(super) fn find(&self, key: &[u8]) -> Option<&V>
-        requires { is_own key.now ≡ true }
-        ensures { option_copied result ≡ value_at (key_values key.now) (table_of self.now) }
+        ensures { option_copied result ≡ entry_at key.now (entries_of self.now) }
     {
         self.entries.get(key)
     }
@@ -29,8 +29,7 @@ impl<V> PathTree<V> {
     // most of them.
     #[inline]
     pub(super) fn find_filtered(&self, key: &[u8]) -> Option<&V>
-        requires { is_own key.now ≡ true }
-        ensures { option_copied result ≡ value_at (key_values key.now) (table_of self.now) }
+        ensures { option_copied result ≡ entry_at key.now (entries_of self.now) }
     {
         if !self.key_filter.may_contain(key) {
             return None;
@@ -38,32 +37,29 @@ impl<V> PathTree<V> {
         self.find(key)
     }
 
-    // Returns a mutable reference to the value at the path of this key; `None` if there is none.
+    // Returns a mutable reference to the value at the key with these bytes; `None` if there is
+    // none.
     #[inline]
     pub(super) fn find_mut(&mut self, key: &[u8]) -> Option<&mut V>
-        requires { is_own key.now ≡ true }
-        ensures* writes_back { sem 𝓛 (borrows_value V.row self.entry (key_values key.now) result) }
-        ensures value { option_copied_mut result
-            ≡ value_at (key_values key.now) (table_of self.old) }
+        ensures* writes_back { sem 𝓛 (borrows_value V.row self.entry key.now result) }
+        ensures value { option_copied_mut result ≡ entry_at key.now (entries_of self.old) }
     {
         self.entries.get_mut(key)
     }
 
-    // Inserts the value at the path of this key, and returns the old value; `None` if there was
-    // none. Fails if an allocation for the entry fails, and then the entries are unchanged.
+    // Inserts the value at this key, and returns the old value; `None` if there was none. Fails if
+    // an allocation for the entry fails, and then the entries are unchanged.
     pub(super) fn put(&mut self, key: Vec<u8>, value: V) -> Result<Option<V>, AllocError>
     where
         V: Drop,
         requires { is_own key.items ≡ true }
-        ensures rows { OnOk result (table_of self.new
-            ≡ insert_entry values_cmp (table_of self.old) (key_values key.items) value) }
-        ensures old { IfOk result (λ old. old
-            ≡ value_at (key_values key.items) (table_of self.old)) }
-        ensures found { OnOk result
-            (value_at (key_values key.items) (table_of self.new) ≡ Some value) }
+        ensures entries { OnOk result (entries_of self.new
+            ≡ insert_entry bytes_cmp (entries_of self.old) key.items value) }
+        ensures old { IfOk result (λ old. old ≡ entry_at key.items (entries_of self.old)) }
+        ensures found { OnOk result (entry_at key.items (entries_of self.new) ≡ Some value) }
         ensures others { OnOk result
-            (SameElsewhere (key_values key.items) (table_of self.old) (table_of self.new)) }
-        ensures err { OnErr result (table_of self.new ≡ table_of self.old) }
+            (SameElsewhere bytes_cmp key.items (entries_of self.old) (entries_of self.new)) }
+        ensures err { OnErr result (entries_of self.new ≡ entries_of self.old) }
     {
         self.key_filter.insert(key.as_slice());
         let old = self.entries.insert(key, value)?;
@@ -73,7 +69,7 @@ impl<V> PathTree<V> {
 
     // Rebuilds the filter if it is saturated. If the allocation fails, the old filter stays.
     pub(super) fn rebuild_filter(&mut self)
-        ensures { table_of self.new ≡ table_of self.old }
+        ensures { entries_of self.new ≡ entries_of self.old }
     {
         if self.key_filter.is_saturated(self.entries.len()) {
             if let Ok(filter) = KeyFilter::from_keys(self.alloc, &self.entries) {
@@ -82,16 +78,15 @@ impl<V> PathTree<V> {
         }
     }
 
-    // Removes and returns the value at the path of this key; `None` if there is none.
+    // Removes and returns the value at the key with these bytes; `None` if there is none.
     #[inline]
     pub(super) fn take(&mut self, key: &[u8]) -> Option<V>
-        requires { is_own key.now ≡ true }
-        ensures value { result ≡ value_at (key_values key.now) (table_of self.old) }
-        ensures rows { table_of self.new
-            ≡ remove_entry (is_at (values_cmp (key_values key.now))) (table_of self.old) }
-        ensures gone { value_at (key_values key.now) (table_of self.new) ≡ None }
-        ensures others { SameElsewhere (key_values key.now)
-            (table_of self.old) (table_of self.new) }
+        ensures value { result ≡ entry_at key.now (entries_of self.old) }
+        ensures entries { entries_of self.new
+            ≡ remove_entry (is_at (bytes_cmp key.now)) (entries_of self.old) }
+        ensures gone { entry_at key.now (entries_of self.new) ≡ None }
+        ensures others { SameElsewhere bytes_cmp key.now (entries_of self.old)
+            (entries_of self.new) }
     {
         self.entries.remove(key)
     }

@@ -1,15 +1,14 @@
 //! The entry whose path is the longest prefix of a path.
-ghost use Rattle.std.specs.Prelude.{◌≡◌, ◌≤◌, ◌<◌, ◌^◌, ℕ, true, List, length};
+ghost use Rattle.std.specs.Prelude.{◌≡◌, ◌≤◌, ◌<◌, ◌^◌, ℕ, List, length};
 ghost use Rattle.std.specs.Prelude.{IfOk, IfSome, IsOk, None};
 ghost use Rattle.unix_path.specs.Parts.{Value, values};
 ghost use Rattle.unix_path.specs.Rest.{rest};
 ghost use Rattle.unix_path.specs.Slices.{EndsAt, IsTail, LiesIn};
 ghost use Rattle.unix_path.specs.Prefixes.{IsPrefixOf, stripped_of};
 ghost use Rattle.unix_path.specs.Views.{value_of};
-ghost use Rattle.path_runs.specs.Rows.{value_at};
 ghost use Rattle.path_keys.specs.Keys.{code, key_of};
+ghost use Rattle.path_tree.specs.Entries.{entry_at};
 ghost use Rattle.path_tree.specs.Nearest.{IsNearest};
-ghost use Rattle.path_keys.specs.KeyValues.{is_own, key_values};
 
 use super::PathTree;
 use crate::lookup_key::{LookupKey, STACK_LEN};
@@ -47,19 +46,18 @@ fn rest_after<'a>(path: Path<'a>, base: Path<'_>) -> Path<'a>
 }
 
 impl<V> PathTree<V> {
-    ghost use Rattle.path_tree.specs.Tree.{table_of};
+    ghost use Rattle.path_tree.specs.Tree.{entries_of};
 
     // Finds the entry whose path is the longest prefix of `path`. Returns the rest of `path` after
     // that prefix, and the entry's value; `None` if no entry's path is a prefix of `path`. `key` is
     // the key of `path`.
     fn nearest_by<'a>(&self, path: Path<'a>, key: &[u8]) -> Option<(Path<'a>, &V)>
-        requires own { is_own key.now ≡ true }
-        requires values { key_values key.now ≡ values path.bytes.now }
+        requires { key.now ≡ key_of (values path.bytes.now) }
         ensures nearest { IfSome result (λ found.
-            IsNearest path.entry.bytes.now (table_of self.now) found.0.bytes.now found.1.now) }
+            IsNearest path.entry.bytes.now (entries_of self.now) found.0.bytes.now found.1.now) }
         ensures none { result ≡ None → (base : List Value)
             → IsPrefixOf base (values path.entry.bytes.now)
-            → value_at base (table_of self.now) ≡ None }
+            → entry_at (key_of base) (entries_of self.now) ≡ None }
         ensures place { IfSome result (λ found. LiesIn found.0.bytes path.entry.bytes) }
         ensures end { IfSome result (λ found.
             EndsAt found.0.bytes path.entry.bytes (length (rest path.entry.bytes.now 0 0))) }
@@ -91,10 +89,10 @@ impl<V> PathTree<V> {
     /// With 1 at `/`, 2 at `/a/b` and 3 at `/a/bc`, for `/a/b//c/d` it is `c/d` with 2.
     pub fn longest_prefix<'a>(&self, path: Path<'a>) -> Result<Option<(Path<'a>, &V)>, AllocError>
         ensures nearest { IfOk result (λ found. IfSome found (λ near.
-            IsNearest path.entry.bytes.now (table_of self.now) near.0.bytes.now near.1.now)) }
+            IsNearest path.entry.bytes.now (entries_of self.now) near.0.bytes.now near.1.now)) }
         ensures none { IfOk result (λ found. found ≡ None → (base : List Value)
             → IsPrefixOf base (values path.entry.bytes.now)
-            → value_at base (table_of self.now) ≡ None) }
+            → entry_at (key_of base) (entries_of self.now) ≡ None) }
         ensures place { IfOk result (λ found. IfSome found (λ near.
             LiesIn near.0.bytes path.entry.bytes)) }
         ensures end { IfOk result (λ found. IfSome found (λ near.

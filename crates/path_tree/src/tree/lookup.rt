@@ -3,8 +3,8 @@ ghost use Rattle.std.specs.Prelude.{◌≡◌, ◌≤◌, length, IfOk, IsErrOf,
 ghost use Rattle.std.specs.Borrow.{sem};
 ghost use Rattle.std.specs.Fmt.{padded};
 ghost use Rattle.unix_path.specs.Parts.{values};
-ghost use Rattle.path_runs.specs.Rows.{value_at};
 ghost use Rattle.path_keys.specs.Keys.{key_of};
+ghost use Rattle.path_tree.specs.Entries.{entry_at};
 
 use super::PathTree;
 use crate::lookup_key::{LookupKey, STACK_LEN};
@@ -60,7 +60,7 @@ impl From<AllocError> for LookupError {
 
 impl<V> PathTree<V> {
     ghost use Rattle.path_tree.specs.Borrowed.{borrows_found};
-    ghost use Rattle.path_tree.specs.Tree.{table_of};
+    ghost use Rattle.path_tree.specs.Tree.{entries_of};
 
     /// Returns a mutable reference to the value at the path that is equal to this one.
     ///
@@ -71,16 +71,17 @@ impl<V> PathTree<V> {
     /// With 1 at `a/b`, writing 2 through the reference for `a//b` leaves 2 at `a/b`.
     pub fn get_mut_path(&mut self, path: Path<'_>) -> Result<&mut V, LookupError>
         ensures* writes_back { sem 𝓛 (borrows_found V.row self.entry
-            (values path.entry.bytes.now) result) }
+            (key_of (values path.entry.bytes.now)) result) }
         ensures value { IfOk result (λ value. Some value.now
-            ≡ value_at (values path.entry.bytes.now) (table_of self.old)) }
+            ≡ entry_at (key_of (values path.entry.bytes.now)) (entries_of self.old)) }
         ensures absent { IsErrOf result LookupError.Absent
-            → value_at (values path.entry.bytes.now) (table_of self.old) ≡ None }
+            → entry_at (key_of (values path.entry.bytes.now)) (entries_of self.old) ≡ None }
         ensures absent_short { length (key_of (values path.entry.bytes.now)) ≤ 512
-            → value_at (values path.entry.bytes.now) (table_of self.old) ≡ None
+            → entry_at (key_of (values path.entry.bytes.now)) (entries_of self.old) ≡ None
             → IsErrOf result LookupError.Absent }
         ensures succeeds { length (key_of (values path.entry.bytes.now)) ≤ 512
-            → IsSome (value_at (values path.entry.bytes.now) (table_of self.old)) → IsOk result }
+            → IsSome (entry_at (key_of (values path.entry.bytes.now)) (entries_of self.old))
+            → IsOk result }
     {
         let mut buffer = [0u8; STACK_LEN];
         let key = LookupKey::of(self.alloc, path, &mut buffer)?;

@@ -1,11 +1,9 @@
 //! Inserting many entries one after the other, and removing all entries under a base.
-ghost use Rattle.std.specs.Prelude.{◌≡◌, List, [], IfOk, OnOk, OnErr, length};
+ghost use Rattle.std.specs.Prelude.{◌≡◌, ℕ, List, [], IfOk, OnOk, OnErr, length};
 ghost use Rattle.std.specs.Iterator.{IsFinite};
-ghost use Rattle.unix_path.specs.Parts.{Value};
 ghost use Rattle.path_keys.specs.Held.{key_bytes};
+ghost use Rattle.path_tree.specs.Entries.{entries_outside, entries_under};
 ghost use Rattle.path_tree.specs.Many.{InsertsAll, InsertsBeginning};
-ghost use Rattle.path_keys.specs.KeyValues.{key_values};
-ghost use Rattle.path_tree.specs.Rows.{rows_outside, rows_under};
 
 use super::PathTree;
 use crate::lookup_key::bytes_of;
@@ -14,7 +12,7 @@ use std::alloc::{AllocError, Global};
 use unix_path::Path;
 
 impl<V> PathTree<V> {
-    ghost use Rattle.path_tree.specs.Tree.{table_of};
+    ghost use Rattle.path_tree.specs.Tree.{entries_of};
 
     /// Creates a tree by inserting each value at its path, one after the other.
     ///
@@ -31,9 +29,9 @@ impl<V> PathTree<V> {
         V: Drop,
         requires can { I.can_next items }
         requires ends { IsFinite (I.remaining items) }
-        ensures ok { IfOk result (λ tree. InsertsAll I.next_gives items [] (table_of tree)) }
+        ensures ok { IfOk result (λ tree. InsertsAll I.next_gives items [] (entries_of tree)) }
         ensures err { OnErr result
-            ((rows : List (List Value × V)) × InsertsBeginning I.next_gives items [] rows) }
+            ((entries : List (List ℕ × V)) × InsertsBeginning I.next_gives items [] entries) }
     {
         let mut tree = PathTree::new(alloc);
         tree.extend(items)?;
@@ -47,7 +45,7 @@ impl<V> PathTree<V> {
     /// an insertion fails, its item is dropped, and the insertions before it stay.
     ///
     /// A tree with 1 at `a/b`, extended by 2 at `c` and 3 at `a//b`, has 3 at `a/b` and 2 at `c`.
-    #[tactic(auto, using(crate::proofs::lemmas::rows::ManyLemmas::inserted_all_snoc))]
+    #[tactic(auto, using(crate::proofs::lemmas::entries::ManyLemmas::entries_in_snoc))]
     pub fn extend<'a, I: Iterator<Item = (Path<'a>, V)>>(
         &mut self,
         items: I,
@@ -57,9 +55,9 @@ impl<V> PathTree<V> {
         requires can { I.can_next items }
         requires ends { IsFinite (I.remaining items) }
         ensures ok { OnOk result
-            (InsertsAll I.next_gives items (table_of self.old) (table_of self.new)) }
+            (InsertsAll I.next_gives items (entries_of self.old) (entries_of self.new)) }
         ensures err { OnErr result
-            (InsertsBeginning I.next_gives items (table_of self.old) (table_of self.new)) }
+            (InsertsBeginning I.next_gives items (entries_of self.old) (entries_of self.new)) }
     {
         for (path, value) in items {
             self.insert(path, value)?;
@@ -77,10 +75,10 @@ impl<V> PathTree<V> {
     pub fn remove_under(&mut self, base: &PathKey) -> usize
     where
         V: Drop,
-        ensures rows { table_of self.new
-            ≡ rows_outside (key_values (key_bytes base.now)) (table_of self.old) }
+        ensures entries { entries_of self.new
+            ≡ entries_outside (key_bytes base.now) (entries_of self.old) }
         ensures count { result
-            ≡ length (rows_under (key_values (key_bytes base.now)) (table_of self.old)) }
+            ≡ length (entries_under (key_bytes base.now) (entries_of self.old)) }
     {
         let base = bytes_of(base);
         let before = self.entries.len();

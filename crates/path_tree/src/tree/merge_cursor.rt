@@ -6,7 +6,7 @@ ghost use Rattle.std.specs.Option.{option_copied};
 ghost use Rattle.std.specs.declared.cmp.Ordering.TheVariants.{Less};
 ghost use Rattle.std.proofs.Props.{props};
 ghost use Rattle.path_keys.specs.Ranges.{bytes_cmp};
-ghost use Rattle.path_tree.specs.Rows.{entries_from, entry_at, key_entries};
+ghost use Rattle.path_tree.specs.Entries.{entries_from, entry_at, key_entries};
 
 use super::PathTree;
 use std::collections::btree_map::Iter;

@@ -1,15 +1,15 @@
 //! Moving entries from one base to another.
-ghost use Rattle.std.specs.Prelude.{◌≡◌, ◌↔◌, ◌<◌, ◌++◌, List, [], drop, length, true};
+ghost use Rattle.std.specs.Prelude.{◌≡◌, ◌↔◌, ◌<◌, ◌++◌, ℕ, List, [], drop, length, true};
 ghost use Rattle.std.specs.Prelude.{IfOk, IsErrOf, OnErr, OnOk, Some};
 ghost use Rattle.std.specs.Fmt.{padded};
 ghost use Rattle.std.specs.List.{AllPass};
 ghost use Rattle.std.specs.Map.{keys_of};
-ghost use Rattle.unix_path.specs.Parts.{Value};
 ghost use Rattle.unix_path.specs.Prefixes.{IsPrefixOf};
 ghost use Rattle.path_keys.specs.Held.{key_bytes};
-ghost use Rattle.path_tree.specs.Moved.{moved_rows, rows_with};
-ghost use Rattle.path_keys.specs.KeyValues.{is_own, key_values};
-ghost use Rattle.path_tree.specs.Rows.{key_rows, rows_outside, rows_under};
+ghost use Rattle.path_keys.specs.KeyValues.{is_own};
+ghost use Rattle.path_tree.specs.Entries.{entries_outside, entries_under, key_entries};
+ghost use Rattle.path_tree.specs.Many.{entries_with};
+ghost use Rattle.path_tree.specs.Moved.{moved_entries};
 
 use super::PathTree;
 use super::sorted::put_last;
@@ -74,8 +74,8 @@ fn moved_key(alloc: Global, key: &[u8], from: &[u8], to: &[u8]) -> Result<Vec<u8
     requires some { 0 < length from.now }
     requires begins { IsPrefixOf from.now key.now }
     ensures own { IfOk result (λ moved. is_own moved.items ≡ true) }
-    ensures values { IfOk result (λ moved. key_values moved.items
-        ≡ key_values to.now ++ drop (length (key_values from.now)) (key_values key.now)) }
+    ensures bytes { IfOk result (λ moved. moved.items
+        ≡ to.now ++ drop (length from.now) key.now) }
 {
     let rest = &key[from.len()..];
     let mut moved = Vec::with_capacity(alloc, to.len() + rest.len())?;
@@ -85,7 +85,7 @@ fn moved_key(alloc: Global, key: &[u8], from: &[u8], to: &[u8]) -> Result<Vec<u8
 }
 
 impl<V> PathTree<V> {
-    ghost use Rattle.path_tree.specs.Tree.{table_of};
+    ghost use Rattle.path_tree.specs.Tree.{entries_of};
 
     // Returns the entries under `from`, with the keys that they have after the move to `to`.
     fn moved(&self, from: &[u8], to: &[u8]) -> Result<Vec<(Vec<u8>, V)>, AllocError>
@@ -95,8 +95,8 @@ impl<V> PathTree<V> {
         requires to_own { is_own to.now ≡ true }
         requires some { 0 < length from.now }
         ensures own { IfOk result (λ moved. AllPass (λ k. is_own k.items) (keys_of moved.items)) }
-        ensures rows { IfOk result (λ moved. key_rows moved.items
-            ≡ moved_rows (key_values from.now) (key_values to.now) (table_of self.now)) }
+        ensures entries { IfOk result (λ moved. key_entries moved.items
+            ≡ moved_entries from.now to.now (entries_of self.now)) }
     {
         let mut moved = Vec::new(self.alloc);
         for (key, value) in self.entries.iter() {
@@ -108,20 +108,19 @@ impl<V> PathTree<V> {
         Ok(moved)
     }
 
-    // Inserts these entries, the last one first. If an insertion fails, the insertions before it
+    // Inserts these entries, one after the other. If an insertion fails, the insertions before it
     // stay.
     fn put_all(&mut self, entries: Vec<(Vec<u8>, V)>) -> Result<(), AllocError>
     where
         V: Drop,
         requires { AllPass (λ k. is_own k.items) (keys_of entries.items) }
-        ensures ok { OnOk result (table_of self.new
-            ≡ rows_with (table_of self.old) (key_rows entries.items)) }
-        ensures err { OnErr result ((front : List (List Value × V))
-            × ((last : List (List Value × V)) × (key_rows entries.items ≡ front ++ last)
-            × (table_of self.new ≡ rows_with (table_of self.old) last))) }
+        ensures ok { OnOk result (entries_of self.new
+            ≡ entries_with (entries_of self.old) (key_entries entries.items)) }
+        ensures err { OnErr result ((front : List (List ℕ × V))
+            × ((last : List (List ℕ × V)) × (key_entries entries.items ≡ front ++ last)
+            × (entries_of self.new ≡ entries_with (entries_of self.old) front))) }
     {
-        let mut rest = entries;
-        while let Some((key, value)) = rest.pop() {
+        for (key, value) in entries {
             self.put(key, value)?;
         }
         Ok(())
@@ -148,20 +147,19 @@ impl<V> PathTree<V> {
     pub fn move_under(&mut self, from: &PathKey, to: &PathKey) -> Result<usize, MoveError>
     where
         V: Copy + Drop,
-        ensures rows { OnOk result (table_of self.new ≡ rows_with
-            (rows_outside (key_values (key_bytes from.now)) (table_of self.old))
-            (moved_rows (key_values (key_bytes from.now)) (key_values (key_bytes to.now))
-            (table_of self.old))) }
+        ensures entries { OnOk result (entries_of self.new ≡ entries_with
+            (entries_outside (key_bytes from.now) (entries_of self.old))
+            (moved_entries (key_bytes from.now) (key_bytes to.now) (entries_of self.old))) }
         ensures count { IfOk result (λ count. count
-            ≡ length (rows_under (key_values (key_bytes from.now)) (table_of self.old))) }
+            ≡ length (entries_under (key_bytes from.now) (entries_of self.old))) }
         ensures free { OnOk result
-            (rows_under (key_values (key_bytes to.now)) (table_of self.old) ≡ []) }
+            (entries_under (key_bytes to.now) (entries_of self.old) ≡ []) }
         ensures inside { IsErrOf result MoveError.Inside
             ↔ IsPrefixOf (key_bytes from.now) (key_bytes to.now) }
         ensures occupied { IsErrOf result MoveError.Occupied
             ↔ ((IsPrefixOf (key_bytes from.now) (key_bytes to.now) → ⊥)
-            × ¬ (rows_under (key_values (key_bytes to.now)) (table_of self.old) ≡ [])) }
-        ensures err { OnErr result (table_of self.new ≡ table_of self.old) }
+            × ¬ (entries_under (key_bytes to.now) (entries_of self.old) ≡ [])) }
+        ensures err { OnErr result (entries_of self.new ≡ entries_of self.old) }
     {
         if to.starts_with(from) {
             return Err(MoveError::Inside);

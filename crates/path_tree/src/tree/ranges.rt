@@ -1,17 +1,15 @@
 //! The entries of a tree in path order: all entries, and the entries under a base.
 ghost use Rattle.std.specs.Prelude.{◌≡◌, ◌<◌, ◌^◌, ◌-◌, [], IfOk, IfSome, IsOk, IsTrue, Some};
-ghost use Rattle.std.specs.Prelude.{false};
-ghost use Rattle.std.specs.Prelude.{length, map, option_map, slice_get};
+ghost use Rattle.std.specs.Prelude.{ℕ, false, length, option_map, slice_get};
+ghost use Rattle.std.specs.Global.{Vec};
 ghost use Rattle.std.specs.List.{All};
 ghost use Rattle.std.specs.List.Sorted.{IsStrictlySortedBy};
 ghost use Rattle.std.specs.Map.{keys_of};
 ghost use Rattle.std.specs.Map.Iter.{ShowsInOrder, ShowsInReverse, deref_pair};
-ghost use Rattle.unix_path.specs.Order.{values_cmp};
 ghost use Rattle.path_keys.specs.Held.{key_bytes};
 ghost use Rattle.path_keys.specs.Keys.{IsKey};
 ghost use Rattle.path_keys.specs.Ranges.{bytes_cmp, end_of};
-ghost use Rattle.path_keys.specs.KeyValues.{key_values};
-ghost use Rattle.path_tree.specs.Rows.{Key, entries_under, key_entries, rows_under};
+ghost use Rattle.path_tree.specs.Entries.{entries_under, key_entries};
 
 use super::PathTree;
 use crate::lookup_key::vec_of;
@@ -20,7 +18,7 @@ use std::alloc::AllocError;
 use std::collections::btree_map::{Iter, Range};
 
 impl<V> PathTree<V> {
-    ghost use Rattle.path_tree.specs.Tree.{entries_of, table_of};
+    ghost use Rattle.path_tree.specs.Tree.{entries_of};
 
     /// Returns an iterator over the keys and their values, in path order.
     ///
@@ -29,8 +27,8 @@ impl<V> PathTree<V> {
     pub fn iter(&self) -> Iter<'_, Vec<u8>, V>
         ensures entries { key_entries result ≡ entries_of self.now }
         ensures ordered { IsStrictlySortedBy bytes_cmp (keys_of (entries_of self.now)) }
-        ensures runs { ShowsInOrder (deref_pair {K = Key} {X = V}) }
-        ensures runs_back { ShowsInReverse (deref_pair {K = Key} {X = V}) }
+        ensures runs { ShowsInOrder (deref_pair {K = Vec ℕ} {X = V}) }
+        ensures runs_back { ShowsInReverse (deref_pair {K = Vec ℕ} {X = V}) }
         ensures fits { length (entries_of self.now) < 2 ^ 63 }
     {
         self.entries.iter()
@@ -54,8 +52,8 @@ impl<V> PathTree<V> {
             ≡ entries_under (key_bytes base.now) (entries_of self.now)) }
         ensures ordered { IfOk result (λ range.
             IsStrictlySortedBy bytes_cmp (keys_of (key_entries range))) }
-        ensures runs { IsOk result → ShowsInOrder (deref_pair {K = Key} {X = V}) }
-        ensures runs_back { IsOk result → ShowsInReverse (deref_pair {K = Key} {X = V}) }
+        ensures runs { IsOk result → ShowsInOrder (deref_pair {K = Vec ℕ} {X = V}) }
+        ensures runs_back { IsOk result → ShowsInReverse (deref_pair {K = Vec ℕ} {X = V}) }
         ensures fits { IfOk result (λ range. length range < 2 ^ 63) }
         ensures succeeds { key_bytes base.now ≡ [] → IsOk result }
     {
@@ -73,8 +71,8 @@ impl<V> PathTree<V> {
         ensures entries { key_entries result
             ≡ entries_under first.now.items (entries_of self.now) }
         ensures ordered { IsStrictlySortedBy bytes_cmp (keys_of (key_entries result)) }
-        ensures runs { ShowsInOrder (deref_pair {K = Key} {X = V}) }
-        ensures runs_back { ShowsInReverse (deref_pair {K = Key} {X = V}) }
+        ensures runs { ShowsInOrder (deref_pair {K = Vec ℕ} {X = V}) }
+        ensures runs_back { ShowsInReverse (deref_pair {K = Vec ℕ} {X = V}) }
         ensures fits { length result < 2 ^ 63 }
     {
         self.entries.range(first..end)
@@ -83,9 +81,9 @@ impl<V> PathTree<V> {
     // Returns true if some key of the tree starts with the key of the base.
     pub(super) fn has_under(&self, base: &PathKey) -> bool
         ensures some { IsTrue result
-            → rows_under (key_values (key_bytes base.now)) (table_of self.now) ≡ [] → ⊥ }
+            → entries_under (key_bytes base.now) (entries_of self.now) ≡ [] → ⊥ }
         ensures none { result ≡ false
-            → rows_under (key_values (key_bytes base.now)) (table_of self.now) ≡ [] }
+            → entries_under (key_bytes base.now) (entries_of self.now) ≡ [] }
     {
         let base = vec_of(base);
         match self.entries.range(base..).next() {
@@ -99,9 +97,6 @@ impl<V> PathTree<V> {
     pub(crate) fn show_entries(&self)
         ensures keys { All IsKey (keys_of (entries_of self.now)) }
         ensures ordered { IsStrictlySortedBy bytes_cmp (keys_of (entries_of self.now)) }
-        ensures rows { map (λ e. (key_values e.0, e.1)) (entries_of self.now)
-            ≡ table_of self.now }
-        ensures rows_ordered { IsStrictlySortedBy values_cmp (keys_of (table_of self.now)) }
     {
         let _len = self.entries.len();
     }

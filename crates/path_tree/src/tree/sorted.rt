@@ -1,11 +1,11 @@
 //! Trees created at once from items whose paths are strictly increasing.
-ghost use Rattle.std.specs.Prelude.{◌≡◌, List, [], ◌∷◌, ◌++◌, IfOk, IsErrOf, OnOk, Some, true};
+ghost use Rattle.std.specs.Prelude.{◌≡◌, ℕ, List, [], ◌∷◌, ◌++◌, IfOk, IsErrOf, OnOk, Some, true};
 ghost use Rattle.std.specs.BTreeMap.{IsFromIterResult};
 ghost use Rattle.std.specs.Fmt.{padded};
+ghost use Rattle.std.specs.Global.{Vec};
 ghost use Rattle.std.specs.Iterator.{IsFinite};
 ghost use Rattle.std.specs.Ordering.{is_lt};
 ghost use Rattle.path_keys.specs.Ranges.{bytes_cmp};
-ghost use Rattle.path_tree.specs.Rows.{Key};
 ghost use Rattle.path_tree.specs.Sorted.{ListsAll, StopsRising};
 
 use super::PathTree;
@@ -65,8 +65,8 @@ impl From<AllocError> for SortedError {
 // Returns true if the key is greater than the last key of the entries, or if there are no entries.
 fn rises<V>(entries: &[(Vec<u8>, V)], key: &Vec<u8>) -> bool
     ensures first { entries.now ≡ [] → result ≡ true }
-    ensures others { (front : List (Key × V)) (last : Key × V) → entries.now ≡ front ++ last ∷ []
-        → result ≡ is_lt (bytes_cmp last.0.items key.now.items) }
+    ensures others { (front : List (Vec ℕ × V)) (last : Vec ℕ × V)
+        → entries.now ≡ front ++ last ∷ [] → result ≡ is_lt (bytes_cmp last.0.items key.now.items) }
 {
     match entries.last() {
         Some((last, _)) => last.cmp(key).is_lt(),
@@ -98,7 +98,7 @@ fn map_of<V: Drop>(
 }
 
 impl<V> PathTree<V> {
-    ghost use Rattle.path_tree.specs.Tree.{table_of};
+    ghost use Rattle.path_tree.specs.Tree.{entries_of};
 
     /// Creates a tree of these values at their paths, which have to be strictly increasing.
     ///
@@ -122,7 +122,7 @@ impl<V> PathTree<V> {
         V: Drop,
         requires can { I.can_next items }
         requires ends { IsFinite (I.remaining items) }
-        ensures ok { IfOk result (λ tree. ListsAll I.next_gives items (table_of tree)) }
+        ensures ok { IfOk result (λ tree. ListsAll I.next_gives items (entries_of tree)) }
         ensures not_sorted { IsErrOf result SortedError.NotSorted
             → StopsRising I.next_gives items }
     {

@@ -3,6 +3,7 @@ use Rattle.std.proofs.Common.{◌≡◌, ℕ, Bool, true, false, not, ◌&&◌, 
 use Rattle.std.proofs.Common.{Some, sym, subst, ◌∙◌, cond, if◌then◌else◌, is_some}
 use Rattle.std.proofs.Common.{true≢false}
 use Rattle.std.specs.List.{filter}
+use Rattle.unix_path.specs.Order.{values_cmp}
 use Rattle.unix_path.specs.OrderLaws.{is_eq-values_cmp}
 use Rattle.unix_path.specs.Parts.{Value, values}
 use Rattle.path_runs.specs.Rows.{SameElsewhere, value_at}
@@ -84,7 +85,8 @@ selected_firsts {A = A} rows e paths =
     rw e (filter_all (is_new {V = A} []) (λ p. refl) (firsts_of paths))
 
 module _ {A : Type 0} (p : List ℕ) (old new : List (List Value × A)) (x : A)
-    (found : value_at (values p) new ≡ Some x) (others : SameElsewhere (values p) old new) where
+    (found : value_at (values p) new ≡ Some x)
+    (others : SameElsewhere values_cmp (values p) old new) where
   -- a path is new if it was new and isn't equal to p
   still_new : (q : List ℕ) → (not (same_path p q) && is_new old q) ≡ is_new new q
   still_new q =
@@ -109,13 +111,14 @@ module _ {A : Type 0} (p : List ℕ) (old new : List (List Value × A)) (x : A)
 -- the path that comes next, if the first of equal paths are selected, and the table got it
 pub take_first : (selection : Selection) (table : PathTable (Unit {0})) (q p : List ℕ)
     (new : List (List Value × Unit {0})) (x : Unit {0}) → selection ≡ Firsts table → q ≡ p
-    → value_at (values q) new ≡ Some x → SameElsewhere (values q) (table_of table) new
+    → value_at (values q) new ≡ Some x
+    → SameElsewhere values_cmp (values q) (table_of table) new
     → (paths : List (List ℕ)) → selected selection (p ∷ paths)
     ≡ taken selection p ++ filter (is_new new) (firsts_of paths)
 take_first selection table q p new x e d found others paths =
     rw e (firsts_after p (table_of table) new x
     (subst (λ p. value_at (values p) new ≡ Some x) d found)
-    (subst (λ p. SameElsewhere (values p) (table_of table) new) d others) paths)
+    (subst (λ p. SameElsewhere values_cmp (values p) (table_of table) new) d others) paths)
 
 -- the selected paths begin with those among the first
 pub selected-prefix : (selection : Selection) (xs ys : List (List ℕ))

@@ -14,12 +14,12 @@ use Rattle.unix_bytes.proofs.lemmas.lists.ListLemmas.{by_test}
 use Rattle.path_keys.specs.Ranges.{bytes_cmp, end_of}
 use Rattle.path_keys.proofs.lemmas.values.BeginLemmas.{begins_told}
 use Rattle.path_tree.specs.Children.{child_entry, child_of, children_of, have_same_key, is_below}
-use Rattle.path_tree.specs.Rows.{Key, key_entries}
+use Rattle.path_tree.specs.Entries.{key_entries}
 use Rattle.path_tree.proofs.lemmas.keys.ChildKeyLemmas.{ChildKey}
 use Rattle.path_tree.proofs.lemmas.keys.IntervalLemmas.{interval, le_less}
-use Rattle.path_tree.proofs.lemmas.keys.RowLemmas.{items_of, keys_cmp}
-use Rattle.path_tree.proofs.lemmas.rows.EntryLemmas.{between-starts}
-use Rattle.path_tree.proofs.lemmas.rows.WalkLemmas.{all_from_first, filter_all}
+use Rattle.path_tree.proofs.lemmas.keys.OwnLemmas.{Key, items_of, keys_cmp}
+use Rattle.path_tree.proofs.lemmas.entries.EntryLemmas.{between-starts}
+use Rattle.path_tree.proofs.lemmas.entries.WalkLemmas.{all_from_first, filter_all}
 
 -- the key starts with the child that was found last, if one was found
 abbrev pub goes_on_in : List ℕ → Option (List ℕ) → List ℕ → Bool

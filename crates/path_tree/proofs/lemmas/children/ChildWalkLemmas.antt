@@ -28,21 +28,21 @@ use Rattle.path_keys.proofs.lemmas.values.BeginLemmas.{begins_told}
 use Rattle.path_keys.proofs.lemmas.values.RangeLemmas.{begins-lies_under}
 use Rattle.path_tree.specs.Children.{child_entry, child_of, children_of, is_below}
 use Rattle.path_keys.specs.KeyValues.{is_own}
-use Rattle.path_tree.specs.Rows.{Key, key_entries}
+use Rattle.path_tree.specs.Entries.{key_entries}
 use Rattle.path_tree.proofs.lemmas.children.ChildLemmas.{children-fresh, fresh}
 use Rattle.path_tree.proofs.lemmas.children.ChildLemmas.{goes_on_in, is_after}
 use Rattle.path_tree.proofs.lemmas.children.ChildLemmas.{new_child, none_more, pass_child}
 use Rattle.path_tree.proofs.lemmas.children.ChildLemmas.{stays_after}
 use Rattle.path_tree.proofs.lemmas.keys.ChildKeyLemmas.{ChildKey}
 use Rattle.path_tree.proofs.lemmas.keys.IntervalLemmas.{le_less}
-use Rattle.path_tree.proofs.lemmas.keys.RowLemmas.{AllOwn, Own, all_own, items_of, keys_cmp}
-use Rattle.path_tree.proofs.lemmas.rows.DifferenceLemmas.{some_append}
-use Rattle.path_tree.proofs.lemmas.rows.EntryLemmas.{between-starts}
-use Rattle.path_tree.proofs.lemmas.rows.SortedLemmas.{sorted-more}
-use Rattle.path_tree.proofs.lemmas.rows.SortedWalkLemmas.{less_is}
-use Rattle.path_tree.proofs.lemmas.rows.WalkLemmas.{all_kept, all_more, all_rest, filter-suffix}
-use Rattle.path_tree.proofs.lemmas.rows.WalkLemmas.{kept_pass}
-use Rattle.path_tree.proofs.lemmas.rows.WalkLemmas.{sorted_rest, suffix-filter}
+use Rattle.path_tree.proofs.lemmas.keys.OwnLemmas.{Key, AllOwn, Own, all_own, items_of, keys_cmp}
+use Rattle.path_tree.proofs.lemmas.entries.DifferenceLemmas.{some_append}
+use Rattle.path_tree.proofs.lemmas.entries.EntryLemmas.{between-starts}
+use Rattle.path_tree.proofs.lemmas.entries.SortedLemmas.{sorted-more}
+use Rattle.path_tree.proofs.lemmas.entries.SortedWalkLemmas.{less_is}
+use Rattle.path_tree.proofs.lemmas.entries.WalkLemmas.{all_kept, all_more, all_rest, filter-suffix}
+use Rattle.path_tree.proofs.lemmas.entries.WalkLemmas.{kept_pass}
+use Rattle.path_tree.proofs.lemmas.entries.WalkLemmas.{sorted_rest, suffix-filter}
 
 -- what a test of bytes shows, for equal bytes
 pub begins_by : {key base k b : List ℕ} {t : Bool} → t ≡ starts_with eqb key base → key ≡ k

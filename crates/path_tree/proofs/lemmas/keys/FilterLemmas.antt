@@ -16,7 +16,7 @@ use Rattle.unix_bytes.proofs.lemmas.lists.ListLemmas.{by_test}
 use Rattle.std.specs.Map.{keys_of, lookup}
 use Rattle.path_tree.specs.Hashed.{has_bit}
 use Rattle.path_tree.proofs.lemmas.keys.PassLemmas.{AllKeys}
-use Rattle.path_tree.proofs.lemmas.keys.RowLemmas.{is_it}
+use Rattle.path_tree.proofs.lemmas.keys.OwnLemmas.{is_it}
 
 -- bit k of the word
 abbrev digit : ℕ → ℕ → ℕ

@@ -10,7 +10,6 @@ use Rattle.path_keys.proofs.lemmas.reading.FitLemmas.{AllFit-any, AllFit-append,
 use Rattle.path_keys.proofs.lemmas.values.KeyLemmas.{key_of-append, key_of-nil}
 use Rattle.path_keys.specs.KeyValues.{is_own, key_values}
 use Rattle.path_tree.proofs.lemmas.keys.ChildKeyLemmas.{fit-own, key_of-own, own-fit}
-use Rattle.path_keys.proofs.lemmas.reading.KeyValueLemmas.{key_values-key_of}
 use Rattle.path_tree.proofs.lemmas.keys.UnderLemmas.{values_begin}
 
 module _ (key from to : List ℕ) (own : is_own key ≡ true) (from_own : is_own from ≡ true)
@@ -63,9 +62,3 @@ module _ (key from to : List ℕ) (own : is_own key ≡ true) (from_own : is_own
   -- `to` and the bytes of the key after `from` are the key of a path
   pub moved_own : is_own (to ++ drop (length from) key) ≡ true
   moved_own = ap is_own new_is ∙ own-fit (key_values to ++ follows.ws) new_fit
-
-  -- `to` and the bytes of the key after `from` represent the components of `to`, and then the
-  -- components of the key after those of `from`
-  pub moved_values : key_values (to ++ drop (length from) key)
-      ≡ key_values to ++ drop (length (key_values from)) (key_values key)
-  moved_values = grind (arith, new_is, key_values-key_of, follows, new_fit, drop_at)

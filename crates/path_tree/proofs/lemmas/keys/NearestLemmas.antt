@@ -3,24 +3,16 @@
 use Rattle.std.proofs.Common.{◌≡◌, ◌≤◌, ℕ, ◌+◌, ◌-◌, List, [], ◌∷◌, ◌++◌, length, take}
 use Rattle.std.proofs.Common.{Option, Some, None, IsSome, refl, sym, ap, ◌∙◌, subst, arith}
 use Rattle.std.proofs.Common.{append_assoc, append-nil, length-append, length-take-le}
-use Rattle.std.proofs.Common.{take_all, take_at, take-take, true, true≢false}
+use Rattle.std.proofs.Common.{take_all, take_at, take-take, true≢false}
 use Rattle.std.proofs.lemmas.List.{nil_from_length}
 use Rattle.unix_path.specs.Parts.{Value, values}
 use Rattle.unix_path.specs.Prefixes.{IsPrefixOf, stripped_of}
 use Rattle.unix_path.specs.Rest.{rest}
 use Rattle.unix_path.proofs.lemmas.rests.RestLemmas.{rest-rest}
-use Rattle.path_runs.proofs.lemmas.spelling.ReadBackLemmas.{values-spelling_of}
-use Rattle.path_runs.specs.Rows.{value_at}
 use Rattle.path_keys.specs.Keys.{code, key_of}
 use Rattle.path_keys.proofs.lemmas.values.KeyLemmas.{key_of-append, key_of-one}
+use Rattle.path_tree.specs.Entries.{entry_at}
 use Rattle.path_tree.specs.Nearest.{IsNearest}
-use Rattle.path_keys.specs.KeyValues.{is_own, key_values}
-use Rattle.path_keys.proofs.lemmas.reading.KeyValueLemmas.{own-is}
-
--- if `key` is the key of a path and represents the components of s, it is the key of s
-pub key-is : (key s : List ℕ) → is_own key ≡ true → key_values key ≡ values s
-    → key ≡ key_of (values s)
-key-is key s own is = grind (arith, own-is, values-spelling_of)
 
 -- if u and v are prefixes of the list w and have the same length, they are the same
 same_prefix : {A : Type 0} (u v w : List A) → IsPrefixOf u w → IsPrefixOf v w → length u ≡ length v
@@ -39,27 +31,27 @@ is_none : {A : Type 0} (x : Option A) → (IsSome x → ⊥) → x ≡ None
 is_none None h = refl
 is_none (Some a) h = absurd (h refl)
 
-module _ {V : Type 0} (s key : List ℕ) (rows : List (List Value × V)) where
+module _ {V : Type 0} (s key : List ℕ) (entries : List (List ℕ × V)) where
   -- `prefix` is the path s without some of its last components, the first `end` bytes of `key` are
   -- the key of `prefix`, and no prefix of the components of s that is longer than the components of
-  -- `prefix` has a row
+  -- `prefix` has an entry
   pub record GoesUp (end : ℕ) (prefix : List ℕ) : Type 0 where
     pub prefix_is : (m : ℕ) × (prefix ≡ rest s 0 m)
     pub begins : IsPrefixOf (values prefix) (values s)
     pub in_range : end ≤ length key
     pub key_is : take end key ≡ key_of (values prefix)
-    pub longest : (v : List Value) → IsSome (value_at v rows) → IsPrefixOf v (values s)
+    pub longest : (v : List Value) → IsSome (entry_at (key_of v) entries) → IsPrefixOf v (values s)
         → length v ≤ length (values prefix)
 
   -- if `key` is the key of s, `GoesUp` holds for s without its trailing filler and the whole key
-  pub goes_up : (end : ℕ) (prefix : List ℕ) → is_own key ≡ true → key_values key ≡ values s
-      → end ≡ length key → prefix ≡ rest s 0 0 → values prefix ≡ values s → GoesUp end prefix
-  goes_up end prefix own is all whole same = record {
+  pub goes_up : (end : ℕ) (prefix : List ℕ) → key ≡ key_of (values s) → end ≡ length key
+      → prefix ≡ rest s 0 0 → values prefix ≡ values s → GoesUp end prefix
+  goes_up end prefix is all whole same = record {
     prefix_is = (0, whole);
     begins = ([], append-nil (values prefix) ∙ same);
     in_range = omega (arith, all);
     key_is = ap (λ n. take n key) all ∙ take_all (length key) key (omega arith)
-        ∙ key-is key s own is ∙ ap key_of (sym same);
+        ∙ is ∙ ap key_of (sym same);
     longest = λ v some begins. omega (
       arith,
       ap length same,
@@ -87,10 +79,10 @@ module _ {V : Type 0} (s key : List ℕ) (rows : List (List Value × V)) where
       → values prefix ≡ values new ++ v ∷ [] → length (code v) ≤ end
   code_fits end prefix new v h is = omega (arith, key_long end prefix new v h is)
 
-  -- if `prefix` has no row, and `new` is `prefix` without its last component v, `GoesUp` holds for
-  -- `new` and for `end` less the length of the code of v
+  -- if `prefix` has no entry, and `new` is `prefix` without its last component v, `GoesUp` holds
+  -- for `new` and for `end` less the length of the code of v
   pub goes_on : (end : ℕ) (prefix new : List ℕ) (v : Value) → GoesUp end prefix
-      → value_at (values prefix) rows ≡ None → values prefix ≡ values new ++ v ∷ []
+      → entry_at (key_of (values prefix)) entries ≡ None → values prefix ≡ values new ++ v ∷ []
       → new ≡ rest prefix 0 1 → GoesUp (end - length (code v)) new
   goes_on end prefix new v h none is new_is =
       let cut = key_cut end prefix new v h is in
@@ -117,18 +109,18 @@ module _ {V : Type 0} (s key : List ℕ) (rows : List (List Value × V)) where
           shorter,
           h.longest u some begins,
           λ (same : length u ≡ length (values prefix)).
-              none_some (value_at u rows)
-              (ap (λ w. value_at w rows)
+              none_some (entry_at (key_of u) entries)
+              (ap (λ w. entry_at (key_of w) entries)
               (same_prefix u (values prefix) (values s) begins h.begins same) ∙ none)
               some,
         );
       }
 
-  -- if `prefix` has a row with the value x, and `rest` is the rest of s after `prefix`, this row is
-  -- the nearest to s
+  -- if `prefix` has an entry with the value x, and `rest` is the rest of s after `prefix`, this
+  -- entry is the nearest to s
   pub is_nearest : (end : ℕ) (prefix rest : List ℕ) (x : V) → GoesUp end prefix
-      → Some x ≡ value_at (values prefix) rows → rest ≡ stripped_of s prefix
-      → IsNearest s rows rest x
+      → Some x ≡ entry_at (key_of (values prefix)) entries → rest ≡ stripped_of s prefix
+      → IsNearest s entries rest x
   is_nearest end prefix rest x h found is = record {
     base = values prefix;
     value_is = sym found;
@@ -136,8 +128,8 @@ module _ {V : Type 0} (s key : List ℕ) (rows : List (List Value × V)) where
     rest_is = is;
   }
 
-  -- if `prefix` has no components and no row, no prefix of the components of s has a row
+  -- if `prefix` has no components and no entry, no prefix of the components of s has an entry
   pub none_nearer : (end : ℕ) (prefix : List ℕ) → GoesUp end prefix
-      → value_at (values prefix) rows ≡ None → values prefix ≡ []
-      → (v : List Value) → IsPrefixOf v (values s) → value_at v rows ≡ None
+      → entry_at (key_of (values prefix)) entries ≡ None → values prefix ≡ []
+      → (v : List Value) → IsPrefixOf v (values s) → entry_at (key_of v) entries ≡ None
   none_nearer end prefix h none empty v begins = grind (arith, is_none, none_some, nil_from_length)

@@ -7,7 +7,7 @@ use Rattle.std.proofs.lemmas.Map.Views.{All-keys-insert_entry, All-map-remove_en
 use Rattle.std.specs.BTreeMap.{insert_entry}
 use Rattle.std.specs.List.{AllPass, filter}
 use Rattle.std.specs.Map.{keys_of, remove_entry}
-use Rattle.path_tree.proofs.lemmas.rows.WalkLemmas.{all_kept}
+use Rattle.path_tree.proofs.lemmas.entries.WalkLemmas.{all_kept}
 
 -- the bytes of each key pass the test
 abbrev pub AllKeys : {K V : Type 0} → (K → List ℕ) → (List ℕ → Bool) → List (K × V) → Type 0

@@ -1,6 +1,9 @@
 use Rattle.std.proofs.Common.{rules}
+use Rattle.unix_path.specs.Order.{values_cmp}
+use Rattle.unix_path.specs.OrderLaws.{is_eq-values_cmp}
 use Rattle.path_runs.proofs.lemmas.rows.UpdateLemmas.{elsewhere-insert_entry}
 use Rattle.path_table.proofs.table.PathTable.insert.Goals as goal
 
 pub returns-clause-others : goal.returns-clause-others
-returns-clause-others g c = elsewhere-insert_entry _ c.args.value _ _ (search rules)
+returns-clause-others g c =
+    elsewhere-insert_entry values_cmp is_eq-values_cmp _ c.args.value _ _ (search rules)

@@ -1,9 +1,9 @@
 use Rattle.std.proofs.Common.{◌≡◌, [], ◌∷◌, ◌∙◌, ap, rules, subst, sym}
 use Rattle.std.proofs.lemmas.List.Elements.{All-nil}
 use Rattle.path_tree.specs.KeyFilter.{may_contain}
-use Rattle.path_tree.specs.Rows.{Key}
 use Rattle.path_tree.proofs.lemmas.keys.FilterLemmas.{FiltersRest, filters_more}
 use Rattle.path_tree.proofs.lemmas.keys.PassLemmas.{AllKeys}
+use Rattle.path_tree.proofs.lemmas.keys.OwnLemmas.{Key}
 use Rattle.path_tree.proofs.key_filter.KeyFilter.from_keys.Goals as goal
 
 pub loop-key-preserved : goal.loop-key-preserved

@@ -1,6 +1,6 @@
 use Rattle.path_tree.specs.KeyFilter.{may_contain}
-use Rattle.path_tree.specs.Rows.{Key}
 use Rattle.path_tree.proofs.lemmas.keys.FilterLemmas.{FiltersRest}
+use Rattle.path_tree.proofs.lemmas.keys.OwnLemmas.{Key}
 use Rattle.path_tree.proofs.key_filter.KeyFilter.from_keys.Given as goal
 
 abbrev pub invariant-loop-key : goal.invariant-loop-key

@@ -2,11 +2,11 @@ use Rattle.std.proofs.Common.{arith}
 use Rattle.std.proofs.Common.{◌∙◌, ◌&&◌, ap, eqb, is_le, not}
 use Rattle.std.specs.List.{starts_with}
 use Rattle.path_keys.specs.Ranges.{bytes_cmp}
-use Rattle.path_tree.specs.Rows.{key_entries}
+use Rattle.path_tree.specs.Entries.{key_entries}
 use Rattle.path_tree.proofs.lemmas.keys.UnderLemmas.{forward}
-use Rattle.path_tree.proofs.lemmas.rows.EntryLemmas.{between-starts, filter-key_entries}
-use Rattle.path_tree.proofs.lemmas.rows.EntryLemmas.{sorted-key_entries}
-use Rattle.path_tree.proofs.lemmas.rows.WalkLemmas.{sorted-filter}
+use Rattle.path_tree.proofs.lemmas.entries.EntryLemmas.{between-starts, filter-key_entries}
+use Rattle.path_tree.proofs.lemmas.entries.EntryLemmas.{sorted-key_entries}
+use Rattle.path_tree.proofs.lemmas.entries.WalkLemmas.{sorted-filter}
 use Rattle.path_tree.proofs.tree.PathTree.between.Goals as goal
 
 pub range-requires : goal.range-requires

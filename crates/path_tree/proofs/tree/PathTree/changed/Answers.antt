@@ -4,13 +4,13 @@ use Rattle.std.proofs.Common.{◌≡◌, ◌∷◌, ◌++◌, ◌∙◌, ℕ, fa
 use Rattle.std.proofs.Common.{rules, subst, sym}
 use Rattle.path_tree.specs.Changed.{borrowed_both, entries_changed}
 use Rattle.path_tree.specs.Cursor.{cursor_entries}
-use Rattle.path_tree.specs.Rows.{entry_at, key_entries}
+use Rattle.path_tree.specs.Entries.{entry_at, key_entries}
 use Rattle.path_tree.specs.Tree.{entries_of}
-use Rattle.path_tree.proofs.lemmas.rows.ChangedLemmas.{absent_entry, changed_entry, equal_entry}
-use Rattle.path_tree.proofs.lemmas.rows.ChangedLemmas.{both_keys-lent, sorted-changed}
-use Rattle.path_tree.proofs.lemmas.rows.EntryLemmas.{sorted-key_entries}
-use Rattle.path_tree.proofs.lemmas.rows.DifferenceLemmas.{map_push-append, some_append}
-use Rattle.path_tree.proofs.lemmas.rows.MergeLemmas.{Merges, merges_first, merges_more}
+use Rattle.path_tree.proofs.lemmas.entries.ChangedLemmas.{absent_entry, changed_entry, equal_entry}
+use Rattle.path_tree.proofs.lemmas.entries.ChangedLemmas.{both_keys-lent, sorted-changed}
+use Rattle.path_tree.proofs.lemmas.entries.EntryLemmas.{sorted-key_entries}
+use Rattle.path_tree.proofs.lemmas.entries.DifferenceLemmas.{map_push-append, some_append}
+use Rattle.path_tree.proofs.lemmas.entries.MergeLemmas.{Merges, merges_first, merges_more}
 use Rattle.path_tree.proofs.tree.PathTree.changed.Goals as goal
 
 pub loop-key-init : goal.loop-key-init

@@ -5,15 +5,15 @@ use Rattle.std.specs.List.{starts_with}
 use Rattle.unix_path.specs.Prefixes.{IsPrefixOf}
 use Rattle.path_tree.specs.Children.{borrowed_child, child_entry, child_of, children_of}
 use Rattle.path_keys.specs.KeyValues.{is_own}
-use Rattle.path_tree.specs.Rows.{Key}
 use Rattle.path_tree.specs.Tree.{entries_of}
 use Rattle.path_tree.proofs.lemmas.children.ChildWalkLemmas.{FindsChildren, begins_by, finds}
 use Rattle.path_tree.proofs.lemmas.children.ChildWalkLemmas.{found_all, found_at_end, longer}
 use Rattle.path_tree.proofs.lemmas.children.ChildWalkLemmas.{not_none, not_none_found, passed_fewer}
 use Rattle.path_tree.proofs.lemmas.children.ChildWalkLemmas.{passes, rest_own, starts}
 use Rattle.path_tree.proofs.lemmas.keys.ChildKeyLemmas.{child_begins, child_is_key}
-use Rattle.path_tree.proofs.lemmas.rows.DifferenceLemmas.{map_push-append}
+use Rattle.path_tree.proofs.lemmas.entries.DifferenceLemmas.{map_push-append}
 use Rattle.path_tree.proofs.tree.PathTree.children.Goals as goal
+use Rattle.path_tree.proofs.lemmas.keys.OwnLemmas.{Key}
 use Rattle.path_tree.proofs.tree.PathTree.children.Goals.{
   in_default,
   in-Some+in_default-begun_by+then-not-starts_with,

@@ -6,13 +6,13 @@ use Rattle.std.specs.Option.{is_some}
 use Rattle.std.specs.Map.Iter.{deref_pair}
 use Rattle.path_tree.specs.Cursor.{cursor_entries}
 use Rattle.path_tree.specs.Difference.{entries_lacking}
-use Rattle.path_tree.specs.Rows.{entry_at, key_entries}
+use Rattle.path_tree.specs.Entries.{entry_at, key_entries}
 use Rattle.path_tree.specs.Tree.{entries_of}
-use Rattle.path_tree.proofs.lemmas.rows.EntryLemmas.{sorted-key_entries}
-use Rattle.path_tree.proofs.lemmas.rows.DifferenceLemmas.{has_entry, lacks_entry, map_push-append}
-use Rattle.path_tree.proofs.lemmas.rows.DifferenceLemmas.{some_append}
-use Rattle.path_tree.proofs.lemmas.rows.MergeLemmas.{Merges, merges_first, merges_more}
-use Rattle.path_tree.proofs.lemmas.rows.WalkLemmas.{sorted-filter}
+use Rattle.path_tree.proofs.lemmas.entries.EntryLemmas.{sorted-key_entries}
+use Rattle.path_tree.proofs.lemmas.entries.DifferenceLemmas.{has_entry, lacks_entry}
+use Rattle.path_tree.proofs.lemmas.entries.DifferenceLemmas.{map_push-append, some_append}
+use Rattle.path_tree.proofs.lemmas.entries.MergeLemmas.{Merges, merges_first, merges_more}
+use Rattle.path_tree.proofs.lemmas.entries.WalkLemmas.{sorted-filter}
 use Rattle.path_tree.proofs.tree.PathTree.difference.Goals as goal
 
 pub loop-key-init : goal.loop-key-init

@@ -2,9 +2,9 @@ use Rattle.std.proofs.Common.{◌≡◌, ◌++◌, map}
 use Rattle.std.specs.Map.Iter.{deref_pair}
 use Rattle.path_tree.specs.Cursor.{cursor_entries}
 use Rattle.path_tree.specs.Difference.{entries_lacking}
-use Rattle.path_tree.specs.Rows.{key_entries}
+use Rattle.path_tree.specs.Entries.{key_entries}
 use Rattle.path_tree.specs.Tree.{entries_of}
-use Rattle.path_tree.proofs.lemmas.rows.MergeLemmas.{Merges}
+use Rattle.path_tree.proofs.lemmas.entries.MergeLemmas.{Merges}
 use Rattle.path_tree.proofs.tree.PathTree.difference.Given as goal
 
 abbrev pub invariant-loop-key : goal.invariant-loop-key

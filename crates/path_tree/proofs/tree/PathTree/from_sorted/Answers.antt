@@ -1,6 +1,6 @@
 use Rattle.std.proofs.Common.{◌≡◌, ◌∷◌, ◌++◌, ◌∙◌, [], rules, subst, sym, true}
-use Rattle.path_tree.proofs.lemmas.rows.SortedWalkLemmas.{Listed, listed_more, listed_none}
-use Rattle.path_tree.proofs.lemmas.rows.SortedWalkLemmas.{made_own, made_rows, rise, stops}
+use Rattle.path_tree.proofs.lemmas.entries.SortedWalkLemmas.{Listed, listed_more, listed_none}
+use Rattle.path_tree.proofs.lemmas.entries.SortedWalkLemmas.{made_entries, made_own, rise, stops}
 use Rattle.path_tree.proofs.tree.PathTree.from_sorted.Goals as goal
 
 pub loop-path-init : goal.loop-path-init
@@ -11,7 +11,7 @@ returns-then-not-rises-clause-not_sorted g c = λ _.
     let key = c.in_ok-key.key in
     let made = c.in_ok-key.ensures in
     stops c.loop-path.entries.items c.loop-path.yielded c.loop-path.invariant key c.in-Some.path
-    made.own made.values
+    made.own made.key
     g.I.Iterator.next_gives c.args.items c.in-Some.value c.next.new.self
     (search (
       rules,
@@ -31,7 +31,7 @@ loop-path-preserved g c =
     subst (λ l. Listed l (c.loop-path.yielded ++ (c.in-Some.path, c.in-Some.value) ∷ []))
     (sym c.in_ok-put_last.ensures)
     (listed_more c.loop-path.entries.items c.loop-path.yielded c.loop-path.invariant key
-    c.in-Some.path made.own made.values c.in-Some.value
+    c.in-Some.path made.own made.key c.in-Some.value
     (λ front last is. sym (c.rises.ensures.others front last (c.deref.ensures.value ∙ is))
     ∙ rises))
 
@@ -46,7 +46,7 @@ invariant_of-tree g c =
 
 pub returns-clause-ok : goal.returns-clause-ok
 returns-clause-ok g c = record {
-  entries = c.loop-path.yielded;
+  yielded = c.loop-path.yielded;
   all_items = (
     c.next.new.self,
     (
@@ -56,7 +56,7 @@ returns-clause-ok g c = record {
     ),
   );
   rise = rise c.loop-path.entries.items c.loop-path.yielded c.loop-path.invariant;
-  rows_are = c.rebuild_filter.ensures
-      ∙ made_rows c.loop-path.entries.items c.loop-path.yielded c.loop-path.invariant
+  entries_are = c.rebuild_filter.ensures
+      ∙ made_entries c.loop-path.entries.items c.loop-path.yielded c.loop-path.invariant
       c.in_ok-map_of.field-0 c.in_ok-map_of.ensures;
 }

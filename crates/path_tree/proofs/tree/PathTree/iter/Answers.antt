@@ -1,4 +1,4 @@
-use Rattle.path_tree.proofs.lemmas.rows.EntryLemmas.{sorted-key_entries}
+use Rattle.path_tree.proofs.lemmas.entries.EntryLemmas.{sorted-key_entries}
 use Rattle.path_tree.proofs.tree.PathTree.iter.Goals as goal
 
 pub returns-clause-ordered : goal.returns-clause-ordered

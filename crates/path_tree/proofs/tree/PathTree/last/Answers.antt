@@ -1,5 +1,5 @@
 use Rattle.std.proofs.Common.{arith}
-use Rattle.path_tree.proofs.lemmas.rows.EntryLemmas.{is_key-entry}
+use Rattle.path_tree.proofs.lemmas.entries.EntryLemmas.{is_key-entry}
 use Rattle.path_tree.proofs.tree.PathTree.last.Goals as goal
 
 pub returns-clause-key : goal.returns-clause-key

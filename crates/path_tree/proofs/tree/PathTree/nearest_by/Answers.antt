@@ -2,17 +2,16 @@ use Rattle.std.proofs.lemmas.Grind.{common_steps}
 use Rattle.std.proofs.Common.{refl, sym, ap, ◌∙◌, ◌-◌, subst, arith}
 use Rattle.unix_path.specs.Cursor.{cursor_rest}
 use Rattle.unix_path.specs.Views.{value_of}
-use Rattle.path_runs.specs.Rows.{value_at}
-use Rattle.path_tree.specs.Tree.{table_of}
+use Rattle.path_tree.specs.Entries.{entry_at}
+use Rattle.path_tree.specs.Tree.{entries_of}
 use Rattle.path_tree.proofs.lemmas.keys.NearestLemmas.{GoesUp, code_fits, goes_on, goes_up}
 use Rattle.path_tree.proofs.lemmas.keys.NearestLemmas.{is_nearest, none_nearer}
-use Rattle.path_keys.proofs.lemmas.reading.KeyValueLemmas.{own-of, values-of}
 use Rattle.path_tree.proofs.lemmas.keys.RestLemmas.{prefix-trimmed, stripped-trimmed}
 use Rattle.path_tree.proofs.tree.PathTree.nearest_by.Goals as goal
 
 pub loop-value-init : goal.loop-value-init
 loop-value-init g c =
-    goes_up _ _ _ _ _ c.requires.own c.requires.values refl c.components-parts.ensures.rest
+    goes_up _ _ _ _ _ c.requires refl c.components-parts.ensures.rest
     c.components-parts.ensures.values
 
 pub rest_after-requires-clause-trimmed : goal.rest_after-requires-clause-trimmed
@@ -21,21 +20,18 @@ rest_after-requires-clause-trimmed g c = grind (arith, prefix-trimmed)
 pub rest_after-requires-clause-base : goal.rest_after-requires-clause-base
 rest_after-requires-clause-base g c = grind (arith, prefix-trimmed)
 
-pub find_filtered-requires : goal.find_filtered-requires
-find_filtered-requires g c = own-of _ (cursor_rest c.loop-value.parts) c.loop-value.invariant.key_is
-
 pub returns-in-Some-clause-nearest : goal.returns-in-Some-clause-nearest
-returns-in-Some-clause-nearest g c = grind (arith, is_nearest, values-of, stripped-trimmed)
+returns-in-Some-clause-nearest g c = grind (arith, is_nearest, stripped-trimmed)
 
 pub returns-in_default-next_back-clause-none : goal.returns-in_default-next_back-clause-none
-returns-in_default-next_back-clause-none g c = grind (arith, common_steps, none_nearer, values-of)
+returns-in_default-next_back-clause-none g c = grind (arith, common_steps, none_nearer)
 
 pub overflow_sub-end : goal.overflow_sub-end
 overflow_sub-end g c =
     omega (
       arith,
       c.code_len-end.ensures,
-      code_fits c.args.path.bytes.now c.args.key.now (table_of c.args.self.now) c.loop-value.end
+      code_fits c.args.path.bytes.now c.args.key.now (entries_of c.args.self.now) c.loop-value.end
           (cursor_rest c.loop-value.parts) (cursor_rest c.next_back.new.self)
           (value_of c.in-Some-next_back.part) c.loop-value.invariant
           c.in-Some-next_back.ensures.steps.item_is,
@@ -43,14 +39,14 @@ overflow_sub-end g c =
 
 pub loop-value-preserved : goal.loop-value-preserved
 loop-value-preserved g c =
-    let rows = table_of c.args.self.now in
+    let entries = entries_of c.args.self.now in
     let prefix = cursor_rest c.loop-value.parts in
     let new = cursor_rest c.next_back.new.self in
-    subst (λ n. GoesUp c.args.path.bytes.now c.args.key.now rows (c.loop-value.end - n) new)
+    subst (λ n. GoesUp c.args.path.bytes.now c.args.key.now entries (c.loop-value.end - n) new)
     (sym c.code_len-end.ensures)
-    (goes_on c.args.path.bytes.now c.args.key.now rows c.loop-value.end prefix new _
+    (goes_on c.args.path.bytes.now c.args.key.now entries c.loop-value.end prefix new _
     c.loop-value.invariant
     (sym (c.in_default.ensures
-    ∙ ap (λ v. value_at v rows) (values-of _ prefix c.loop-value.invariant.key_is)))
+    ∙ ap (λ k. entry_at k entries) c.loop-value.invariant.key_is))
     c.in-Some-next_back.ensures.steps.item_is
     c.in-Some-next_back.ensures.steps.rest_is)

@@ -3,10 +3,10 @@ use Rattle.std.proofs.Common.{◌≡◌, ◌∙◌, None, ap, eqb, rules, true}
 use Rattle.std.specs.List.{starts_with}
 use Rattle.path_keys.specs.Held.{key_bytes}
 use Rattle.path_keys.specs.Ranges.{end_of}
-use Rattle.path_tree.specs.Rows.{key_entries}
-use Rattle.path_tree.proofs.lemmas.rows.EntryLemmas.{endless-starts, filter-key_entries}
-use Rattle.path_tree.proofs.lemmas.rows.EntryLemmas.{sorted-key_entries}
-use Rattle.path_tree.proofs.lemmas.rows.WalkLemmas.{sorted-filter}
+use Rattle.path_tree.specs.Entries.{key_entries}
+use Rattle.path_tree.proofs.lemmas.entries.EntryLemmas.{endless-starts, filter-key_entries}
+use Rattle.path_tree.proofs.lemmas.entries.EntryLemmas.{sorted-key_entries}
+use Rattle.path_tree.proofs.lemmas.entries.WalkLemmas.{sorted-filter}
 use Rattle.path_tree.proofs.tree.PathTree.under.Goals as goal
 
 pub returns-in_default-clause-entries : goal.returns-in_default-clause-entries

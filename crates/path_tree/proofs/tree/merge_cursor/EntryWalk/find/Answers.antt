@@ -3,13 +3,14 @@ use Rattle.std.proofs.Common.{◌≡◌, ◌∷◌, ◌∙◌, ap, ap₂, subst,
 use Rattle.std.specs.List.Sorted.{IsStrictlySortedBy}
 use Rattle.std.specs.Map.{keys_of}
 use Rattle.path_keys.specs.Ranges.{bytes_cmp}
-use Rattle.path_tree.specs.Rows.{Key, entries_from, key_entries}
-use Rattle.path_tree.proofs.lemmas.rows.CursorLemmas.{FindsSame, entries_from-step, equal_is}
-use Rattle.path_tree.proofs.lemmas.rows.CursorLemmas.{greater_is, greater_rest}
-use Rattle.path_tree.proofs.lemmas.rows.CursorLemmas.{less_is, same_more}
-use Rattle.path_tree.proofs.lemmas.rows.CursorLemmas.{sorted_rest_from, value_at_end, value_first}
-use Rattle.path_tree.proofs.lemmas.rows.CursorLemmas.{value_passed}
-use Rattle.path_tree.proofs.lemmas.rows.EntryLemmas.{sorted-key_entries}
+use Rattle.path_tree.specs.Entries.{entries_from, key_entries}
+use Rattle.path_tree.proofs.lemmas.entries.CursorLemmas.{FindsSame, entries_from-step, equal_is}
+use Rattle.path_tree.proofs.lemmas.entries.CursorLemmas.{greater_is, greater_rest}
+use Rattle.path_tree.proofs.lemmas.entries.CursorLemmas.{less_is, same_more}
+use Rattle.path_tree.proofs.lemmas.entries.CursorLemmas.{sorted_rest_from, value_at_end}
+use Rattle.path_tree.proofs.lemmas.entries.CursorLemmas.{value_first, value_passed}
+use Rattle.path_tree.proofs.lemmas.entries.EntryLemmas.{sorted-key_entries}
+use Rattle.path_tree.proofs.lemmas.keys.OwnLemmas.{Key}
 use Rattle.path_tree.proofs.tree.merge_cursor.EntryWalk.find.Goals as goal
 
 pub returns-then-is_gt-clause-value : goal.returns-then-is_gt-clause-value

@@ -1,6 +1,6 @@
 use Rattle.std.proofs.Common.{length}
-use Rattle.path_tree.specs.Rows.{entries_from, key_entries}
-use Rattle.path_tree.proofs.lemmas.rows.CursorLemmas.{FindsSame}
+use Rattle.path_tree.specs.Entries.{entries_from, key_entries}
+use Rattle.path_tree.proofs.lemmas.entries.CursorLemmas.{FindsSame}
 use Rattle.path_tree.proofs.tree.merge_cursor.EntryWalk.find.Given as goal
 
 abbrev pub invariant-loop-self : goal.invariant-loop-self

@@ -1,5 +1,5 @@
 use Rattle.std.proofs.Common.{arith}
-use Rattle.path_tree.proofs.lemmas.rows.CursorLemmas.{entry_at-lookup}
+use Rattle.path_tree.proofs.lemmas.entries.UpdateLemmas.{entry_at-lookup}
 use Rattle.path_tree.proofs.tree.merge_cursor.MergeCursor.find.Goals as goal
 
 pub returns-in-LookUp-clause-value : goal.returns-in-LookUp-clause-value

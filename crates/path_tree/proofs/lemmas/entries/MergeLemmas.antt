@@ -6,7 +6,7 @@ use Rattle.std.specs.List.{AllByRecursion}
 use Rattle.std.specs.List.Sorted.{IsStrictlySortedBy}
 use Rattle.std.specs.Map.{keys_of}
 use Rattle.path_keys.specs.Ranges.{bytes_cmp}
-use Rattle.path_tree.specs.Rows.{entry_at}
+use Rattle.path_tree.specs.Entries.{entry_at}
 
 -- at each of the keys, `now` and `other` have the same value, or none
 abbrev FindsAt : {W : Type 0} → List (List ℕ × W) → List (List ℕ × W) → List (List ℕ) → Type 0

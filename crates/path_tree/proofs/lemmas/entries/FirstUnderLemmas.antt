@@ -12,11 +12,11 @@ use Rattle.unix_bytes.proofs.lemmas.lists.ListLemmas.{by_test}
 use Rattle.path_keys.specs.Ranges.{bytes_cmp}
 use Rattle.path_keys.proofs.lemmas.values.BeginLemmas.{begins_told}
 use Rattle.path_keys.proofs.lemmas.values.RangeLemmas.{begins-lies_under}
-use Rattle.path_tree.specs.Rows.{Key, entries_under, key_entries}
+use Rattle.path_tree.specs.Entries.{entries_under, key_entries}
 use Rattle.path_tree.proofs.lemmas.keys.IntervalLemmas.{interval, le_less}
-use Rattle.path_tree.proofs.lemmas.keys.RowLemmas.{items_of, keys_cmp}
-use Rattle.path_tree.proofs.lemmas.rows.WalkLemmas.{kept_pass}
-use Rattle.path_tree.proofs.lemmas.rows.WalkLemmas.{sorted_rest, suffix-filter}
+use Rattle.path_tree.proofs.lemmas.keys.OwnLemmas.{Key, items_of, keys_cmp}
+use Rattle.path_tree.proofs.lemmas.entries.WalkLemmas.{kept_pass}
+use Rattle.path_tree.proofs.lemmas.entries.WalkLemmas.{sorted_rest, suffix-filter}
 
 -- the key is not less than base
 abbrev is_from : List ℕ → Key → Bool

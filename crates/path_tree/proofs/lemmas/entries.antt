@@ -1,4 +1,4 @@
--- Rows of a tree: inserted, removed, moved, sorted, and compared with another tree's.
+-- Entries of a tree: inserted, removed, moved, sorted, and compared with another tree's.
 pub mod SortedLemmas
 pub mod SortedWalkLemmas
 pub mod WalkLemmas
@@ -6,6 +6,7 @@ pub mod MovedLemmas
 pub mod PutLemmas
 pub mod ManyLemmas
 pub mod EntryLemmas
+pub mod UpdateLemmas
 pub mod FirstUnderLemmas
 pub mod DifferenceLemmas
 pub mod ChangedLemmas

@@ -8,19 +8,12 @@ use Rattle.std.proofs.lemmas.Map.Entries.{none_below_head}
 use Rattle.std.proofs.lemmas.Map.Keys.{sorted_tail}
 use Rattle.std.specs.Borrow.{Bor}
 use Rattle.std.specs.List.Sorted.{IsStrictlySortedBy}
-use Rattle.std.specs.Map.{keys_of, lookup}
+use Rattle.std.specs.Map.{keys_of}
 use Rattle.std.specs.Map.Iter.{TakesFirst, deref_pair}
 use Rattle.std.specs.Ordering.{is_eq, ordering_reverse}
 use Rattle.path_keys.specs.Ranges.{bytes_cmp}
-use Rattle.path_tree.specs.Rows.{Key, entries_from, entry_at, key_entries}
-use Rattle.path_tree.proofs.lemmas.keys.RowLemmas.{is_it, items_of, keys_cmp}
-
--- looking up the bytes `key` in the entries finds the value that the entries have at these bytes
-pub entry_at-lookup : {V : Type 0} (key : List ℕ) (es : List (Key × V))
-    → lookup (is_it items_of key) es ≡ entry_at key (key_entries es)
-entry_at-lookup key [] = refl
-entry_at-lookup key (e ∷ es) =
-    ap (cond (is_it items_of key e.0) (Some e.1)) (entry_at-lookup key es)
+use Rattle.path_tree.specs.Entries.{entries_from, entry_at}
+use Rattle.path_tree.proofs.lemmas.keys.OwnLemmas.{Key, items_of, keys_cmp}
 
 -- `now` and `old` have the same value at each key that is not less than `key`
 abbrev pub FindsSame : {V : Type 0} → List ℕ → List (List ℕ × V) → List (List ℕ × V) → Type 0
@@ -100,11 +93,6 @@ module _ {V : Type 0} (key : List ℕ) (old now : List (List ℕ × V)) (h : Fin
   -- if no entry remains, there is no value at `key`
   pub value_at_end : now ≡ [] → None ≡ entry_at key old
   value_at_end is = value_is None (ap (entry_at key) is)
-
-  -- at each key that is greater than `key`, the remaining entries have the value that all entries
-  -- have
-  pub greater_same : (q : List ℕ) → bytes_cmp key q ≡ Less → entry_at q now ≡ entry_at q old
-  greater_same q less = h q (ap is_gt less)
 
   -- if the first remaining entry has the key `key`, the entries after it have, at each key that is
   -- greater than `key`, the value that all entries have

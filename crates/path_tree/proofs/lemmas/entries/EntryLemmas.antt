@@ -1,13 +1,12 @@
 -- The entries of a tree by the bytes of their keys: all keys are keys of paths, and the keys in the
 -- range of a base are those that start with the base.
 use Rattle.std.proofs.Common.{◌≡◌, ◌∙◌, ◌&&◌, ℕ, Bool, true, List, [], ◌∷◌, Some, None}
-use Rattle.std.proofs.Common.{zero, suc, arith, length, IfSome, Less, ap, eqb, is_le, map, not}
+use Rattle.std.proofs.Common.{zero, suc, arith, IfSome, Less, ap, eqb, is_le, length, not}
 use Rattle.std.proofs.Common.{refl, subst, sym}
 use Rattle.std.proofs.lemmas.Bool.{and_from, and_parts}
+use Rattle.std.proofs.lemmas.List.{length-map}
 use Rattle.std.proofs.lemmas.List.Elements.{All-cons, All-nil}
-use Rattle.std.proofs.lemmas.Simd.{map-map}
 use Rattle.std.proofs.lemmas.Option.{slice_get_past}
-use Rattle.std.proofs.lemmas.List.{length-map, nil_from_length}
 use Rattle.std.specs.Cmp.{both_ways}
 use Rattle.std.specs.Cmp.Lexicographic.{nat_list_cmp_total}
 use Rattle.std.specs.List.{All, AllByRecursion, filter, slice_get, starts_with}
@@ -16,15 +15,20 @@ use Rattle.std.specs.Map.{keys_of}
 use Rattle.unix_bytes.proofs.lemmas.lists.ListLemmas.{by_test}
 use Rattle.path_runs.specs.Spelling.{spelling_of}
 use Rattle.path_keys.specs.Keys.{IsKey}
+use Rattle.path_keys.specs.KeyValues.{key_values}
 use Rattle.path_keys.specs.Ranges.{bytes_cmp, end_of, InRange}
+use Rattle.path_keys.proofs.lemmas.reading.KeyValueLemmas.{own-is}
 use Rattle.path_keys.proofs.lemmas.values.BeginLemmas.{begins_told}
 use Rattle.path_keys.proofs.lemmas.values.RangeLemmas.{begins-lies_under}
-use Rattle.path_keys.specs.KeyValues.{is_own, key_values}
-use Rattle.path_tree.specs.Rows.{Key, entries_under, key_entries, key_rows, rows_under}
-use Rattle.path_keys.proofs.lemmas.reading.KeyValueLemmas.{own-is}
-use Rattle.path_tree.proofs.lemmas.keys.RowLemmas.{Own, items_of, keys_cmp, own_first, own_others}
+use Rattle.path_tree.specs.Entries.{key_entries}
+use Rattle.path_tree.proofs.lemmas.keys.OwnLemmas.{Key, Own, items_of, keys_cmp}
+use Rattle.path_tree.proofs.lemmas.keys.OwnLemmas.{own_first, own_others}
 use Rattle.path_tree.proofs.lemmas.keys.UnderLemmas.{endless, less_from_not_le, less_not_le}
-use Rattle.path_tree.proofs.lemmas.rows.ManyLemmas.{starts_with-under}
+
+-- the bytes of the keys are as many as the keys
+pub length-key_entries : {V : Type 0} (es : List (Key × V))
+    → length (key_entries es) ≡ length es
+length-key_entries es = length-map es (λ e. (e.0.items, e.1))
 
 -- if k is less than all keys of es, its bytes are less than the bytes of these keys
 greater_entries : {V : Type 0} (k : Key) (es : List (Key × V))
@@ -60,11 +64,6 @@ is_key-entry {V} (x ∷ es) own zero e is =
     subst (λ (p : Key × V). IsKey p.0.items) same
     (spelling_of (key_values x.0.items), own-is x.0.items (own_first items_of x es own))
 is_key-entry (x ∷ es) own (suc i) e is = is_key-entry es (own_others items_of x es own) i e is
-
--- the components that the bytes of the keys represent, with the values, are the rows of the entries
-pub rows-key_entries : {V : Type 0} (es : List (Key × V))
-    → map (λ e. (key_values e.0, e.1)) (key_entries es) ≡ key_rows es
-rows-key_entries es = map-map _ _ es
 
 module _ {V : Type 0} (test : Key → Bool) (keep : List ℕ → Bool)
     (same : (k : Key) → test k ≡ keep k.items) where
@@ -105,33 +104,3 @@ between-starts base end key ends =
 pub endless-starts : (base : List ℕ) → end_of base ≡ None → (key : List ℕ)
     → true ≡ starts_with eqb key base
 endless-starts base none key = grind (arith, endless, begins_told)
-
-module _ {V : Type 0} (base : List ℕ) (own : is_own base ≡ true) where
-  -- the rows of the entries whose keys start with `base` are the rows under the components of
-  -- `base`
-  pub rows-entries_under : (es : List (Key × V)) → Own items_of es
-      → map (λ e. (key_values e.0, e.1)) (entries_under base (key_entries es))
-      ≡ rows_under (key_values base) (key_rows es)
-  rows-entries_under [] all = refl
-  rows-entries_under (e ∷ es) all =
-      let same = starts_with-under base e.0.items own (own_first items_of e es all) in
-      let rest = rows-entries_under es (own_others items_of e es all) in
-      by_test (starts_with eqb e.0.items base)
-      (λ starts. rw (starts, sym same ∙ starts)
-      (ap (λ rows. (key_values e.0.items, e.1) ∷ rows) rest))
-      (λ other. rw (other, sym same ∙ other) rest)
-
-  -- if no key of the entries starts with `base`, no row is under the components of `base`
-  pub rows_under-none : (es : List (Key × V)) → Own items_of es
-      → entries_under base (key_entries es) ≡ [] → rows_under (key_values base) (key_rows es) ≡ []
-  rows_under-none es all none = sym (rows-entries_under es all)
-      ∙ ap (map (λ (e : List ℕ × V). (key_values e.0, e.1))) none
-
-  -- if no row is under the components of `base`, no key of the entries starts with `base`
-  pub rows_under-some : (es : List (Key × V)) → Own items_of es
-      → rows_under (key_values base) (key_rows es) ≡ [] → entries_under base (key_entries es) ≡ []
-  rows_under-some es all none =
-      let kept = entries_under base (key_entries es) in
-      let mapped = rows-entries_under es all ∙ none in
-      nil_from_length kept
-      (sym (length-map kept (λ (e : List ℕ × V). (key_values e.0, e.1))) ∙ ap length mapped)

@@ -11,8 +11,8 @@ use Rattle.std.specs.Option.{option_map}
 use Rattle.std.proofs.lemmas.Simd.{map-map}
 use Rattle.path_keys.specs.Ranges.{bytes_cmp}
 use Rattle.path_tree.specs.Changed.{borrowed_both, entries_changed, entries_in_both}
-use Rattle.path_tree.specs.Rows.{entry_at}
-use Rattle.path_tree.proofs.lemmas.rows.WalkLemmas.{sorted-filter}
+use Rattle.path_tree.specs.Entries.{entry_at}
+use Rattle.path_tree.proofs.lemmas.entries.WalkLemmas.{sorted-filter}
 
 -- the keys of entries with two values
 abbrev pub both_keys : {V W : Type 0} → List (List ℕ × V × W) → List (List ℕ)

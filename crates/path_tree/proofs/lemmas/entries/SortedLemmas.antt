@@ -15,13 +15,15 @@ use Rattle.std.specs.Map.{keys_of, lookup}
 use Rattle.std.specs.Ordering.{is_eq, ordering_reverse}
 use Rattle.unix_bytes.proofs.lemmas.lists.ListLemmas.{by_test}
 use Rattle.path_keys.specs.Ranges.{bytes_cmp}
-use Rattle.unix_path.specs.Parts.{Value, values}
+use Rattle.unix_path.specs.Parts.{values}
 use Rattle.unix_path.specs.declared.path.Path.{Path}
-use Rattle.path_keys.specs.KeyValues.{is_own, key_values}
-use Rattle.path_tree.specs.Rows.{Key, key_entries, key_rows}
-use Rattle.path_tree.specs.Sorted.{rows_in}
-use Rattle.path_tree.proofs.lemmas.keys.RowLemmas.{Own, items_of, keys_cmp, own_first, own_others}
-use Rattle.path_tree.proofs.lemmas.rows.WalkLemmas.{all_more}
+use Rattle.path_keys.specs.Keys.{key_of}
+use Rattle.path_keys.specs.KeyValues.{is_own}
+use Rattle.path_tree.specs.Entries.{key_entries}
+use Rattle.path_tree.specs.Many.{entries_in}
+use Rattle.path_tree.proofs.lemmas.keys.OwnLemmas.{Key, Own, items_of, keys_cmp}
+use Rattle.path_tree.proofs.lemmas.keys.OwnLemmas.{own_first, own_others}
+use Rattle.path_tree.proofs.lemmas.entries.WalkLemmas.{all_more}
 
 module _ {K V : Type 0} (cmp : K → K → Ordering) (total : IsTotalOrder cmp) (k : K) (x : V) where
   -- if es is sorted, and its last key, if any, is less than k, then es with k appended is sorted
@@ -110,20 +112,19 @@ own-same {V} (e ∷ es) (f ∷ fs) same own =
     (ap (λ p. is_own p.0) first ∙ own_first items_of f fs own)
     (own-same es fs others (own_others items_of f fs own))
 
--- if the rows of some entries are those of `items`, the key of the last entry represents the
--- components of the last item's path
-pub last_row : {V : Type 0} (front : List (Key × V)) (last : Key × V) (items : List (Path × V))
-    → key_rows (front ++ last ∷ []) ≡ rows_in items
+-- if some entries are those of `items`, the last entry has the key of the last item's path
+pub last_entry : {V : Type 0} (front : List (Key × V)) (last : Key × V) (items : List (Path × V))
+    → key_entries (front ++ last ∷ []) ≡ entries_in items
     → (others : List (Path × V)) × ((item : Path × V) × ((items ≡ others ++ item ∷ [])
-    × (key_values last.0.items ≡ values item.0.bytes.now)))
-last_row [] last [] same = absurd (let e = same in cc)
-last_row {V} [] last (item ∷ []) same =
-    let first : ◌≡◌ {A = List Value × V} (key_values last.0.items, last.1)
-    (values item.0.bytes.now, item.1) = cc in
-    ([], (item, (refl, ap (λ row. row.0) first)))
-last_row [] last (item ∷ other ∷ items) same = absurd (let e = same in cc)
-last_row (e ∷ front) last [] same = absurd (let d = same in cc)
-last_row (e ∷ front) last (item ∷ items) same =
-    let others : key_rows (front ++ last ∷ []) ≡ rows_in items = cc in
-    let rest = last_row front last items others in
+    × (last.0.items ≡ key_of (values item.0.bytes.now))))
+last_entry [] last [] same = absurd (let e = same in cc)
+last_entry {V} [] last (item ∷ []) same =
+    let first : ◌≡◌ {A = List ℕ × V} (last.0.items, last.1)
+    (key_of (values item.0.bytes.now), item.1) = cc in
+    ([], (item, (refl, ap (λ e. e.0) first)))
+last_entry [] last (item ∷ other ∷ items) same = absurd (let e = same in cc)
+last_entry (e ∷ front) last [] same = absurd (let d = same in cc)
+last_entry (e ∷ front) last (item ∷ items) same =
+    let others : key_entries (front ++ last ∷ []) ≡ entries_in items = cc in
+    let rest = last_entry front last items others in
     (item ∷ rest.0, (rest.1.0, (ap (λ l. item ∷ l) rest.1.1.0, rest.1.1.1)))

@@ -5,7 +5,7 @@ use Rattle.std.proofs.Common.{append_assoc}
 use Rattle.std.proofs.lemmas.List.{map_push}
 use Rattle.std.specs.Option.{is_some}
 use Rattle.path_tree.specs.Difference.{entries_lacking}
-use Rattle.path_tree.specs.Rows.{entry_at}
+use Rattle.path_tree.specs.Entries.{entry_at}
 
 module _ {V W : Type 0} (other : List (List ℕ × W)) (e : List ℕ × V)
     (es : List (List ℕ × V)) where
