@@ -1,4 +1,4 @@
-//! Tests of `unix_path` and `path_within` that are always inlined, in one copy each for this crate.
+//! Two tests of other crates, compiled once for all calls of this crate instead of into each.
 ghost use Rattle.std.specs.Prelude.{◌≡◌, ◌↔◌, IsTrue};
 ghost use Rattle.unix_path.specs.Parts.{values};
 ghost use Rattle.unix_path.specs.Prefixes.{IsPrefixOf};

@@ -1,4 +1,4 @@
-//! A test that is always inlined, in one copy for the calls where a copy of their own gains little.
+//! A test that is compiled once for the calls that inlining it would hardly make faster.
 ghost use Rattle.std.specs.Prelude.{◌≡◌, true, IsTrue};
 ghost use Rattle.path_within.specs.NamePieces.{is_names_only};
 
