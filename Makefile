@@ -1,7 +1,7 @@
 # GNU make builds, installs and tests by these targets; `make help` lists them.
 #
 # The SHA-256 of asm/PROVED.txt, which tools/generate writes here.
-PROVED = aef3d1717e50f21064a8070b257d0687cc589f71ac1072eeb0a51a8509473777
+PROVED = d38063842114e713b52a8d6f95d54458e294f9c62b07549d3d5528e3040c8152
 PREFIX ?= /usr/local
 LIBDIR ?= $(PREFIX)/lib
 INCLUDEDIR ?= $(PREFIX)/include
