@@ -1,7 +1,7 @@
 -- Definitions for contracts of boxed, shared and borrowed-or-owned paths.
 use Rattle.std.specs.Prelude.{ℕ, List, ⊤}
-use Rattle.std.specs.Box.{boxed_slice_items}
 use Rattle.std.specs.Rc.{rc_slice_items}
+use Rattle.unix_bytes.specs.Owned.{owned_bytes}
 use Rattle.unix_path.specs.Buffers.{path_bytes}
 use Rattle.unix_path.specs.declared.kept.boxed.BoxedPath.{BoxedPath}
 use Rattle.unix_path.specs.declared.kept.rc.RcPath.{RcPath}
@@ -10,7 +10,7 @@ use Rattle.unix_path.specs.declared.kept.cow.CowPath.TheVariants.{Borrowed, Owne
 
 -- the bytes of a boxed path
 abbrev pub boxed_bytes : BoxedPath → List ℕ
-boxed_bytes path = boxed_slice_items path.bytes
+boxed_bytes path = owned_bytes path.bytes
 
 -- the bytes of a shared path
 abbrev pub rc_bytes : RcPath → List ℕ

@@ -16,7 +16,6 @@ use crate::buf::PathBuf;
 use crate::kept::CowPath;
 use crate::path::Path;
 use std::alloc::{AllocError, Global};
-use std::boxed::BoxedSlice;
 use std::cmp::Ordering;
 use std::fmt;
 use std::hash::{Hash, Hasher};
@@ -30,7 +29,7 @@ use unix_bytes::bytes::UnixString;
 /// The boxed `foo/` uses 4 bytes.
 #[derive(Drop)]
 pub struct BoxedPath {
-    bytes: BoxedSlice<u8>,
+    bytes: UnixString,
 }
 
 impl BoxedPath {
@@ -44,8 +43,7 @@ impl BoxedPath {
         ensures bytes { IfOk result (λ p. boxed_bytes p ≡ path.entry.bytes.now) }
         ensures succeeds { path.entry.bytes.now ≡ [] → IsOk result }
     {
-        let copy = path.as_unix_str().to_unix_string(alloc)?;
-        let bytes = copy.into_bytes().into_boxed_slice();
+        let bytes = path.as_unix_str().to_unix_string(alloc)?;
         Ok(BoxedPath { bytes })
     }
 
@@ -61,8 +59,9 @@ impl BoxedPath {
     {
         let mut path = path;
         path.shrink_to_fit()?;
-        let bytes = path.into_unix_string().into_bytes().into_boxed_slice();
-        Ok(BoxedPath { bytes })
+        Ok(BoxedPath {
+            bytes: path.into_unix_string(),
+        })
     }
 
     /// Copies a borrowed path, or converts an owned one and releases its spare capacity.
@@ -91,19 +90,19 @@ impl BoxedPath {
     pub fn as_path(&self) -> Path<'_>
         ensures { result.bytes.now ≡ boxed_bytes self.now }
     {
-        Path {
-            bytes: self.bytes.as_slice(),
-        }
+        Path::new(self.bytes.as_unix_str())
     }
 
     /// Returns a copy of the path, with the same allocator.
     ///
-    /// Allocates once, or not at all if the path is empty. Fails if the allocation fails.
+    /// Allocates once, and fails if the allocation fails. If the path is empty, it does not
+    /// allocate, and succeeds.
     ///
     /// A clone of `foo/` is another `foo/`.
     #[must_use]
     pub fn clone(&self) -> Result<BoxedPath, AllocError>
-        ensures { IfOk result (λ p. boxed_bytes p ≡ boxed_bytes self.now) }
+        ensures bytes { IfOk result (λ p. boxed_bytes p ≡ boxed_bytes self.now) }
+        ensures succeeds { boxed_bytes self.now ≡ [] → IsOk result }
     {
         let bytes = self.bytes.clone()?;
         Ok(BoxedPath { bytes })
@@ -119,7 +118,7 @@ impl BoxedPath {
         ensures bytes { IfOk result (λ p. path_bytes p ≡ boxed_bytes self) }
         ensures succeeds { IsOk result }
     {
-        Ok(PathBuf::from(UnixString::from(self.bytes.into_vec())))
+        Ok(PathBuf::from(self.bytes))
     }
 }
 
