@@ -21,7 +21,8 @@ pub fn resolved_is_normal()
 {}
 
 /// Resolving follows four rules: a name and the `..` after it cancel, each `.` drops out, a `..`
-/// after a leading root drops out, and what is normal stays. No other function follows them.
+/// after a leading root drops out, and what is normal stays. On the components of paths no other
+/// function follows them.
 ///
 /// Components are normal if none is `.`, no `..` follows a name or the root, and only the first may
 /// be a root. By the rules `a/./../../b` is `a/../../b`, that is `../b`, which is normal.
