@@ -1,7 +1,7 @@
 # GNU make builds, installs and tests by these targets; `make help` lists them.
 #
 # The SHA-256 of asm/PROVED.txt, which tools/generate writes here.
-PROVED = d38063842114e713b52a8d6f95d54458e294f9c62b07549d3d5528e3040c8152
+PROVED = d7abec67782e114aae308b428e6e78b6152be1f3f32560dacb6979c0fd0dd913
 PREFIX ?= /usr/local
 LIBDIR ?= $(PREFIX)/lib
 INCLUDEDIR ?= $(PREFIX)/include
