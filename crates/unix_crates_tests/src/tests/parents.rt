@@ -6,6 +6,7 @@ use super::answers::assert_each;
 use super::views::path;
 use std::alloc::{AllocError, Global};
 use unix_bytes::bytes::UnixStr;
+use unix_path::laws::walks_in_order;
 use unix_path::{Ancestors, Path};
 
 // Returns the list of the ancestors that the walk has still to yield. The contract is what a caller
@@ -14,6 +15,7 @@ fn list_ancestors(alloc: Global, walk: Ancestors<'_>) -> Result<Vec<Path<'_>>, A
     ensures { IfOk result (λ list.
         map (λ path. path.bytes.now) list.items ≡ remaining_ancestors walk.entry) }
 {
+    walks_in_order();
     walk.collect(alloc)
 }
 

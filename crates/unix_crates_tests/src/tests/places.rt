@@ -20,6 +20,15 @@ fn grandparent<'a>(path: Path<'a>) -> Option<Path<'a>>
     parent.parent()
 }
 
+// Returns the second ancestor of `path`, which begins at the address of `path`.
+fn second_ancestor<'a>(path: Path<'a>) -> Option<Path<'a>>
+    ensures { IfSome result (λ p. p.bytes.ref_ptr ≡ path.entry.bytes.ref_ptr) }
+{
+    let mut walk = path.ancestors();
+    let _itself = walk.next();
+    walk.next()
+}
+
 // Returns the rest of `path` after `base`: a slice of the memory of `path` that ends where the last
 // component of `path` ends.
 fn left_behind<'a>(path: Path<'a>, base: Path<'_>) -> Option<Path<'a>>
@@ -58,6 +67,9 @@ fn answers_lie_in_the_path(rt: HostRuntime) {
             is_path(grandparent(path("/a//b/c")), Some("/a")),
             is_path(grandparent(path("a/b")), Some("")),
             is_path(grandparent(path("/a")), None),
+            is_path(second_ancestor(path("a//b")), Some("a")),
+            is_path(second_ancestor(path("a")), Some("")),
+            is_path(second_ancestor(path("/")), None),
             is_path(left_behind(path("/a//b/"), path("/a")), Some("b")),
             is_path(left_behind(path("a/"), path("a")), Some("")),
             is_path(left_behind(path("a"), path("b")), None),

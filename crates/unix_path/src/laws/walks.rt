@@ -1,8 +1,7 @@
 //! The laws of walks.
-ghost use Rattle.std.specs.Iterator.{YieldsFirstBy};
 ghost use Rattle.std.specs.Iterator.Runs.{EveryRun, ItemsMapTo, ItemsMapToReversed};
 ghost use Rattle.unix_bytes.specs.declared.bytes.UnixStr.{UnixStr};
-ghost use Rattle.unix_path.specs.Ancestors.{remaining_ancestors};
+ghost use Rattle.unix_path.specs.Ancestors.{GivesAncestor, remaining_ancestors};
 ghost use Rattle.unix_path.specs.Cursor.{cursor_values, GivesFirstPart, GivesLastPart};
 ghost use Rattle.unix_path.specs.Cursor.{iter_bytes, name_bytes, GivesFirstName, GivesLastName};
 ghost use Rattle.unix_path.specs.Cursor.{cursor_rest, iter_cursor};
@@ -27,8 +26,7 @@ pub fn walks_in_order()
         (λ run. ItemsMapTo run name_bytes (iter_bytes run.from)) }
     ensures items_back { EveryRun {A = UnixStr} GivesLastName
         (λ run. ItemsMapToReversed run name_bytes (iter_bytes run.from)) }
-    ensures ancestors { EveryRun {A = Path}
-        (YieldsFirstBy (λ path. path.bytes.now) remaining_ancestors)
+    ensures ancestors { EveryRun {A = Path} GivesAncestor
         (λ run. ItemsMapTo run (λ path. path.bytes.now) (remaining_ancestors run.from)) }
 {}
 

@@ -1,5 +1,5 @@
 //! The parent of a path, and its ancestors.
-ghost use Rattle.std.specs.Prelude.{◌≡◌, ◌<◌, ◌≤◌, ◌^◌, length, take, option_map, IfSome};
+ghost use Rattle.std.specs.Prelude.{◌≡◌, ◌<◌, ◌≤◌, ◌^◌, length, take, option_map, IfSome, Some};
 ghost use Rattle.unix_path.specs.Parents.{parent_of, ancestors_of};
 ghost use Rattle.unix_path.specs.Slices.{LiesIn, memory_offset};
 
@@ -7,7 +7,7 @@ use crate::cursor::{Ancestors, Component, Components};
 use crate::path::Path;
 
 impl<'a> Path<'a> {
-    ghost use Rattle.unix_path.specs.Ancestors.{remaining_ancestors};
+    ghost use Rattle.unix_path.specs.Ancestors.{coming_ancestor, remaining_ancestors};
 
     /// Returns the path without its last component, or `None` if the path is empty or its last
     /// component is the root.
@@ -57,6 +57,7 @@ impl<'a> Path<'a> {
     pub fn ancestors(&self) -> Ancestors<'a>
         ensures pending { remaining_ancestors result ≡ ancestors_of self.now.bytes.now }
         ensures len { length (remaining_ancestors result) < 2 ^ 64 }
+        ensures first { coming_ancestor result ≡ Some self.now }
     {
         Ancestors::new(*self)
     }

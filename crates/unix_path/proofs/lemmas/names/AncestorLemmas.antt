@@ -1,13 +1,15 @@
 -- The ancestors of a path, which are the path and then its parent's ancestors, and how many there
 -- are.
 use Rattle.std.proofs.Common.{◌≡◌, ℕ, zero, suc, ◌+◌, ◌-◌, ◌≤◌, List, [], ◌∷◌, ◌++◌, length, map}
-use Rattle.std.proofs.Common.{Option, Some, None, option_map, refl, sym, ap, ◌∙◌, arith}
+use Rattle.std.proofs.Common.{Option, Some, None, option_map, IfSome}
+use Rattle.std.proofs.Common.{refl, sym, ap, ap₂, ◌∙◌, arith}
 use Rattle.std.specs.List.{range_with_len}
 use Rattle.std.specs.Option.{option_map_or}
 use Rattle.std.proofs.lemmas.List.FromFn.{length-map-range_with_len}
 use Rattle.unix_path.specs.Parts.{Value, RootDir, CurDir, ParentDir, Normal, values}
 use Rattle.unix_path.specs.Rest.{rest}
 use Rattle.unix_path.specs.Parents.{parent_of, depth_of, ancestors_of}
+use Rattle.unix_path.specs.Slices.{LiesIn, memory_offset}
 use Rattle.unix_path.specs.declared.path.Path.{Path}
 use Rattle.unix_path.proofs.lemmas.rests.RestLemmas.{length-values, values-rest, rest-rest}
 use Rattle.unix_path.proofs.lemmas.rests.MiddleLemmas.{middle, middle-push}
@@ -91,3 +93,11 @@ pub remaining_ancestors-step : (o : Option Path) (path : Path) (parent : Option 
     → o ≡ Some path → option_map (λ path. path.bytes.now) parent ≡ parent_of path.bytes.now
     → ancestors_from o ≡ path.bytes.now ∷ ancestors_from parent
 remaining_ancestors-step o path parent is e = grind (arith, ancestors_of-parent)
+
+-- if `parent` lies in `path` and begins where `path` does, both have the same address
+pub begins_at : (parent : Option Path) (path : Path)
+    → IfSome parent (λ p. LiesIn p.bytes path.bytes)
+    → IfSome parent (λ p. memory_offset p.bytes ≡ memory_offset path.bytes)
+    → IfSome parent (λ p. p.bytes.ref_ptr ≡ path.bytes.ref_ptr)
+begins_at None path inside start = tt
+begins_at (Some p) path inside start = ap₂ (λ block index. (block, index)) inside.block start

@@ -1,7 +1,6 @@
 use Rattle.std.proofs.Common.{length, ap}
 use Rattle.std.proofs.iter.runs.Sources.{from_front, from_back}
-use Rattle.std.specs.Iterator.{YieldsFirstBy}
-use Rattle.unix_path.specs.Ancestors.{remaining_ancestors}
+use Rattle.unix_path.specs.Ancestors.{GivesAncestor, remaining_ancestors}
 use Rattle.unix_path.specs.Cursor.{cursor_values, iter_bytes, GivesFirstPart, GivesLastPart}
 use Rattle.unix_path.specs.Cursor.{name_bytes, GivesFirstName, GivesLastName}
 use Rattle.unix_path.specs.Views.{value_of}
@@ -26,5 +25,5 @@ returns-clause-items_back c = from_back GivesLastName name_bytes iter_bytes
 
 pub returns-clause-ancestors : goal.returns-clause-ancestors
 returns-clause-ancestors c =
-    from_front {A = Path} (YieldsFirstBy (λ path. path.bytes.now) remaining_ancestors)
-    (λ path. path.bytes.now) remaining_ancestors (λ s t h. ap length h.0) (λ s x t h. h)
+    from_front {A = Path} GivesAncestor (λ path. path.bytes.now) remaining_ancestors
+    (λ s t h. ap length h.item_is.0) (λ s x t h. h.item_is)
