@@ -1,7 +1,7 @@
 # GNU make builds, installs and tests by these targets; `make help` lists them.
 #
 # The SHA-256 of asm/PROVED.txt, which tools/generate writes here.
-PROVED = d7abec67782e114aae308b428e6e78b6152be1f3f32560dacb6979c0fd0dd913
+PROVED = b172f9c5fc3d4166749f553ac6ac24b88735413b46b5244136b15c4bf247f627
 PREFIX ?= /usr/local
 LIBDIR ?= $(PREFIX)/lib
 INCLUDEDIR ?= $(PREFIX)/include
