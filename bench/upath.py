@@ -20,7 +20,7 @@ import tempfile
 UPATH = os.path.abspath(os.environ.get("UNIX_PATH_UPATH")
                         or f"{os.path.dirname(os.path.abspath(__file__))}/../build/upath")
 # The fewest and the most runs of each side.
-FEWEST, TRIES = 3, 12
+FEWEST, TRIES = 3, 60
 NAMES = 200_000
 # In the C locale sed and sort compare bytes, and are fastest.
 C_LOCALE = {**os.environ, "LC_ALL": "C"}
