@@ -53,7 +53,7 @@ help:
 	@echo 'make upath         builds upath and prints its path. Proves it first'
 	@echo 'make check         proves every crate, in about 20 minutes; later only what changed'
 	@echo 'make test          the full test suite: every proof, test, mutant and vector, from scratch;'
-	@echo '                   about 64 minutes'
+	@echo '                   64 to 84 minutes, by the machine'
 	@echo 'make bench         times the calls of asm/ and pathtool, compared with Rust. Proves and'
 	@echo '                   builds pathtool first; needs cargo. For example'
 	@echo '                   make bench only=components,equal reps=15'
